@@ -1,0 +1,2 @@
+pub mod LawsChoice
+pub mod LawsBytes
