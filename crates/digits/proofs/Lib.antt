@@ -1,0 +1,2 @@
+pub mod LawsDigits
+pub mod Determined
