@@ -1,0 +1,3 @@
+pub mod LawsWriting
+pub mod LawsLines
+pub mod Examples

@@ -1,0 +1,9 @@
+pub mod Instructions
+pub mod Book
+pub mod CommandLines
+pub mod EventLines
+pub mod Working
+pub mod Refusals
+pub mod Step
+pub mod Day
+pub mod Examples

@@ -1,0 +1,73 @@
+// The things that 01 names, as data. What 01 says of them stands in specs/, a file for each of its chapters; every layer
+// above is proved against those definitions.
+use kinds::Cents;
+use kinds::Number;
+use kinds::Shares;
+
+// A resting order: the command number that entered it, its price, the shares left, displayed or not.
+pub struct Resting {
+    pub number: Number,
+    pub price: Cents,
+    pub shares: Shares,
+    pub displayed: bool,
+}
+
+// The body of an order: 0 buys and 1 sells; the price is 0 for a market order.
+pub struct Order {
+    pub side: u8,
+    pub word: u16,
+    pub price: Cents,
+    pub shares: Shares,
+}
+
+// The best away bid and offer, 0 for none.
+pub struct Away {
+    pub bid: Cents,
+    pub offer: Cents,
+}
+
+pub enum Body {
+    Order(Order),
+    Cancel(Number),
+    Quote(Away),
+    Close,
+}
+
+// A command; its time is in milliseconds after midnight Eastern.
+pub struct Command {
+    pub number: Number,
+    pub time: u32,
+    pub body: Body,
+}
+
+// What reading a line finds: a command, or that the line is not one of the four forms.
+pub enum Reading {
+    Is(Command),
+    Bad,
+}
+
+// What reading the digits after the header finds.
+pub enum BodyReading {
+    Is(Body),
+    Bad,
+}
+
+// What an event line says. The number of a rested or cancelled order is its own, never the cancelling command's.
+pub enum Event {
+    Executed {
+        incoming: Number,
+        resting: Number,
+        price: Cents,
+        shares: Shares,
+    },
+    Rested {
+        number: Number,
+        price: Cents,
+        shares: Shares,
+    },
+    Cancelled {
+        number: Number,
+        shares: Shares,
+        reason: u8,
+    },
+}
