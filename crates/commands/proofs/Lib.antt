@@ -1,0 +1,2 @@
+pub mod LawsReading
+pub mod Determined

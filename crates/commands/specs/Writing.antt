@@ -1,0 +1,19 @@
+-- What the command writer answers and leaves (01, What the machine says back): refusal 1, "for the command writer, room
+-- below the line's length"; else "0 and its line's length, and bytes past the line stay".
+use Prim.Native.Nat.{ℕ}
+use mathlib.Core.List.{List}
+use lib.Dec.{ltb}
+use lib.ListN.{length}
+use Rattle.basics.specs.Bytes.{onto}
+use Rattle.basics.specs.Choice.{if_then_else_}
+use Rattle.rules.specs.CommandLines.{lineOf}
+use Rattle.rules.specs.declared.Command.{Command}
+use Rattle.commands.specs.declared.Written.{Written}
+
+unfoldable pub answerOf : Command → ℕ → Written
+answerOf c room =
+    if ltb room (length (lineOf c)) then record { code = 1; length = 0 }
+    else record { code = 0; length = length (lineOf c) }
+
+unfoldable pub bufferOf : Command → List ℕ → List ℕ
+bufferOf c out = if ltb (length out) (length (lineOf c)) then out else onto (lineOf c) out
