@@ -1,0 +1,61 @@
+// The writers of event lines 11, 12 and 13 (01, What the machine says back). Each gets the rest of the output, from its
+// first free byte, as a mutable subslice, writes its line to the front of it and tells the line's length. That there is
+// room for the line is the caller's to show: whoever accepts a command has tested the room for all of its lines.
+use kinds::Cents;
+use kinds::Number;
+use kinds::Shares;
+ghost use mathlib.Core.Path.{_≡_};
+ghost use Prim.Native.Nat.{_≤_};
+ghost use lib.ListN.{length};
+ghost use Rattle.basics.specs.Bytes.{onto};
+ghost use Rattle.rules.specs.EventLines.{eventLine};
+ghost use Rattle.rules.specs.declared.Event.the-variants.{Executed, Rested, Cancelled};
+
+// Line 11: shares of a resting order are executed against the incoming one.
+pub fn write_executed(
+    out: &mut [u8],
+    incoming: Number,
+    resting: Number,
+    price: Cents,
+    shares: Shares,
+) -> usize
+    requires { ⌜ 35 ≤ length (now out) ⌝ }
+    ensures { λ r. ⌜ r ≡ 35 ⌝ }
+    ensures { λ _. ⌜ now (out .exit) ≡ onto (eventLine (Executed incoming resting price shares)) (now (out .entry)) ⌝ }
+{
+    digits::write_one(out, 0, 0x11);
+    digits::write_four(out, 2, incoming.0);
+    digits::write_four(out, 10, resting.0);
+    digits::write_four(out, 18, price.0);
+    digits::write_four(out, 26, shares.0);
+    out[34] = 10;
+    35
+}
+
+// Line 12: an order rests.
+pub fn write_rested(out: &mut [u8], number: Number, price: Cents, shares: Shares) -> usize
+    requires { ⌜ 27 ≤ length (now out) ⌝ }
+    ensures { λ r. ⌜ r ≡ 27 ⌝ }
+    ensures { λ _. ⌜ now (out .exit) ≡ onto (eventLine (Rested number price shares)) (now (out .entry)) ⌝ }
+{
+    digits::write_one(out, 0, 0x12);
+    digits::write_four(out, 2, number.0);
+    digits::write_four(out, 10, price.0);
+    digits::write_four(out, 18, shares.0);
+    out[26] = 10;
+    27
+}
+
+// Line 13: shares of an order are cancelled.
+pub fn write_cancelled(out: &mut [u8], number: Number, shares: Shares, reason: u8) -> usize
+    requires { ⌜ 21 ≤ length (now out) ⌝ }
+    ensures { λ r. ⌜ r ≡ 21 ⌝ }
+    ensures { λ _. ⌜ now (out .exit) ≡ onto (eventLine (Cancelled number shares reason)) (now (out .entry)) ⌝ }
+{
+    digits::write_one(out, 0, 0x13);
+    digits::write_four(out, 2, number.0);
+    digits::write_four(out, 10, shares.0);
+    digits::write_one(out, 18, reason);
+    out[20] = 10;
+    21
+}
