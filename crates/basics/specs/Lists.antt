@@ -1,4 +1,4 @@
--- Tests and sums over a list.
+-- Tests, claims and sums over a list.
 use Prim.Native.Nat.{ℕ, _+_}
 use mathlib.Core.Bool.{Bool, true, false, not, _&&_, _||_}
 use mathlib.Core.List.{List, [], _∷_}
@@ -19,6 +19,12 @@ unfoldable pub distinct : List ℕ → Bool
 distinct [] = true
 distinct (n ∷ s) = not (any (eqb n) s) && distinct s
 
+-- the sum of the numbers
 unfoldable pub total : List ℕ → ℕ
 total [] = 0
 total (n ∷ s) = n + total s
+
+-- the claim holds of each element
+pub data All {A : Type 0} (Claim : A → Type 0) : List A → Type 0 where
+  none : All Claim []
+  also : {x : A} {s : List A} → Claim x → All Claim s → All Claim (x ∷ s)

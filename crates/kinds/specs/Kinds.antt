@@ -15,7 +15,7 @@ shares n = record { 0 = n }
 abbrev pub number : ℕ → Number
 number n = record { 0 = n }
 
--- "The minimum price variation, one cent, belongs to the price kind itself."
+-- "The minimum price variation, one cent (Regulation NMS Rule 612, at or above $1.00), belongs to the price kind itself."
 abbrev pub variation : ℕ
 variation = 1
 

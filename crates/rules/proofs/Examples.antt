@@ -1,27 +1,25 @@
 -- P1 to P12 hold: one test that the checker computes over the whole table, and one law that turns it into the claim at each
 -- entry. Assumes nothing.
-use Prim.Native.Nat.{ℕ, zero, suc, _<_}
 use mathlib.Core.Bool.{Bool, true, false, _&&_, Bool·beq}
 use mathlib.Core.List.{List, [], _∷_}
 use mathlib.Core.Path.{_≡_, refl}
 use lib.Dec.{eqb}
-use lib.ListN.{length, getD, take}
-use native.Mathlib.Omega.{arith}
+use lib.ListN.{take}
 use borrow.Author.Tests.{eqb-true}
 use lib.Count.{ones, onesIn}
 use Rattle.basics.specs.Bytes.{onto}
-use Rattle.basics.specs.Lists.{every, any, distinct, total}
+use Rattle.basics.specs.Lists.{every, any, distinct, total, All, none, also}
 use Rattle.basics.proofs.LawsChoice.{and-left, and-right}
 use Rattle.rules.specs.declared.Resting.{Resting}
 use Rattle.digits.specs.Digits.{digits, numberIn, allDigits, numberAfter, nibbleOf}
-use Rattle.rules.specs.Book.{sound, lentSound, held, lent, placesOf, inRankOrder, ranksBefore, apart}
+use Rattle.rules.specs.Book.{sound, recordSound, bookIn, recordOf, placesOf, inRankOrder, ranksBefore, apart}
 use Rattle.rules.specs.CommandLines.{commandIn, bodyIn, orderIn, cancelIn, quoteIn, closeIn, numbersFrom, lineOf, written}
 use Rattle.rules.specs.EventLines.{eventLines, eventLine}
-use Rattle.rules.specs.Examples.{Example, examples, linesFrom, lastAnswer, answerTo, Holds}
+use Rattle.rules.specs.Examples.{Example, examples, linesFrom, lastReturned, returnedFor, Holds, DeskExamples}
 use Rattle.rules.specs.Instructions.{lawful}
-use Rattle.rules.specs.Refusals.{refusals, lineRefusals, headerRefusals, bodyRefusals, wouldRest, firstOf}
-use Rattle.rules.specs.Step.{step, doneBy}
-use Rattle.rules.specs.Working.{does, accept, cancel, quote, close, executions, after, takings, remainder, ending, seeks, walk, nothing, insert, kept, cancels}
+use Rattle.rules.specs.Refusals.{refusals, lineRefusals, headerRefusals, bodyRefusals, restsOnFullSide, firstOf}
+use Rattle.rules.specs.Step.{step, answer, doneBy}
+use Rattle.rules.specs.Working.{does, accept, cancel, quote, close, executions, after, walked, takings, remainder, ending, seeks, walk, nothing, insert, kept, cancels}
 
 -- two lists are the same, element by element
 same : {A : Type 0} → (A → A → Bool) → List A → List A → Bool
@@ -69,21 +67,21 @@ sameOrder-equal x y h =
 -- ── The test, and the law that turns it into the claim ──
 
 saysRight : Example → Bool
-saysRight e = same eqb (take (answerTo e .length) (answerTo e .out)) (eventLines (e .says))
+saysRight e = same eqb (take (returnedFor e .length) (returnedFor e .out)) (eventLines (e .says))
 
 leavesBuys : Example → Bool
-leavesBuys e = same sameOrder (held (answerTo e .book) .buys) (e .buys)
+leavesBuys e = same sameOrder (bookIn (returnedFor e .book) .buys) (e .buys)
 
 leavesSells : Example → Bool
-leavesSells e = same sameOrder (held (answerTo e .book) .sells) (e .sells)
+leavesSells e = same sameOrder (bookIn (returnedFor e .book) .sells) (e .sells)
 
 passes : Example → Bool
-passes e = eqb (answerTo e .code) 0 && (saysRight e && (leavesBuys e && leavesSells e))
+passes e = eqb (returnedFor e .refusal) 0 && (saysRight e && (leavesBuys e && leavesSells e))
 
 passes-holds : (e : Example) → passes e ≡ true → Holds e
 unfolding passes saysRight leavesBuys leavesSells
 passes-holds e h =
-    let c = eqb (answerTo e .code) 0 in
+    let c = eqb (returnedFor e .refusal) 0 in
     let hs = and-right c (saysRight e && (leavesBuys e && leavesSells e)) h in
     let hb = and-right (saysRight e) (leavesBuys e && leavesSells e) hs in
     record {
@@ -93,15 +91,15 @@ passes-holds e h =
       sells = same-equal sameOrder sameOrder-equal _ _ (and-right (leavesBuys e) (leavesSells e) hb);
     }
 
-every-at : {A : Type 0} (test : A → Bool) (d : A) (s : List A) → every test s ≡ true → (i : ℕ) → i < length s → test (getD s i d) ≡ true
+-- a test that every element passes gives what it shows of each
+all-of : {A : Type 0} {Claim : A → Type 0} (test : A → Bool) → ((x : A) → test x ≡ true → Claim x) → (s : List A) → every test s ≡ true → All Claim s
 unfolding every
-every-at test d [] h i l = let z : ⊥ = omega arith in absurd z
-every-at test d (x ∷ s) h zero l = and-left (test x) (every test s) h
-every-at test d (x ∷ s) h (suc i) l = every-at test d s (and-right (test x) (every test s) h) i (omega arith)
+all-of test f [] h = none
+all-of test f (x ∷ s) h = also (f x (and-left (test x) (every test s) h)) (all-of test f s (and-right (test x) (every test s) h))
 
 all-pass : every passes examples ≡ true
-unfolding every passes saysRight leavesBuys leavesSells same sameOrder examples answerTo lastAnswer linesFrom step doneBy does accept cancel quote close executions after takings remainder ending seeks walk nothing insert kept cancels total any distinct sound lentSound held lent placesOf inRankOrder ranksBefore apart lawful refusals lineRefusals headerRefusals bodyRefusals wouldRest firstOf commandIn bodyIn orderIn cancelIn quoteIn closeIn numbersFrom lineOf written eventLines eventLine digits numberIn allDigits numberAfter nibbleOf onto ones onesIn
+unfolding every passes saysRight leavesBuys leavesSells same sameOrder examples returnedFor lastReturned linesFrom step answer doneBy does accept cancel quote close executions after walked takings remainder ending seeks walk nothing insert kept cancels total any distinct sound recordSound bookIn recordOf placesOf inRankOrder ranksBefore apart lawful refusals lineRefusals headerRefusals bodyRefusals restsOnFullSide firstOf commandIn bodyIn orderIn cancelIn quoteIn closeIn numbersFrom lineOf written eventLines eventLine digits numberIn allDigits numberAfter nibbleOf onto ones onesIn
 all-pass = refl
 
-pub desk-examples : (d : Example) (i : ℕ) → i < length examples → Holds (getD examples i d)
-desk-examples d i l = passes-holds (getD examples i d) (every-at passes d examples all-pass i l)
+pub desk-examples : DeskExamples
+desk-examples = all-of passes passes-holds examples all-pass

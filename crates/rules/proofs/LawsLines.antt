@@ -1,13 +1,13 @@
 -- A command and its line: reading what was written gives the command back, and every line that reads as a command is the
 -- line that is written for it. So each command has one line, and each well-formed line is one command. Assumes nothing.
 use Prim.Native.Nat.{ℕ, _+_, _*_, _^_, _≤_, _<_}
-use mathlib.Core.Bool.{Bool, true, false, _&&_}
+use mathlib.Core.Bool.{true, false}
 use mathlib.Core.List.{List, [], _∷_, _++_, append-assoc}
 use mathlib.Core.Logic.{⊎-elim}
 use mathlib.Core.Path.{_≡_, refl, sym, ap, _∙_}
 use lib.Dec.{eqb}
 use lib.ListN.{length, getD, take, drop, length-append, take-append-drop, drop-of-length-le}
-use lib.Seq.{take-at, drop-at, drop-append-seam, getD-at, take-add, drop-drop, drop-cons}
+use lib.Seq.{take-at, drop-at, getD-at, take-add, drop-drop, drop-cons}
 use native.Mathlib.Numerals.{add-one}
 use native.Mathlib.Omega.{arith}
 use borrow.Author.Tests.{eq-eqb, eqb-true}
@@ -22,10 +22,9 @@ use Rattle.rules.specs.declared.Body.the-variants.{Order, Cancel, Quote,
 use Rattle.rules.specs.declared.BodyReading.{BodyReading}
 use Rattle.rules.specs.declared.BodyReading.the-variants as body
 use Rattle.rules.specs.declared.Command.{Command}
-use Rattle.rules.specs.declared.Reading.{Reading}
 use Rattle.rules.specs.declared.Reading.the-variants as reading
-use Rattle.rules.specs.CommandLines.{Fitting, empty, fits, Fits, Numbers, are, none, also, numbersFrom, made, isEnded, bodyOfForm, orderIn, cancelIn, quoteIn, closeIn, bodyIn, afterHeader, withBody, commandIn, headerForm, orderForm, cancelForm, quoteForm, closeForm, orderOf, cancelOf, quoteOf, closeOf, digitsIn, written, lineFeed, line, kindOf, formOf, numbersOf, lineOf}
-use Rattle.rules.proofs.LawsWriting.{Paired, pair, length-written, header-paired, body-paired}
+use Rattle.rules.specs.CommandLines.{Fitting, empty, fits, Fits, Numbers, are, none, also, numberAt, numbersFrom, made, isEnded, bodyOfForm, orderIn, cancelIn, quoteIn, closeIn, bodyIn, afterHeader, withBody, commandIn, headerForm, orderForm, cancelForm, quoteForm, closeForm, orderOf, cancelOf, quoteOf, closeOf, digitsIn, written, lineFeed, line, kindOf, formOf, numbersOf, lineOf}
+use Rattle.rules.proofs.LawsWriting.{Paired, pair, length-written, header-paired}
 use Rattle.rules.proofs.LawsWriting as writing
 
 fitting-paired : {ws ns : List ℕ} → Fitting ws ns → Paired ws ns
@@ -68,7 +67,7 @@ also-are value.Bad rest ns h = absurd (never h)
     never : none ≡ are ns → ⊥
     never z = let y : _≡_ {A = ℕ} 0 1 = cc in omega arith
 
-reads-more : (w n : ℕ) (ws ns : List ℕ) (at : ℕ) (s : List ℕ) → numberIn w (take (2 * w) (drop at s)) ≡ value.Is n
+reads-more : (w n : ℕ) (ws ns : List ℕ) (at : ℕ) (s : List ℕ) → numberAt w at s ≡ value.Is n
     → Reads ws ns (at + 2 * w) s → Reads (w ∷ ws) (n ∷ ns) at s
 unfolding written
 reads-more w n ws ns at s v r =
@@ -83,7 +82,7 @@ numbersFrom-reads [] ns at s h =
     let e : ns ≡ [] = cc in
     rw e (record { digits-are = refl; fitting = empty })
 numbersFrom-reads (w ∷ ws) ns at s h =
-    let o = also-are (numberIn w (take (2 * w) (drop at s))) (numbersFrom (at + 2 * w) ws s) ns h in
+    let o = also-are (numberAt w at s) (numbersFrom (at + 2 * w) ws s) ns h in
     rw (o .4) (reads-more w (o .0) ws (o .1) at s (o .2) (numbersFrom-reads ws (o .1) (at + 2 * w) s (o .3)))
 
 -- ── Bodies ──
@@ -275,3 +274,9 @@ commandIn-is s c h = from (afterHeader-is (numbersFrom 0 headerForm s) (drop 18 
         → IsLine s c
     from o = body-from (o .0) (numbersFrom-reads headerForm (o .0) 0 s (o .1))
         (withBody-is (getD (o .0) 1 0) (getD (o .0) 2 0) (bodyIn (getD (o .0) 0 0) (drop 18 s)) c (o .2))
+
+-- ── 01's table of the four forms, its last column: the digits of the whole line ──
+
+pub forms-digits : (digitsIn headerForm + digitsIn orderForm ≡ 40) × (digitsIn headerForm + digitsIn cancelForm ≡ 26)
+    × (digitsIn headerForm + digitsIn quoteForm ≡ 34) × (digitsIn headerForm + digitsIn closeForm ≡ 18)
+forms-digits = (refl, refl, refl, refl)

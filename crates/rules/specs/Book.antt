@@ -13,8 +13,8 @@ use Rattle.rules.specs.declared.Away.{Away}
 use Rattle.rules.specs.declared.Resting.{Resting}
 
 -- "Up to 64 resting orders a side."
-abbrev pub limit : ℕ
-limit = 64
+abbrev pub placesASide : ℕ
+placesASide = 64
 
 -- the session, in milliseconds after midnight Eastern: from 9:30 to 16:00
 abbrev pub opening : ℕ
@@ -46,22 +46,22 @@ fresh = record {
 
 -- ── Rank ──
 
--- "better price first (higher buy, lower sell)"
+-- "better price first (higher buy, lower sell)"; `buy` says which side it is
 abbrev pub better : Bool → Cents → Cents → Bool
-better buying p q = if buying then ltb (q .0) (p .0) else ltb (p .0) (q .0)
+better buy p q = if buy then ltb (q .0) (p .0) else ltb (p .0) (q .0)
 
 -- "at one price displayed before non-displayed; then lower number"
 unfoldable pub ranksBefore : Bool → Resting → Resting → Bool
-ranksBefore buying x y =
-    if not (eqb (x .price .0) (y .price .0)) then better buying (x .price) (y .price)
+ranksBefore buy x y =
+    if not (eqb (x .price .0) (y .price .0)) then better buy (x .price) (y .price)
     else if not (Bool·beq (x .displayed) (y .displayed)) then x .displayed
     else ltb (x .number .0) (y .number .0)
 
 -- "in strict rank order"
 unfoldable pub inRankOrder : Bool → List Resting → Bool
-inRankOrder buying [] = true
-inRankOrder buying (x ∷ []) = true
-inRankOrder buying (x ∷ (y ∷ s)) = ranksBefore buying x y && inRankOrder buying (y ∷ s)
+inRankOrder buy [] = true
+inRankOrder buy (x ∷ []) = true
+inRankOrder buy (x ∷ (y ∷ s)) = ranksBefore buy x y && inRankOrder buy (y ∷ s)
 
 -- ── Sound ──
 
@@ -80,13 +80,13 @@ apart (b ∷ buys) [] = true
 apart (b ∷ buys) (s ∷ sells) = ltb (b .price .0) (s .price .0)
 
 -- "Sound: counts at most 64; used places in strict rank order; fields in range; numbers from 1 to the last number, none
--- twice over both sides; best buy below best sell; time 34,200,000 to 57,600,000; away prices 0 or 100 to 200,000; a
--- closed book holds no orders."
+-- twice over both sides; .. best buy below best sell; time 34,200,000 to 57,600,000; away prices 0 or 100 to 200,000; a
+-- closed book holds no orders." (The clause left out, on unused places, is `placesSound` below.)
 unfoldable pub sound : Book → Bool
 sound b =
     let orders = b .buys ++ b .sells in
-    leb (length (b .buys)) limit
-    && leb (length (b .sells)) limit
+    leb (length (b .buys)) placesASide
+    && leb (length (b .sells)) placesASide
     && inRankOrder true (b .buys)
     && inRankOrder false (b .sells)
     && every (restingInRange (b .last)) orders
@@ -105,7 +105,7 @@ pub record Places : Type 0 where
   pub used : ℕ
   pub places : List Resting
 
-pub record Lent : Type 0 where
+pub record BookRecord : Type 0 where
   pub last : Number
   pub time : ℕ
   pub away : Away
@@ -125,11 +125,11 @@ abbrev pub ordersIn : Places → List Resting
 ordersIn p = take (p .used) (p .places)
 
 unfoldable pub placesOf : List Resting → Places
-placesOf s = record { used = length s; places = s ++ replicate (limit - length s) unused }
+placesOf s = record { used = length s; places = s ++ replicate (placesASide - length s) unused }
 
 -- the book that a record holds, and the record that holds a book
-unfoldable pub held : Lent → Book
-held r = record {
+unfoldable pub bookIn : BookRecord → Book
+bookIn r = record {
   last = r .last;
   time = r .time;
   away = r .away;
@@ -138,8 +138,8 @@ held r = record {
   sells = ordersIn (r .sells);
 }
 
-unfoldable pub lent : Book → Lent
-lent b = record {
+unfoldable pub recordOf : Book → BookRecord
+recordOf b = record {
   last = b .last;
   time = b .time;
   away = b .away;
@@ -148,9 +148,9 @@ lent b = record {
   sells = placesOf (b .sells);
 }
 
--- "counts at most 64 .. unused places all zero"
+-- "counts at most 64; .. unused places all zero"
 abbrev pub placesSound : Places → Bool
-placesSound p = leb (p .used) limit && eqb (length (p .places)) limit && every isUnused (drop (p .used) (p .places))
+placesSound p = leb (p .used) placesASide && eqb (length (p .places)) placesASide && every isUnused (drop (p .used) (p .places))
 
-unfoldable pub lentSound : Lent → Bool
-lentSound r = placesSound (r .buys) && placesSound (r .sells) && sound (held r)
+unfoldable pub recordSound : BookRecord → Bool
+recordSound r = placesSound (r .buys) && placesSound (r .sells) && sound (bookIn r)

@@ -18,7 +18,19 @@ use Rattle.rules.specs.declared.Command.{Command}
 use Rattle.rules.specs.declared.Reading.{Reading}
 use Rattle.rules.specs.declared.Reading.the-variants as reading
 
--- ── The forms ──
+-- ── The four forms ──
+
+abbrev pub orderKind : ℕ
+orderKind = 1
+
+abbrev pub cancelKind : ℕ
+cancelKind = 2
+
+abbrev pub quoteKind : ℕ
+quoteKind = 3
+
+abbrev pub closeKind : ℕ
+closeKind = 4
 
 -- "Header: kind (1 byte), number (4), time (4)."
 abbrev pub headerForm : List ℕ
@@ -60,10 +72,10 @@ abbrev pub line : List ℕ → List ℕ → List ℕ
 line form ns = written form ns ++ (lineFeed ∷ [])
 
 abbrev pub kindOf : Body → ℕ
-kindOf (Order o) = 1
-kindOf (Cancel n) = 2
-kindOf (Quote a) = 3
-kindOf Close = 4
+kindOf (Order o) = orderKind
+kindOf (Cancel n) = cancelKind
+kindOf (Quote a) = quoteKind
+kindOf Close = closeKind
 
 abbrev pub formOf : Body → List ℕ
 formOf (Order o) = orderForm
@@ -83,8 +95,8 @@ lineOf c =
     written headerForm (kindOf (c .body) ∷ c .number .0 ∷ c .time ∷ [])
     ++ line (formOf (c .body)) (numbersOf (c .body))
 
--- the numbers of a form, each of which its width holds. Every command of the machine is so: its fields have 8, 16 and 32
--- bits.
+-- the numbers of a form, each of which its width holds. Every command that the machine holds is so, since its fields have
+-- 8, 16 and 32 bits: this is no test, but what the promises on reading and writing rest on.
 pub data Fitting : List ℕ → List ℕ → Type 0 where
   empty : Fitting [] []
   fits : {ws ns : List ℕ} (w n : ℕ) → n < 16 ^ (2 * w) → Fitting ws ns → Fitting (w ∷ ws) (n ∷ ns)
@@ -105,10 +117,13 @@ also (value.Is n) (are ns) = are (n ∷ ns)
 also (value.Is n) none = none
 also value.Bad ns = none
 
--- the numbers of a form that stand in s from digit `at` on
+-- the number of w bytes, and the numbers of a form, that stand in s from digit `at` on
+abbrev pub numberAt : ℕ → ℕ → List ℕ → Value
+numberAt w at s = numberIn w (take (2 * w) (drop at s))
+
 unfoldable pub numbersFrom : ℕ → List ℕ → List ℕ → Numbers
 numbersFrom at [] s = are []
-numbersFrom at (w ∷ ws) s = also (numberIn w (take (2 * w) (drop at s))) (numbersFrom (at + 2 * w) ws s)
+numbersFrom at (w ∷ ws) s = also (numberAt w at s) (numbersFrom (at + 2 * w) ws s)
 
 abbrev pub made : (List ℕ → Body) → Numbers → BodyReading
 made make (are ns) = body.Is (make ns)
@@ -150,10 +165,10 @@ closeIn s = bodyOfForm closeForm closeOf s
 -- the body that the digits after the header are, by kind
 unfoldable pub bodyIn : ℕ → List ℕ → BodyReading
 bodyIn kind s =
-    if eqb kind 1 then orderIn s
-    else if eqb kind 2 then cancelIn s
-    else if eqb kind 3 then quoteIn s
-    else if eqb kind 4 then closeIn s
+    if eqb kind orderKind then orderIn s
+    else if eqb kind cancelKind then cancelIn s
+    else if eqb kind quoteKind then quoteIn s
+    else if eqb kind closeKind then closeIn s
     else body.Bad
 
 abbrev pub withBody : ℕ → ℕ → BodyReading → Reading

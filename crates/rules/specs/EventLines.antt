@@ -6,7 +6,8 @@ use Rattle.rules.specs.declared.Event.{Event}
 use Rattle.rules.specs.declared.Event.the-variants.{Executed, Rested, Cancelled}
 
 -- "`11` execution (incoming number, resting number, price, shares); `12` rested (number, price, shares); `13` cancelled
--- (number, shares, reason in 1 byte). All other fields have 4 bytes."
+-- (number, shares, reason in 1 byte). The number in `12` and `13` is the order's own, never the cancelling command's. All
+-- other fields have 4 bytes."
 unfoldable pub eventLine : Event → List ℕ
 eventLine (Executed incoming resting price shares) =
     line (1 ∷ 4 ∷ 4 ∷ 4 ∷ 4 ∷ []) (0x11 ∷ incoming .0 ∷ resting .0 ∷ price .0 ∷ shares .0 ∷ [])

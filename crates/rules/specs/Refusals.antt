@@ -1,4 +1,5 @@
--- The refusals (01, What the machine says back): a table of numbers and when each is given, in its order.
+-- The refusals (01, What the machine says back): a table of numbers and when each is given, in its order. (Refusal 1 of the
+-- command writer, "room below the line's length", stands with that writer, in crates/writer.)
 use Prim.Native.Nat.{ℕ, _+_}
 use mathlib.Core.Bool.{Bool, true, false, not, _&&_, _||_}
 use mathlib.Core.List.{List, [], _∷_, _++_}
@@ -15,8 +16,8 @@ use Rattle.rules.specs.declared.Order.{Order}
 use Rattle.rules.specs.declared.Reading.{Reading}
 use Rattle.rules.specs.declared.Reading.the-variants as reading
 use Rattle.rules.specs.Instructions.{market, has, lawful}
-use Rattle.rules.specs.Book.{Book, limit, opening, closing, awayInRange}
-use Rattle.rules.specs.Working.{Ending, rests, cancelled, buying, ownSide, oppositeSide, remainder, ending, isNumber}
+use Rattle.rules.specs.Book.{Book, placesASide, opening, closing, awayInRange}
+use Rattle.rules.specs.Working.{Ending, filled, rests, cancelled, buying, ownSide, oppositeSide, ending, isNumber}
 
 -- a number of the table, and whether it is given
 pub record Refusal : Type 0 where
@@ -27,14 +28,21 @@ infix 70 _givenWhen_
 abbrev pub _givenWhen_ : ℕ → Bool → Refusal
 n givenWhen test = record { number = n; given = test }
 
--- "The lowest number that applies is given": the first of the table that is, or 0
+-- "The lowest number that applies is given": the first of the table that is given, or 0
 unfoldable pub firstOf : List Refusal → ℕ
 firstOf [] = 0
 firstOf (r ∷ rs) = if r .given then r .number else firstOf rs
 
+-- ── When each is given ──
+
 -- "output room below 4,096 bytes"
 abbrev pub leastRoom : ℕ
 leastRoom = 4096
+
+-- the reader's answers in the numbers of the table: 3, "the line is not one of the four forms", or none
+abbrev pub readingRefusal : Reading → ℕ
+readingRefusal (reading.Is c) = 0
+readingRefusal reading.Bad = 3
 
 abbrev pub isClose : Body → Bool
 isClose (body.Order o) = false
@@ -50,25 +58,28 @@ untimely b c =
     || (if isClose (c .body) then ltb closing (c .time) else leb closing (c .time))
 
 -- "limit price outside 100 to 200,000; market price not 0"
-abbrev pub limitInRange : Order → Bool
-limitInRange o = if has (o .word) market then eqb (o .price .0) 0 else priceInRange (o .price)
+abbrev pub orderPriceInRange : Order → Bool
+orderPriceInRange o = if has (o .word) market then eqb (o .price .0) 0 else priceInRange (o .price)
 
--- "side not 0 or 1; shares outside 1 to 1,000,000; limit price .."
+-- "side not 0 or 1; shares outside 1 to 1,000,000; .."
 abbrev pub orderInRange : Order → Bool
-orderInRange o = leb (o .side) 1 && sharesInRange (o .shares) && limitInRange o
-
-abbrev pub isRest : Ending → Bool
-isRest (rests price) = true
-isRest (cancelled reason) = false
-
--- "the rules would rest a remainder"
-unfoldable pub wouldRest : Order → Book → Bool
-wouldRest o b =
-    let opposite = oppositeSide (buying o) b in
-    not (eqb (remainder o (b .away) opposite) 0) && isRest (ending o (b .away) opposite)
+orderInRange o = leb (o .side) 1 && sharesInRange (o .shares) && orderPriceInRange o
 
 abbrev pub isResting : Number → Book → Bool
 isResting n b = any (isNumber n) (b .buys) || any (isNumber n) (b .sells)
+
+abbrev pub isRest : Ending → Bool
+isRest filled = false
+isRest (rests price) = true
+isRest (cancelled reason) = false
+
+-- "the rules would rest a remainder and that side holds 64"
+unfoldable pub restsOnFullSide : Order → Book → Bool
+restsOnFullSide o b =
+    isRest (ending o (b .away) (oppositeSide (buying o) b))
+    && leb placesASide (length (ownSide (buying o) b))
+
+-- ── The table ──
 
 -- 4 to 7: by the header
 unfoldable pub headerRefusals : Book → Command → List Refusal
@@ -84,15 +95,15 @@ unfoldable pub bodyRefusals : Book → Body → List Refusal
 bodyRefusals b (body.Order o) =
     8 givenWhen not (lawful (o .word))
     ∷ 9 givenWhen not (orderInRange o)
-    ∷ 11 givenWhen (wouldRest o b && leb limit (length (ownSide (buying o) b)))
+    ∷ 11 givenWhen restsOnFullSide o b
     ∷ []
 bodyRefusals b (body.Cancel n) = 10 givenWhen not (isResting n b) ∷ []
 bodyRefusals b (body.Quote a) = 9 givenWhen not (awayInRange (a .bid) && awayInRange (a .offer)) ∷ []
 bodyRefusals b body.Close = []
 
--- 3: "the line is not one of the four forms"
+-- 3 to 11
 unfoldable pub lineRefusals : Book → Reading → List Refusal
-lineRefusals b reading.Bad = 3 givenWhen true ∷ []
+lineRefusals b reading.Bad = readingRefusal reading.Bad givenWhen true ∷ []
 lineRefusals b (reading.Is c) = headerRefusals b c ++ bodyRefusals b (c .body)
 
 -- the whole table: 1 and 2 are tried before the line is read

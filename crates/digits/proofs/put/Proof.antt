@@ -1,6 +1,6 @@
 -- `digits::put` meets its contract. The loop's invariant: the digits that are still to be written, in front of those that
 -- stand in `out`, are all the digits; what lies past them stays. Assumes nothing.
-use Prim.Native.Nat.{_-_, _≤_, _/_, _%_}
+use Prim.Native.Nat.{_-_, _≤_}
 use mathlib.Core.Path.{_≡_, sym, _∙_}
 use mathlib.Core.List.{[], _++_, append-nil}
 use lib.ListN.{length, take, drop, length-take, length-set, drop-of-length-le, take-append-drop}
