@@ -1,0 +1,163 @@
+// The reader of command lines, over any bytes (01, Command lines): a line is the header's 18 digits and then the body's, which
+// are read as a part of their own.
+use digits::Value;
+use kinds::Cents;
+use kinds::Number;
+use kinds::Shares;
+use rules::Away;
+use rules::Body;
+use rules::BodyReading;
+use rules::Command;
+use rules::Order;
+use rules::Reading;
+ghost use mathlib.Core.Path.{_≡_};
+ghost use Prim.Native.Nat.{_<_};
+ghost use Rattle.rules.specs.CommandLines.{numberAt, isEnded, orderIn, cancelIn, quoteIn, closeIn, bodyIn, commandIn};
+
+// Whether `n` digits are followed by one line feed, and by no more.
+fn is_ended(s: &[u8], n: usize) -> bool
+    requires { ⌜ n < 64 ⌝ }
+    ensures { λ r. ⌜ r ≡ isEnded n (now (s .entry)) ⌝ }
+{
+    if s.len() != n + 1 {
+        return false;
+    }
+    s[n] == 10
+}
+
+// The number of one byte that stands from digit `at` on; bad where the line is too short for it.
+fn one_at(s: &[u8], at: usize) -> Value
+    requires { ⌜ at < 64 ⌝ }
+    ensures { λ r. ⌜ r ≡ numberAt 1 at (now (s .entry)) ⌝ }
+{
+    if s.len() < at + 2 {
+        return Value::Bad;
+    }
+    digits::read_one(&s[at..at + 2])
+}
+
+// The same of two bytes.
+fn two_at(s: &[u8], at: usize) -> Value
+    requires { ⌜ at < 64 ⌝ }
+    ensures { λ r. ⌜ r ≡ numberAt 2 at (now (s .entry)) ⌝ }
+{
+    if s.len() < at + 4 {
+        return Value::Bad;
+    }
+    digits::read_two(&s[at..at + 4])
+}
+
+// The same of four bytes.
+fn four_at(s: &[u8], at: usize) -> Value
+    requires { ⌜ at < 64 ⌝ }
+    ensures { λ r. ⌜ r ≡ numberAt 4 at (now (s .entry)) ⌝ }
+{
+    if s.len() < at + 8 {
+        return Value::Bad;
+    }
+    digits::read_four(&s[at..at + 8])
+}
+
+fn read_order(s: &[u8]) -> BodyReading
+    ensures { λ r. ⌜ r ≡ orderIn (now (s .entry)) ⌝ }
+{
+    if !is_ended(s, 22) {
+        return BodyReading::Bad;
+    }
+    let Value::Is(side) = one_at(s, 0) else {
+        return BodyReading::Bad;
+    };
+    let Value::Is(word) = two_at(s, 2) else {
+        return BodyReading::Bad;
+    };
+    let Value::Is(price) = four_at(s, 6) else {
+        return BodyReading::Bad;
+    };
+    let Value::Is(shares) = four_at(s, 14) else {
+        return BodyReading::Bad;
+    };
+    BodyReading::Is(Body::Order(Order {
+        side: side as u8,
+        word: word as u16,
+        price: Cents(price),
+        shares: Shares(shares),
+    }))
+}
+
+fn read_cancel(s: &[u8]) -> BodyReading
+    ensures { λ r. ⌜ r ≡ cancelIn (now (s .entry)) ⌝ }
+{
+    if !is_ended(s, 8) {
+        return BodyReading::Bad;
+    }
+    let Value::Is(number) = four_at(s, 0) else {
+        return BodyReading::Bad;
+    };
+    BodyReading::Is(Body::Cancel(Number(number)))
+}
+
+fn read_quote(s: &[u8]) -> BodyReading
+    ensures { λ r. ⌜ r ≡ quoteIn (now (s .entry)) ⌝ }
+{
+    if !is_ended(s, 16) {
+        return BodyReading::Bad;
+    }
+    let Value::Is(bid) = four_at(s, 0) else {
+        return BodyReading::Bad;
+    };
+    let Value::Is(offer) = four_at(s, 8) else {
+        return BodyReading::Bad;
+    };
+    BodyReading::Is(Body::Quote(Away {
+        bid: Cents(bid),
+        offer: Cents(offer),
+    }))
+}
+
+fn read_close(s: &[u8]) -> BodyReading
+    ensures { λ r. ⌜ r ≡ closeIn (now (s .entry)) ⌝ }
+{
+    if !is_ended(s, 0) {
+        return BodyReading::Bad;
+    }
+    BodyReading::Is(Body::Close)
+}
+
+// The digits after the header, by kind.
+fn read_body(kind: u32, s: &[u8]) -> BodyReading
+    ensures { λ r. ⌜ r ≡ bodyIn kind (now (s .entry)) ⌝ }
+{
+    match kind {
+        1 => read_order(s),
+        2 => read_cancel(s),
+        3 => read_quote(s),
+        4 => read_close(s),
+        _ => BodyReading::Bad,
+    }
+}
+
+// The command that a line is, or that it is not one of the four forms. The line from digit 18 on is handed to the body's reader.
+pub fn read_command(s: &[u8]) -> Reading
+    ensures { λ r. ⌜ r ≡ commandIn (now (s .entry)) ⌝ }
+{
+    if s.len() < 18 {
+        return Reading::Bad;
+    }
+    let Value::Is(kind) = one_at(s, 0) else {
+        return Reading::Bad;
+    };
+    let Value::Is(number) = four_at(s, 2) else {
+        return Reading::Bad;
+    };
+    let Value::Is(time) = four_at(s, 10) else {
+        return Reading::Bad;
+    };
+    let BodyReading::Is(body) = read_body(kind, &s[18..]) else {
+        return Reading::Bad;
+    };
+    Reading::Is(Command {
+        number: Number(number),
+        time,
+        body,
+    })
+}
