@@ -120,7 +120,7 @@ unused = record { number = number 0; price = cents 0; shares = shares 0; display
 abbrev pub isUnused : Resting → Bool
 isUnused o = eqb (o .number .0) 0 && eqb (o .price .0) 0 && eqb (o .shares .0) 0 && not (o .displayed)
 
--- the orders that places hold, and the places that hold orders
+-- the orders that places hold, and the places that hold orders: the first ones, so "a freed place can be used at once"
 abbrev pub ordersIn : Places → List Resting
 ordersIn p = take (p .used) (p .places)
 

@@ -36,18 +36,19 @@ closeKind = 4
 abbrev pub headerForm : List ℕ
 headerForm = 1 ∷ 4 ∷ 4 ∷ []
 
--- side, instruction word, price, shares
+-- 01 order: "side (1: 00 buy, 01 sell), instruction word (2), price (4), shares (4)", 40 digits with the header
 abbrev pub orderForm : List ℕ
 orderForm = 1 ∷ 2 ∷ 4 ∷ 4 ∷ []
 
--- order number
+-- 02 cancel: "order number (4)", 26 digits
 abbrev pub cancelForm : List ℕ
 cancelForm = 4 ∷ []
 
--- away bid, away offer
+-- 03 quote: "away bid (4), away offer (4), 0 for none", 34 digits
 abbrev pub quoteForm : List ℕ
 quoteForm = 4 ∷ 4 ∷ []
 
+-- 04 close: "none", 18 digits
 abbrev pub closeForm : List ℕ
 closeForm = []
 
