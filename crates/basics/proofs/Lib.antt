@@ -1,2 +1,3 @@
 pub mod LawsChoice
+pub mod LawsLists
 pub mod LawsBytes

@@ -1,0 +1,163 @@
+-- Laws of a table of rows and the side that it holds. Assumes nothing.
+use Prim.Native.Nat.{ℕ, zero, suc, _+_, _-_, _≤_, _<_, min}
+use mathlib.Core.Bool.{Bool, true, false, not}
+use mathlib.Core.List.{List, [], _∷_, _++_, map}
+use mathlib.Core.Path.{_≡_, refl, sym, ap, _∙_}
+use lib.Dec.{eqb}
+use lib.ListN.{length, getD, set, take, drop, replicate, length-append, length-take, length-drop, length-replicate, length-map, length-set, replicate-append-replicate}
+use lib.Seq.{take-at, drop-append-add, getD-take, set-append-left}
+use native.Mathlib.Omega.{arith}
+use Rattle.basics.specs.Choice.{if_then_else_}
+use Rattle.basics.specs.Lists.{insertAt, removeAt}
+use Rattle.rules.specs.declared.Resting.{Resting}
+use Rattle.rules.specs.Book.{placesASide, unused}
+use Rattle.rows.specs.Table.{orderOf, rowOf, noRow, side, tableOf, Holds}
+
+-- ── Maps and parts of lists ──
+
+module _ {A B : Type 0} (f : A → B) where
+  map-append : (s u : List A) → map f (s ++ u) ≡ map f s ++ map f u
+  map-append [] u = refl
+  map-append (x ∷ s) u = ap (λ (l : List B). f x ∷ l) (map-append s u)
+
+  map-take : (k : ℕ) (s : List A) → map f (take k s) ≡ take k (map f s)
+  map-take zero s = refl
+  map-take (suc k) [] = refl
+  map-take (suc k) (x ∷ s) = ap (λ (l : List B). f x ∷ l) (map-take k s)
+
+  map-drop : (k : ℕ) (s : List A) → map f (drop k s) ≡ drop k (map f s)
+  map-drop zero s = refl
+  map-drop (suc k) [] = refl
+  map-drop (suc k) (x ∷ s) = map-drop k s
+
+  map-set : (s : List A) (k : ℕ) (x : A) → map f (set s k x) ≡ set (map f s) k (f x)
+  map-set [] k x = refl
+  map-set (y ∷ s) zero x = refl
+  map-set (y ∷ s) (suc k) x = ap (λ (l : List B). f y ∷ l) (map-set s k x)
+
+  map-insertAt : (k : ℕ) (x : A) (s : List A) → map f (insertAt k x s) ≡ insertAt k (f x) (map f s)
+  map-insertAt k x s = map-append (take k s) (x ∷ drop k s) ∙ rw (map-take k s, map-drop k s)
+
+  map-removeAt : (k : ℕ) (s : List A) → map f (removeAt k s) ≡ removeAt k (map f s)
+  map-removeAt k s = map-append (take k s) (drop (k + 1) s) ∙ rw (map-take k s, map-drop (k + 1) s)
+
+-- ── An order and its row ──
+
+flag-back : (d : Bool) → not (eqb (if d then 1 else 0) 0) ≡ d
+flag-back true = refl
+flag-back false = refl
+
+pub order-row : (o : Resting) → orderOf (rowOf o) ≡ o
+order-row o = rw (flag-back (o .displayed))
+
+orders-rows : (s : List Resting) → map orderOf (map rowOf s) ≡ s
+orders-rows [] = refl
+orders-rows (o ∷ s) = let e = order-row o in let h = orders-rows s in cc
+
+-- ── The table of a side ──
+
+pub length-tableOf : (s : List Resting) → length s ≤ placesASide → length (tableOf s) ≡ placesASide
+unfolding tableOf
+length-tableOf s h = simp (length-append, length-map, length-replicate) (omega arith)
+
+pub side-tableOf : (s : List Resting) → side (length s) (tableOf s) ≡ s
+unfolding tableOf
+side-tableOf s =
+    let r = replicate (placesASide - length s) noRow in
+    rw (take-at (map rowOf s) r (length s) (length-map s rowOf)) (orders-rows s)
+
+pub holds-tableOf : (s : List Resting) → length s ≤ placesASide → Holds (length s) (tableOf s)
+holds-tableOf s h = record { fits = h; table = ap tableOf (sym (side-tableOf s)) }
+
+-- ── What the moves of rows make of the table of a side ──
+
+module _ (n : ℕ) (t : List (List ℕ)) (s : List Resting) (long : length s ≡ n) (most : n ≤ placesASide) (all : t ≡ tableOf s) where
+  rows-long : length (map rowOf s) ≡ n
+  rows-long = length-map s rowOf ∙ long
+
+  rows-all : t ≡ map rowOf s ++ replicate (placesASide - n) noRow
+  unfolding tableOf
+  rows-all = all ∙ ap (λ (k : ℕ). map rowOf s ++ replicate (placesASide - k) noRow) long
+
+  rows-used : take n t ≡ map rowOf s
+  rows-used = ap (take n) rows-all ∙ take-at (map rowOf s) (replicate (placesASide - n) noRow) n rows-long
+
+  rows-unused : (k : ℕ) → drop (n + k) t ≡ drop k (replicate (placesASide - n) noRow)
+  rows-unused k =
+      ap (drop (n + k)) rows-all
+      ∙ ap (λ (j : ℕ). drop (j + k) (map rowOf s ++ replicate (placesASide - n) noRow)) (sym rows-long)
+      ∙ drop-append-add (map rowOf s) (replicate (placesASide - n) noRow) k
+
+  drop-unused : drop n t ≡ replicate (placesASide - n) noRow
+  drop-unused = let e : n + 0 ≡ n = omega arith in ap (λ (j : ℕ). drop j t) (sym e) ∙ rows-unused 0
+
+  row-inserted : (at : ℕ) (o : Resting) → at ≤ n → n < placesASide → insertAt at (rowOf o) (take n t) ++ drop (n + 1) t ≡ tableOf (insertAt at o s)
+  unfolding tableOf
+  row-inserted at o l p =
+      let k : placesASide - n ≡ suc (placesASide - (n + 1)) = omega arith in
+      let e : drop (n + 1) t ≡ replicate (placesASide - (n + 1)) noRow = rows-unused 1 ∙ rw k in
+      let g : length (insertAt at o s) ≡ n + 1 = simp (length-append, length-take, length-drop) (omega arith) in
+      rw (rows-used, e, map-insertAt rowOf at o s, g)
+
+  row-removed : (at : ℕ) → at < n → removeAt at (take n t) ++ (noRow ∷ drop n t) ≡ tableOf (removeAt at s)
+  unfolding tableOf
+  row-removed at l =
+      let g : length (removeAt at s) ≡ n - 1 = simp (length-append, length-take, length-drop) (omega arith) in
+      let k : placesASide - (n - 1) ≡ suc (placesASide - n) = omega arith in
+      rw (rows-used, drop-unused, map-removeAt rowOf at s, g, k)
+
+  rows-dropped : (k : ℕ) → k ≤ n → drop k (take n t) ++ (replicate k noRow ++ drop n t) ≡ tableOf (drop k s)
+  unfolding tableOf
+  rows-dropped k l =
+      let g : length (drop k s) ≡ n - k = simp length-drop (omega arith) in
+      let j : k + (placesASide - n) ≡ placesASide - (n - k) = omega arith in
+      rw (rows-used, drop-unused, replicate-append-replicate k (placesASide - n) noRow, map-drop rowOf k s, g, j)
+
+  row-set : (at : ℕ) (o : Resting) → at < n → set t at (rowOf o) ≡ tableOf (set s at o)
+  unfolding tableOf
+  row-set at o l =
+      let p : at < length (map rowOf s) = omega (arith, rows-long) in
+      let g : length (set s at o) ≡ n = simp length-set long in
+      ap (λ (x : List (List ℕ)). set x at (rowOf o)) rows-all
+      ∙ set-append-left (map rowOf s) (replicate (placesASide - n) noRow) at (rowOf o) p
+      ∙ rw (map-set rowOf s at o, g)
+
+-- ── A table that holds a side ──
+
+module _ (n : ℕ) (t : List (List ℕ)) (h : Holds n t) where
+  table-lengths : (length (side n t) ≡ n) × (length t ≡ placesASide)
+  unfolding tableOf
+  table-lengths =
+      let m : length (side n t) ≡ min n (length t) = length-map (take n t) orderOf ∙ length-take n t in
+      let l : length t ≡ length (side n t) + (placesASide - length (side n t)) =
+      ap length (h .table) ∙ simp (length-append, length-map, length-replicate) in
+      let f = h .fits in
+      (omega arith, omega arith)
+
+  pub length-side : length (side n t) ≡ n
+  length-side = table-lengths .0
+
+  pub insert-table : (at : ℕ) (o : Resting) → at ≤ n → n < placesASide
+      → insertAt at (rowOf o) (take n t) ++ drop (n + 1) t ≡ tableOf (insertAt at o (side n t))
+  insert-table = row-inserted n t (side n t) length-side (h .fits) (h .table)
+
+  pub remove-table : (at : ℕ) → at < n → removeAt at (take n t) ++ (noRow ∷ drop n t) ≡ tableOf (removeAt at (side n t))
+  remove-table = row-removed n t (side n t) length-side (h .fits) (h .table)
+
+  pub drop-table : (k : ℕ) → k ≤ n → drop k (take n t) ++ (replicate k noRow ++ drop n t) ≡ tableOf (drop k (side n t))
+  drop-table = rows-dropped n t (side n t) length-side (h .fits) (h .table)
+
+  pub set-table : (at : ℕ) (o : Resting) → at < n → set t at (rowOf o) ≡ tableOf (set (side n t) at o)
+  set-table = row-set n t (side n t) length-side (h .fits) (h .table)
+
+  -- the row at a place is the order there
+  pub row-side : (i : ℕ) → i < n → orderOf (getD t i []) ≡ getD (side n t) i unused
+  row-side i l =
+      let f = h .fits in
+      let m : i < length (take n t) = omega (arith, length-map (take n t) orderOf, length-side) in
+      sym (getD-map-in orderOf (take n t) i [] unused m ∙ ap orderOf (getD-take n t i [] l))
+    where
+      getD-map-in : {A B : Type 0} (g : A → B) (s : List A) (i : ℕ) (d : A) (e : B) → i < length s → getD (map g s) i e ≡ g (getD s i d)
+      getD-map-in g [] i d e p = let z : ⊥ = omega arith in absurd z
+      getD-map-in g (x ∷ s) zero d e p = refl
+      getD-map-in g (x ∷ s) (suc i) d e p = getD-map-in g s i d e (omega arith)

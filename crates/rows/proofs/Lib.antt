@@ -1,0 +1,2 @@
+pub mod LawsTable
+pub mod Determined

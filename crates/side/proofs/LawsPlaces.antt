@@ -1,0 +1,79 @@
+-- Laws of a loop over the orders of a side, and of rank by values. Assumes nothing.
+use Prim.Native.Nat.{ℕ, _+_, _≤_, _<_}
+use mathlib.Core.Bool.{Bool, true, false, not, _&&_, _||_, Bool·beq}
+use mathlib.Core.List.{List, [], _∷_, map}
+use mathlib.Core.Logic.{⊎-elim}
+use mathlib.Core.Path.{_≡_, refl, sym, ap, _∙_}
+use lib.Dec.{eqb, ltb}
+use lib.ListN.{length, getD, take, drop}
+use native.Mathlib.Omega.{arith}
+use borrow.Author.Tests.{eqb-true, le-ltb}
+use Rattle.basics.specs.Choice.{if_then_else_}
+use Rattle.basics.specs.Lists.{firstWhere}
+use Rattle.basics.proofs.LawsChoice.{holds-or-not}
+use Rattle.basics.proofs.LawsLists.{ahead-none, ahead-cons}
+use Rattle.rows.specs.Table.{orderOf}
+use Rattle.rules.specs.declared.Resting.{Resting}
+use Rattle.rules.specs.Book.{ranksBefore}
+
+-- ── A loop over the orders of a side ──
+
+-- the orders that lie ahead at place i
+abbrev pub ahead : ℕ → List (List ℕ) → ℕ → List Resting
+ahead n t i = map orderOf (drop i (take n t))
+
+module _ (n : ℕ) (t : List (List ℕ)) (i : ℕ) (whole : n ≤ length t) where
+  pub ahead-end : n ≤ i → ahead n t i ≡ []
+  ahead-end l = ap (map orderOf) (ahead-none [] t n i whole l)
+
+  -- the next one is the order that was read
+  pub ahead-next : i < n → (o : Resting) → o ≡ orderOf (getD t i []) → ahead n t i ≡ o ∷ ahead n t (i + 1)
+  ahead-next l o e = ap (map orderOf) (ahead-cons [] t n i whole l) ∙ ap (λ (x : Resting). x ∷ ahead n t (i + 1)) (sym e)
+
+  -- one turn of a loop that looks for the first order that passes a test
+  module _ (test : Resting → Bool) where
+    pub where-end : n ≤ i → i + firstWhere test (ahead n t i) ≡ i
+    unfolding firstWhere
+    where-end l = rw (ahead-end l) (omega arith)
+
+    pub where-found : i < n → (o : Resting) → o ≡ orderOf (getD t i []) → test o ≡ true → i + firstWhere test (ahead n t i) ≡ i
+    unfolding firstWhere
+    where-found l o e p = rw (ahead-next l o e, p) (omega arith)
+
+    pub where-next : i < n → (o : Resting) → o ≡ orderOf (getD t i []) → test o ≡ false
+        → i + firstWhere test (ahead n t i) ≡ i + 1 + firstWhere test (ahead n t (i + 1))
+    unfolding firstWhere
+    where-next l o e p = rw (ahead-next l o e, p) (omega arith)
+
+-- ── Rank by values ──
+
+pub ranks-by-values : (buy : Bool) (x y : Resting)
+    → (buy && ltb (y .price .0) (x .price .0) || not buy && ltb (x .price .0) (y .price .0)
+    || eqb (x .price .0) (y .price .0)
+    && (x .displayed && not (y .displayed) || (x .displayed || not (y .displayed)) && ltb (x .number .0) (y .number .0)))
+    ≡ ranksBefore buy x y
+unfolding ranksBefore
+ranks-by-values buy x y =
+    ⊎-elim
+    (λ (t : eqb (x .price .0) (y .price .0) ≡ true).
+    let e : x .price .0 ≡ y .price .0 = eqb-true (x .price .0) (y .price .0) t in
+    rw (t, le-ltb (y .price .0) (x .price .0) (omega arith), le-ltb (x .price .0) (y .price .0) (omega arith))
+    (at-one-price buy (x .displayed) (y .displayed) (ltb (x .number .0) (y .number .0))))
+    (λ (t : eqb (x .price .0) (y .price .0) ≡ false). rw t (apart-prices buy (ltb (y .price .0) (x .price .0)) (ltb (x .price .0) (y .price .0))))
+    (holds-or-not (eqb (x .price .0) (y .price .0)))
+  where
+    at-one-price : (b d e l : Bool) → (b && false || not b && false || true && (d && not e || (d || not e) && l)) ≡ (if not (Bool·beq d e) then d else l)
+    at-one-price true true true l = refl
+    at-one-price true true false l = refl
+    at-one-price true false true l = refl
+    at-one-price true false false l = refl
+    at-one-price false true true l = refl
+    at-one-price false true false l = refl
+    at-one-price false false true l = refl
+    at-one-price false false false l = refl
+
+    apart-prices : (b p q : Bool) → (b && p || not b && q || false) ≡ (if b then p else q)
+    apart-prices true true q = refl
+    apart-prices true false q = refl
+    apart-prices false p true = refl
+    apart-prices false p false = refl

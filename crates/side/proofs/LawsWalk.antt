@@ -1,0 +1,134 @@
+-- Laws of where a walk stops: its turns over a table, and that it stands for the walk of 01. Assumes nothing.
+use Prim.Native.Nat.{ℕ, zero, suc, _+_, _-_, _≤_, _<_, min}
+use mathlib.Core.Bool.{Bool, true, false}
+use mathlib.Core.List.{List, [], _∷_}
+use mathlib.Core.Logic.{⊎-elim}
+use mathlib.Core.Path.{_≡_, refl, ap}
+use lib.Dec.{ltb}
+use lib.ListN.{length, getD}
+use native.Mathlib.Omega.{arith}
+use borrow.Author.Tests.{lt-ltb, le-ltb}
+use Rattle.basics.specs.Lists.{total}
+use Rattle.basics.proofs.LawsChoice.{holds-or-not, lt-or-le}
+use Rattle.rules.specs.declared.Resting.{Resting}
+use Rattle.rules.specs.Working.{nothing, walk, smaller}
+use Rattle.rows.specs.Table.{orderOf}
+use Rattle.side.specs.Walk.{stop, stopOf}
+use Rattle.side.proofs.LawsPlaces.{ahead, ahead-end, ahead-next}
+
+-- ── One turn of the loop that walks the first n rows of a table ──
+
+module _ (may : Resting → Bool) (n : ℕ) (t : List (List ℕ)) (at want : ℕ) (whole : n ≤ length t) where
+  pub stop-end : n ≤ at → stopOf may at want (ahead n t at) ≡ stop at 0 want
+  unfolding stopOf
+  stop-end l = rw (ahead-end n t at whole l)
+
+  module _ (l : at < n) (o : Resting) (e : o ≡ orderOf (getD t at [])) where
+    pub stop-beyond : may o ≡ false → stopOf may at want (ahead n t at) ≡ stop at 0 want
+    unfolding stopOf
+    stop-beyond m = rw (ahead-next n t at whole l o e, m)
+
+    pub stop-part : may o ≡ true → want < o .shares .0 → stopOf may at want (ahead n t at) ≡ stop at want 0
+    unfolding stopOf
+    stop-part m k = rw (ahead-next n t at whole l o e, m, lt-ltb want (o .shares .0) k)
+
+    pub stop-whole : may o ≡ true → o .shares .0 ≤ want
+        → stopOf may at want (ahead n t at) ≡ stopOf may (at + 1) (want - o .shares .0) (ahead n t (at + 1))
+    unfolding stopOf
+    stop-whole m k = rw (ahead-next n t at whole l o e, m, le-ltb want (o .shares .0) k)
+
+-- ── The walk that a stop stands for ──
+
+-- the takings: the first k give all, the next gives the part, the others nothing
+unfoldable pub tookTo : ℕ → ℕ → List Resting → List ℕ
+tookTo k part [] = []
+tookTo zero part (h ∷ s) = part ∷ nothing s
+tookTo (suc k) part (h ∷ s) = h .shares .0 ∷ tookTo k part s
+
+module _ (may : Resting → Bool) where
+  -- with nothing left nobody gives
+  walk-nothing : (s : List Resting) → walk may smaller 0 s ≡ nothing s
+  unfolding walk nothing
+  walk-nothing [] = refl
+  walk-nothing (h ∷ s) =
+      let e : min 0 (h .shares .0) ≡ 0 = omega arith in
+      ⊎-elim
+      (λ (t : may h ≡ true). rw (t, e) (ap (λ (l : List ℕ). 0 ∷ l) (walk-nothing s)))
+      (λ (t : may h ≡ false). rw t)
+      (holds-or-not (may h))
+
+  nothing-total : (s : List Resting) → total (nothing s) ≡ 0
+  unfolding nothing total
+  nothing-total [] = refl
+  nothing-total (h ∷ s) = omega (arith, nothing-total s)
+
+  stop-later : (i want : ℕ) (s : List Resting) → i ≤ stopOf may i want s .at
+  unfolding stopOf
+  stop-later i want [] = omega arith
+  stop-later i want (h ∷ s) =
+      ⊎-elim
+      (λ (t : may h ≡ true).
+      ⊎-elim
+      (λ (u : ltb want (h .shares .0) ≡ true). rw (t, u) (omega arith))
+      (λ (u : ltb want (h .shares .0) ≡ false). rw (t, u) (omega (arith, stop-later (i + 1) (want - h .shares .0) s)))
+      (holds-or-not (ltb want (h .shares .0))))
+      (λ (t : may h ≡ false). rw t (omega arith))
+      (holds-or-not (may h))
+
+  -- what the loop leaves stands for the walk's takings
+  stop-walk-from : (i want : ℕ) (s : List Resting)
+      → tookTo (stopOf may i want s .at - i) (stopOf may i want s .part .0) s ≡ walk may smaller want s
+  unfolding stopOf tookTo walk nothing
+  stop-walk-from i want [] = refl
+  stop-walk-from i want (h ∷ s) =
+      let z : i - i ≡ 0 = omega arith in
+      ⊎-elim
+      (λ (t : may h ≡ true).
+      ⊎-elim
+      (λ (l : want < h .shares .0).
+      let m : min want (h .shares .0) ≡ want = omega arith in
+      let n : want - want ≡ 0 = omega arith in
+      rw (t, lt-ltb want (h .shares .0) l, z, m, n, walk-nothing s))
+      (λ (l : h .shares .0 ≤ want).
+      let m : min want (h .shares .0) ≡ h .shares .0 = omega arith in
+      let k : stopOf may (i + 1) (want - h .shares .0) s .at - i ≡ suc (stopOf may (i + 1) (want - h .shares .0) s .at - (i + 1)) =
+      omega (arith, stop-later (i + 1) (want - h .shares .0) s) in
+      rw (t, le-ltb want (h .shares .0) l, k, m) (ap (λ (x : List ℕ). h .shares .0 ∷ x) (stop-walk-from (i + 1) (want - h .shares .0) s)))
+      (lt-or-le want (h .shares .0)))
+      (λ (t : may h ≡ false). rw (t, z))
+      (holds-or-not (may h))
+
+  pub stop-walk : (want : ℕ) (s : List Resting) → tookTo (stopOf may 0 want s .at) (stopOf may 0 want s .part .0) s ≡ walk may smaller want s
+  stop-walk want s =
+      let z : stopOf may 0 want s .at - 0 ≡ stopOf may 0 want s .at = omega arith in
+      rw z at (stop-walk-from 0 want s)
+
+  -- and the shares remaining are those that the walk did not take
+  pub stop-left : (i want : ℕ) (s : List Resting) → stopOf may i want s .left .0 ≡ want - total (walk may smaller want s)
+  unfolding stopOf walk total
+  stop-left i want [] = omega arith
+  stop-left i want (h ∷ s) =
+      ⊎-elim
+      (λ (t : may h ≡ true).
+      ⊎-elim
+      (λ (l : want < h .shares .0). rw (t, lt-ltb want (h .shares .0) l) (omega arith))
+      (λ (l : h .shares .0 ≤ want).
+      let m : min want (h .shares .0) ≡ h .shares .0 = omega arith in
+      rw (t, le-ltb want (h .shares .0) l, m) (omega (arith, stop-left (i + 1) (want - h .shares .0) s)))
+      (lt-or-le want (h .shares .0)))
+      (λ (t : may h ≡ false). rw t (omega (arith, nothing-total (h ∷ s))))
+      (holds-or-not (may h))
+
+  -- it stops within the side, and where it takes a part, that order keeps some
+  pub stop-within : (i want : ℕ) (s : List Resting) → stopOf may i want s .at ≤ i + length s
+  unfolding stopOf
+  stop-within i want [] = omega arith
+  stop-within i want (h ∷ s) =
+      ⊎-elim
+      (λ (t : may h ≡ true).
+      ⊎-elim
+      (λ (u : ltb want (h .shares .0) ≡ true). rw (t, u) (omega arith))
+      (λ (u : ltb want (h .shares .0) ≡ false). rw (t, u) (omega (arith, stop-within (i + 1) (want - h .shares .0) s)))
+      (holds-or-not (ltb want (h .shares .0))))
+      (λ (t : may h ≡ false). rw t (omega arith))
+      (holds-or-not (may h))

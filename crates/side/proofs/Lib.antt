@@ -1,0 +1,3 @@
+pub mod LawsPlaces
+pub mod LawsWalk
+pub mod Determined
