@@ -1,3 +1,4 @@
 pub mod LawsWriting
 pub mod LawsLines
+pub mod LawsEvents
 pub mod Examples

@@ -12,12 +12,14 @@ use Rattle.kinds.specs.Kinds.{priceInRange, sharesInRange}
 use Rattle.rules.specs.declared.Body.{Body}
 use Rattle.rules.specs.declared.Body.the-variants as body
 use Rattle.rules.specs.declared.Command.{Command}
+use Rattle.rules.specs.declared.Ending.{Ending}
+use Rattle.rules.specs.declared.Ending.the-variants.{Filled, Rests, Cancels}
 use Rattle.rules.specs.declared.Order.{Order}
 use Rattle.rules.specs.declared.Reading.{Reading}
 use Rattle.rules.specs.declared.Reading.the-variants as reading
 use Rattle.rules.specs.Instructions.{market, has, lawful}
 use Rattle.rules.specs.Book.{Book, placesASide, opening, closing, awayInRange}
-use Rattle.rules.specs.Working.{Ending, filled, rests, cancelled, buying, ownSide, oppositeSide, ending, isNumber}
+use Rattle.rules.specs.Working.{buying, ownSide, oppositeSide, ending, isNumber}
 
 -- a number of the table, and whether it is given
 pub record Refusal : Type 0 where
@@ -69,9 +71,9 @@ abbrev pub isResting : Number → Book → Bool
 isResting n b = any (isNumber n) (b .buys) || any (isNumber n) (b .sells)
 
 abbrev pub isRest : Ending → Bool
-isRest filled = false
-isRest (rests price) = true
-isRest (cancelled reason) = false
+isRest Filled = false
+isRest (Rests price) = true
+isRest (Cancels reason) = false
 
 -- "the rules would rest a remainder and that side holds 64"
 unfoldable pub restsOnFullSide : Order → Book → Bool

@@ -11,6 +11,8 @@ use Rattle.kinds.specs.Kinds.{shares, above, below, priceInRange}
 use Rattle.rules.specs.declared.Away.{Away}
 use Rattle.rules.specs.declared.Body.{Body}
 use Rattle.rules.specs.declared.Body.the-variants as body
+use Rattle.rules.specs.declared.Ending.{Ending}
+use Rattle.rules.specs.declared.Ending.the-variants.{Filled, Rests, Cancels}
 use Rattle.rules.specs.declared.Event.{Event}
 use Rattle.rules.specs.declared.Event.the-variants.{Executed, Rested, Cancelled}
 use Rattle.rules.specs.declared.Order.{Order}
@@ -102,17 +104,12 @@ after (h ∷ s) (t ∷ ts) =
 
 -- ── 2 to 6. What becomes of an order after the walk ──
 
-pub data Ending : Type 0 where
-  filled : Ending
-  rests : Cents → Ending
-  cancelled : ℕ → Ending
-
 -- "Price Adjust takes .. Cancel Back cancels, reason 4. .. An adjusted price outside 100 to 200,000: cancelled, reason 5."
 abbrev pub adjusted : Order → Cents → Ending
 adjusted o price =
-    if has (o .word) cancelBack then cancelled cancelledBack
-    else if priceInRange price then rests price
-    else cancelled noPriceInRange
+    if has (o .word) cancelBack then Cancels cancelledBack
+    else if priceInRange price then Rests price
+    else Cancels noPriceInRange
 
 abbrev pub oneCentLessAggressive : Bool → Cents → Cents
 oneCentLessAggressive buy p = if buy then below p else above p
@@ -125,10 +122,10 @@ seeks o away =
     let locking = lockingPrice (buying o) away in
     let wouldCross = beyond (buying o) locking (o .price) in
     let wouldLock = eqb (o .price .0) (locking .0) in
-    if has (o .word) iso || absent locking then rests (o .price)
+    if has (o .word) iso || absent locking then Rests (o .price)
     else if has (o .word) displayed && (wouldLock || wouldCross) then adjusted o (oneCentLessAggressive (buying o) locking)
     else if not (has (o .word) displayed) && wouldCross then adjusted o locking
-    else rests (o .price)
+    else Rests (o .price)
 
 -- 5. "Post Only whose price from step 4 equals or passes any opposite resting price: cancelled, reason 6." 6. "Otherwise it
 -- rests."
@@ -136,25 +133,25 @@ abbrev pub equalsOrPasses : Bool → Cents → List Resting → Bool
 equalsOrPasses buy price opposite = any (λ (h : Resting). not (beyond buy price (h .price))) opposite
 
 abbrev pub unlessPostOnlyMeets : Order → List Resting → Ending → Ending
-unlessPostOnlyMeets o opposite filled = filled
-unlessPostOnlyMeets o opposite (rests price) =
-    if has (o .word) postOnly && equalsOrPasses (buying o) price opposite then cancelled postOnlyMeets
-    else rests price
-unlessPostOnlyMeets o opposite (cancelled reason) = cancelled reason
+unlessPostOnlyMeets o opposite Filled = Filled
+unlessPostOnlyMeets o opposite (Rests price) =
+    if has (o .word) postOnly && equalsOrPasses (buying o) price opposite then Cancels postOnlyMeets
+    else Rests price
+unlessPostOnlyMeets o opposite (Cancels reason) = Cancels reason
 
 -- 2. "the whole order is cancelled, reason 3." 3. "A remainder of IOC is cancelled, reason 2."
 unfoldable pub ending : Order → Away → List Resting → Ending
 ending o away opposite =
-    if eqb (remainder o away opposite) 0 then filled
-    else if has (o .word) fok then cancelled fokKilled
-    else if has (o .word) ioc then cancelled iocRemainder
+    if eqb (remainder o away opposite) 0 then Filled
+    else if has (o .word) fok then Cancels fokKilled
+    else if has (o .word) ioc then Cancels iocRemainder
     else unlessPostOnlyMeets o opposite (seeks o away)
 
 -- "Executions come first, then at most one `12` or `13`."
 abbrev pub lastLine : Number → ℕ → Ending → List Event
-lastLine n left filled = []
-lastLine n left (rests price) = Rested n price (shares left) ∷ []
-lastLine n left (cancelled reason) = Cancelled n (shares left) reason ∷ []
+lastLine n left Filled = []
+lastLine n left (Rests price) = Rested n price (shares left) ∷ []
+lastLine n left (Cancels reason) = Cancelled n (shares left) reason ∷ []
 
 -- a resting order takes its place by rank
 unfoldable pub insert : Bool → Resting → List Resting → List Resting
@@ -162,10 +159,10 @@ insert buy x [] = x ∷ []
 insert buy x (y ∷ s) = if ranksBefore buy x y then x ∷ (y ∷ s) else y ∷ insert buy x s
 
 abbrev pub withRemainder : Number → Order → ℕ → Ending → List Resting → List Resting
-withRemainder n o left filled own = own
-withRemainder n o left (rests price) own =
+withRemainder n o left Filled own = own
+withRemainder n o left (Rests price) own =
     insert (buying o) (record { number = n; price = price; shares = shares left; displayed = has (o .word) displayed }) own
-withRemainder n o left (cancelled reason) own = own
+withRemainder n o left (Cancels reason) own = own
 
 -- ── An accepted command ──
 

@@ -12,6 +12,27 @@ pub struct Resting {
     pub displayed: bool,
 }
 
+// The instructions of an order's word, each a bit of its own.
+pub const IOC: u16 = 1;
+
+pub const FOK: u16 = 2;
+
+pub const DAY: u16 = 4;
+
+pub const DISPLAYED: u16 = 8;
+
+pub const NON_DISPLAYED: u16 = 16;
+
+pub const PRICE_ADJUST: u16 = 32;
+
+pub const CANCEL_BACK: u16 = 64;
+
+pub const POST_ONLY: u16 = 128;
+
+pub const ISO: u16 = 256;
+
+pub const MARKET: u16 = 512;
+
 // The body of an order: 0 buys and 1 sells; the price is 0 for a market order.
 pub struct Order {
     pub side: u8,
@@ -50,6 +71,14 @@ pub enum Reading {
 pub enum BodyReading {
     Is(Body),
     Bad,
+}
+
+// What becomes of an order after the walk: nothing is left of it, or the rest of it rests at a price, or is cancelled for a
+// reason.
+pub enum Ending {
+    Filled,
+    Rests(Cents),
+    Cancels(u8),
 }
 
 // What an event line says. The number of a rested or cancelled order is its own, never the cancelling command's.

@@ -1,0 +1,2 @@
+pub mod LawsJudge
+pub mod Determined

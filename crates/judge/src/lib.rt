@@ -1,0 +1,112 @@
+// Which refusal a command's own fields get, against what the book last accepted (01, What the machine says back): 4 to 7 by the
+// header, 8 and 9 by an order's body, 9 by a quote's.
+use kinds::Cents;
+use kinds::Number;
+use rules::Body;
+use rules::Command;
+use rules::Order;
+ghost use mathlib.Core.Path.{_≡_};
+ghost use Rattle.rules.specs.Book.{awayInRange};
+ghost use Rattle.rules.specs.Instructions.{has, oneOf, lawful};
+ghost use Rattle.rules.specs.Refusals.{firstOf, isClose, headerRefusals, orderInRange};
+ghost use Rattle.judge.specs.Judge.{bookWith};
+
+// What the book last accepted, and whether it is closed.
+pub struct Accepted {
+    pub last: Number,
+    pub time: u32,
+    pub closed: bool,
+}
+
+// The session, in milliseconds after midnight Eastern.
+pub const OPENING: u32 = 34200000;
+
+pub const CLOSING: u32 = 57600000;
+
+// ── The instruction word ──
+
+pub fn has(word: u16, bit: u16) -> bool
+    ensures { λ r. ⌜ r ≡ has word bit ⌝ }
+{
+    word & bit != 0
+}
+
+// Exactly one of the bits of a mask is set: the ones of the masked word are counted.
+pub fn one_of(word: u16, mask: u16) -> bool
+    ensures { λ r. ⌜ r ≡ oneOf word mask ⌝ }
+{
+    u16::count_ones(word & mask) == 1
+}
+
+pub fn lawful(word: u16) -> bool
+    ensures { λ r. ⌜ r ≡ lawful word ⌝ }
+{
+    (word < 1024)
+        & one_of(word, rules::IOC + rules::FOK + rules::DAY)
+        & one_of(word, rules::DISPLAYED + rules::NON_DISPLAYED)
+        & one_of(word, rules::PRICE_ADJUST + rules::CANCEL_BACK)
+        & (!has(word, rules::POST_ONLY)
+            | (has(word, rules::DAY) & has(word, rules::DISPLAYED) & !has(word, rules::ISO)))
+        & (!has(word, rules::ISO) | (!has(word, rules::FOK) & !has(word, rules::MARKET)))
+        & (!has(word, rules::MARKET) | (has(word, rules::IOC) | has(word, rules::FOK)))
+}
+
+// ── The header ──
+
+pub fn is_close(body: Body) -> bool
+    ensures { λ r. ⌜ r ≡ isClose body ⌝ }
+{
+    match body {
+        Body::Order(_) => false,
+        Body::Cancel(_) => false,
+        Body::Quote(_) => false,
+        Body::Close => true,
+    }
+}
+
+// The lowest of refusals 4 to 7 that the header gets, or 0. The difference of the numbers is taken, so that the last number may
+// be the largest of four bytes.
+pub fn header_refusal(a: Accepted, c: Command) -> u8
+    ensures { λ r. ⌜ r ≡ firstOf (headerRefusals (bookWith a) c) ⌝ }
+{
+    let number = c.number;
+    let time = c.time;
+    let body = c.body;
+    let closing = is_close(body);
+    if number.0 <= a.last.0 {
+        return 4;
+    }
+    if 1 < number.0 - a.last.0 {
+        return 5;
+    }
+    if a.closed {
+        return 6;
+    }
+    if (time < a.time)
+        | (time < OPENING)
+        | (closing & (CLOSING < time))
+        | (!closing & (CLOSING <= time))
+    {
+        return 7;
+    }
+    0
+}
+
+// ── The fields of a body ──
+
+// Refusal 9 of an order: side, shares and price.
+pub fn order_in_range(o: Order) -> bool
+    ensures { λ r. ⌜ r ≡ orderInRange o ⌝ }
+{
+    let market = has(o.word, rules::MARKET);
+    let price = o.price;
+    let shares = o.shares;
+    (o.side <= 1) & shares.in_range() & ((market & (price.0 == 0)) | (!market & price.in_range()))
+}
+
+// Refusal 9 of a quote: an away price is 0 or in range.
+pub fn away_in_range(p: Cents) -> bool
+    ensures { λ r. ⌜ r ≡ awayInRange p ⌝ }
+{
+    (p.0 == 0) | p.in_range()
+}

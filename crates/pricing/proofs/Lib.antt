@@ -1,0 +1,2 @@
+pub mod LawsBound
+pub mod Determined

@@ -1,0 +1,2 @@
+pub mod LawsReports
+pub mod Determined

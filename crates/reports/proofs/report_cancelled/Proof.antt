@@ -1,0 +1,108 @@
+-- `reports::report_cancelled` meets its contract. The loop's invariant: the lines of the orders passed stand at the front of the buffer.
+-- Assumes nothing.
+use Prim.Native.Nat.{_*_, _-_, _≤_}
+use mathlib.Core.List.{map}
+use mathlib.Core.Path.{_≡_, refl, ap, _∙_}
+use lib.ListN.{length, getD, take, drop}
+use lib.Seq.{take-all}
+use native.Mathlib.Omega.{arith}
+use borrow.Author.Needs.{needs}
+use denote.Ref.{now}
+use Rattle.basics.specs.Bytes.{onto}
+use Rattle.rows.specs.Table.{side}
+use Rattle.rows.proofs.LawsTable.{length-side, row-side}
+use Rattle.rules.specs.declared.Resting.{Resting}
+use Rattle.rules.specs.Book.{unused}
+use Rattle.rules.specs.EventLines.{eventLine, eventLines}
+use Rattle.rules.proofs.LawsEvents.{cancelled-length}
+use Rattle.reports.specs.Reports.{cancelledFor}
+use Rattle.reports.proofs.LawsReports.{lines-turn}
+use Rattle.reports.proofs.report_cancelled.Statement.{statement}
+use Rattle.reports.proofs.report_cancelled.Tie as tie
+
+abbrev Inv-loop : tie.InvT-loop
+Inv-loop t n reason out₀ len₀ i₀ out len i =
+    (i ≤ n) × (len ≡ 21 * i) × (length out ≡ length out₀) × (out ≡ onto (eventLines (map (cancelledFor reason) (take i (side n t)))) out₀)
+
+abbrev μ-loop : tie.MeasureT-loop
+μ-loop t n reason out₀ len₀ i₀ out len i = n - i
+
+loop-holds : tie.Need-loop-holds Inv-loop μ-loop
+unfolding onto eventLines
+loop-holds c = (omega arith, omega arith, refl, refl)
+
+row-requires : tie.Need-row-requires Inv-loop μ-loop
+row-requires c κs = search needs
+
+sub-write-cancelled : tie.Need-sub-write-cancelled Inv-loop μ-loop
+sub-write-cancelled c = search needs
+
+part-write-cancelled-start : tie.Need-part-write-cancelled-start Inv-loop μ-loop
+part-write-cancelled-start c = search needs
+
+part-write-cancelled-end : tie.Need-part-write-cancelled-end Inv-loop μ-loop
+part-write-cancelled-end c = search needs
+
+write-cancelled-requires : tie.Need-write-cancelled-requires Inv-loop μ-loop
+write-cancelled-requires c κs = search needs
+
+add-len : tie.Need-add-len Inv-loop μ-loop
+add-len c = search needs
+
+add-i : tie.Need-add-i Inv-loop μ-loop
+add-i c = search needs
+
+loop-less : tie.Need-loop-less Inv-loop μ-loop
+loop-less c = search needs
+
+loop-again : tie.Need-loop-again Inv-loop μ-loop
+loop-again c =
+    let w = c .before .before .write-cancelled in
+    let read = c .before .before .before .before in
+    let l = read .before .before .loop in
+    let start = read .before .before .before .before in
+    let a = start .args in
+    let held = start .pre .0 in
+    let s = side (a .n) (now (a .t)) in
+    let long = length-side (a .n) (now (a .t)) held in
+    let o : read .row .result ≡ getD s (l .i) unused = read .row .ensures ∙ row-side (a .n) (now (a .t)) held (l .i) (omega arith) in
+    let n : w .result ≡ 21 = w .ensures .0 in
+    let p : w .last .0 ≡ onto (eventLine ((cancelledFor (a .reason)) (getD s (l .i) unused))) (take (length (l .out) - l .len) (drop (l .len) (l .out))) =
+    w .ensures .1 ∙ ap (λ (x : Resting). onto (eventLine ((cancelledFor (a .reason)) x)) (take (length (l .out) - l .len) (drop (l .len) (l .out)))) o in (
+      omega arith,
+      omega arith,
+      search needs,
+      lines-turn (cancelledFor (a .reason)) 21 (λ h. cancelled-length (h .number) (h .shares) (a .reason)) s (l .i) (l .len) (l .out) (now (a .out)) (w .last .0) (omega arith) (l .inv .1) (l .inv .3) p,
+    )
+
+same-length : tie.Need-same-length Inv-loop μ-loop
+same-length c = search needs
+
+returns : tie.Need-returns Inv-loop μ-loop
+returns c =
+    let l = c .before .loop in
+    let start = c .before .before .before in
+    let a = start .args in
+    let s = side (a .n) (now (a .t)) in
+    let long = length-side (a .n) (now (a .t)) (start .pre .0) in
+    let all : take (l .i) s ≡ s = take-all (l .i) s (omega arith) in
+    (omega arith, rw all at (l .inv .3))
+
+pub report-cancelled-spec : {M : Type 1} → statement M
+report-cancelled-spec =
+    tie.close
+    (tie.spec
+    Inv-loop
+    μ-loop
+    loop-holds
+    row-requires
+    sub-write-cancelled
+    part-write-cancelled-start
+    part-write-cancelled-end
+    write-cancelled-requires
+    add-len
+    add-i
+    loop-less
+    loop-again
+    same-length
+    returns)
