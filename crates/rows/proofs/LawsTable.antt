@@ -69,6 +69,14 @@ side-tableOf s =
 pub holds-tableOf : (s : List Resting) → length s ≤ placesASide → Holds (length s) (tableOf s)
 holds-tableOf s h = record { fits = h; table = ap tableOf (sym (side-tableOf s)) }
 
+-- the same of a table that a call left: it is the table of s, which has n orders
+module _ (n : ℕ) (t : List (List ℕ)) (s : List Resting) (long : length s ≡ n) (most : n ≤ placesASide) (is : t ≡ tableOf s) where
+  pub side-as : side n t ≡ s
+  side-as = rw (is, ← long) (side-tableOf s)
+
+  pub holds-as : Holds n t
+  holds-as = record { fits = most; table = is ∙ ap tableOf (sym side-as) }
+
 -- ── What the moves of rows make of the table of a side ──
 
 module _ (n : ℕ) (t : List (List ℕ)) (s : List Resting) (long : length s ≡ n) (most : n ≤ placesASide) (all : t ≡ tableOf s) where

@@ -130,6 +130,9 @@ pub fn drop_first(t: &mut [[u32; 4]; PLACES], n: usize, k: usize)
     requires { ⌜ Holds n (now t) × (k ≤ n) ⌝ }
     ensures { λ _. ⌜ now (t .exit) ≡ tableOf (drop k (side n (now (t .entry)))) ⌝ }
 {
+    if k == 0 {
+        return;
+    }
     whole(t);
     move_down(t, n, k);
     zero_rows(t, n - k, n);

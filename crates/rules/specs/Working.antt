@@ -140,12 +140,15 @@ unlessPostOnlyMeets o opposite (Rests price) =
 unlessPostOnlyMeets o opposite (Cancels reason) = Cancels reason
 
 -- 2. "the whole order is cancelled, reason 3." 3. "A remainder of IOC is cancelled, reason 2."
-unfoldable pub ending : Order → Away → List Resting → Ending
-ending o away opposite =
-    if eqb (remainder o away opposite) 0 then Filled
+unfoldable pub endingWith : ℕ → Order → Away → List Resting → Ending
+endingWith left o away opposite =
+    if eqb left 0 then Filled
     else if has (o .word) fok then Cancels fokKilled
     else if has (o .word) ioc then Cancels iocRemainder
     else unlessPostOnlyMeets o opposite (seeks o away)
+
+unfoldable pub ending : Order → Away → List Resting → Ending
+ending o away opposite = endingWith (remainder o away opposite) o away opposite
 
 -- "Executions come first, then at most one `12` or `13`."
 abbrev pub lastLine : Number → ℕ → Ending → List Event

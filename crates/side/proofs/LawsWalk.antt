@@ -1,5 +1,5 @@
 -- Laws of where a walk stops: its turns over a table, and that it stands for the walk of 01. Assumes nothing.
-use Prim.Native.Nat.{ℕ, zero, suc, _+_, _-_, _≤_, _<_, min}
+use Prim.Native.Nat.{ℕ, suc, _+_, _-_, _≤_, _<_, min}
 use mathlib.Core.Bool.{Bool, true, false}
 use mathlib.Core.List.{List, [], _∷_}
 use mathlib.Core.Logic.{⊎-elim}
@@ -7,13 +7,15 @@ use mathlib.Core.Path.{_≡_, refl, ap}
 use lib.Dec.{ltb}
 use lib.ListN.{length, getD}
 use native.Mathlib.Omega.{arith}
-use borrow.Author.Tests.{lt-ltb, le-ltb}
-use Rattle.basics.specs.Lists.{total}
+use borrow.Author.Tests.{lt-ltb, le-ltb, ltb-true}
+use Rattle.basics.specs.Choice.{if_then_else_}
+use Rattle.basics.specs.Lists.{total, All, none, also}
 use Rattle.basics.proofs.LawsChoice.{holds-or-not, lt-or-le}
 use Rattle.rules.specs.declared.Resting.{Resting}
+use Rattle.rules.specs.Book.{unused}
 use Rattle.rules.specs.Working.{nothing, walk, smaller}
 use Rattle.rows.specs.Table.{orderOf}
-use Rattle.side.specs.Walk.{stop, stopOf}
+use Rattle.side.specs.Walk.{stop, stopOf, tookTo}
 use Rattle.side.proofs.LawsPlaces.{ahead, ahead-end, ahead-next}
 
 -- ── One turn of the loop that walks the first n rows of a table ──
@@ -39,11 +41,10 @@ module _ (may : Resting → Bool) (n : ℕ) (t : List (List ℕ)) (at want : ℕ
 
 -- ── The walk that a stop stands for ──
 
--- the takings: the first k give all, the next gives the part, the others nothing
-unfoldable pub tookTo : ℕ → ℕ → List Resting → List ℕ
-tookTo k part [] = []
-tookTo zero part (h ∷ s) = part ∷ nothing s
-tookTo (suc k) part (h ∷ s) = h .shares .0 ∷ tookTo k part s
+pub nothing-total : (s : List Resting) → total (nothing s) ≡ 0
+unfolding nothing total
+nothing-total [] = refl
+nothing-total (h ∷ s) = omega (arith, nothing-total s)
 
 module _ (may : Resting → Bool) where
   -- with nothing left nobody gives
@@ -56,11 +57,6 @@ module _ (may : Resting → Bool) where
       (λ (t : may h ≡ true). rw (t, e) (ap (λ (l : List ℕ). 0 ∷ l) (walk-nothing s)))
       (λ (t : may h ≡ false). rw t)
       (holds-or-not (may h))
-
-  nothing-total : (s : List Resting) → total (nothing s) ≡ 0
-  unfolding nothing total
-  nothing-total [] = refl
-  nothing-total (h ∷ s) = omega (arith, nothing-total s)
 
   stop-later : (i want : ℕ) (s : List Resting) → i ≤ stopOf may i want s .at
   unfolding stopOf
@@ -132,3 +128,45 @@ module _ (may : Resting → Bool) where
       (holds-or-not (ltb want (h .shares .0))))
       (λ (t : may h ≡ false). rw t (omega arith))
       (holds-or-not (may h))
+
+  -- where it takes a part, there is an order at the place, and that order keeps some
+  stop-keeps-from : (i want : ℕ) (s : List Resting) → 0 < stopOf may i want s .part .0
+      → (stopOf may i want s .at - i < length s) × (stopOf may i want s .part .0 < getD s (stopOf may i want s .at - i) unused .shares .0)
+  unfolding stopOf
+  stop-keeps-from i want [] p = let z : ⊥ = omega arith in absurd z
+  stop-keeps-from i want (h ∷ s) p =
+      let z : i - i ≡ 0 = omega arith in
+      let rest = stopOf may (i + 1) (want - h .shares .0) s in
+      let k : rest .at - i ≡ suc (rest .at - (i + 1)) = omega (arith, stop-later (i + 1) (want - h .shares .0) s) in
+      ⊎-elim
+      (λ (t : may h ≡ true).
+      ⊎-elim
+      (λ (u : ltb want (h .shares .0) ≡ true). rw (t, u, z) (omega arith, ltb-true want (h .shares .0) u))
+      (λ (u : ltb want (h .shares .0) ≡ false).
+      let q : 0 < rest .part .0 = rw (t, u) at p in
+      let r = stop-keeps-from (i + 1) (want - h .shares .0) s q in
+      rw (t, u, k) (omega (arith, r .0), r .1))
+      (holds-or-not (ltb want (h .shares .0))))
+      (λ (t : may h ≡ false). let q : 0 < 0 = rw t at p in let y : ⊥ = omega arith in absurd y)
+      (holds-or-not (may h))
+
+  pub stop-keeps : (want : ℕ) (s : List Resting) → 0 < stopOf may 0 want s .part .0
+      → (stopOf may 0 want s .at < length s) × (stopOf may 0 want s .part .0 < getD s (stopOf may 0 want s .at) unused .shares .0)
+  stop-keeps want s p =
+      let z : stopOf may 0 want s .at - 0 ≡ stopOf may 0 want s .at = omega arith in
+      rw z at (stop-keeps-from 0 want s p)
+
+-- ── Two tests that agree on a side stop a walk alike ──
+
+pub walk-alike : (may also-may : Resting → Bool) (left : ℕ) {s : List Resting} → All (λ (h : Resting). may h ≡ also-may h) s
+    → walk may smaller left s ≡ walk also-may smaller left s
+unfolding walk
+walk-alike may also-may left none = refl
+walk-alike may also-may left (also {x = h} {s = s} e a) =
+    rw e
+    (ap (λ (l : List ℕ). if also-may h then smaller left h ∷ l else nothing (h ∷ s)) (walk-alike may also-may (left - smaller left h) a))
+
+pub took-nothing : (s : List Resting) → tookTo 0 0 s ≡ nothing s
+unfolding tookTo nothing
+took-nothing [] = refl
+took-nothing (h ∷ s) = refl

@@ -1,6 +1,6 @@
 -- Where a walk stops (01, Some places and their forms: "left by break with remaining shares and the place where it stopped").
 -- LawsWalk shows that this stands for the walk of 01, place by place.
-use Prim.Native.Nat.{ℕ, _+_, _-_}
+use Prim.Native.Nat.{ℕ, zero, suc, _+_, _-_}
 use mathlib.Core.Bool.{Bool, not}
 use mathlib.Core.List.{List, [], _∷_}
 use lib.Dec.{ltb}
@@ -8,7 +8,7 @@ use Rattle.basics.specs.Choice.{if_then_else_}
 use Rattle.kinds.specs.declared.Cents.{Cents}
 use Rattle.kinds.specs.Kinds.{shares}
 use Rattle.rules.specs.declared.Resting.{Resting}
-use Rattle.rules.specs.Working.{beyond}
+use Rattle.rules.specs.Working.{beyond, nothing}
 use Rattle.side.specs.declared.Stop.{Stop}
 
 -- an order's price is not beyond a bound
@@ -25,3 +25,9 @@ stopOf may i want (h ∷ s) =
     if not (may h) then stop i 0 want
     else if ltb want (h .shares .0) then stop i want 0
     else stopOf may (i + 1) (want - h .shares .0) s
+
+-- the takings: the first k give all, the next gives the part, the others nothing
+unfoldable pub tookTo : ℕ → ℕ → List Resting → List ℕ
+tookTo k part [] = []
+tookTo zero part (h ∷ s) = part ∷ nothing s
+tookTo (suc k) part (h ∷ s) = h .shares .0 ∷ tookTo k part s

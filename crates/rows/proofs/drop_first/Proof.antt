@@ -15,6 +15,9 @@ use Rattle.rows.proofs.LawsTable.{drop-table}
 use Rattle.rows.proofs.drop_first.Statement.{statement}
 use Rattle.rows.proofs.drop_first.Tie as tie
 
+returns : tie.Need-returns
+returns c = rw (c .if1 .taken) (c .before .pre .0 .table)
+
 whole-requires : tie.Need-whole-requires
 whole-requires c κs = search needs
 
@@ -27,14 +30,14 @@ sub-zero-rows c = search needs
 zero-rows-requires : tie.Need-zero-rows-requires
 zero-rows-requires c κs = search needs
 
-returns : tie.Need-returns
-returns c =
-    let a = c .before .before .before .before .before .before .args in
+returns-2 : tie.Need-returns-2
+returns-2 c =
+    let a = c .before .before .before .before .before .before .before .args in
     let f : length (now (a .t)) ≡ placesASide = c .before .before .before .before .whole .ensures in
     let x = c .before .before .move-down .last .0 in
     let e : x ≡ moved (now (a .t)) (a .k) (a .n) = c .before .before .move-down .ensures in
     let g : c .zero-rows .last .0 ≡ zeroed noRow x (a .n - a .k) (a .n) = c .zero-rows .ensures in
-    g ∙ rw e (moved-zeroed [] noRow (now (a .t)) (a .k) (a .n) (omega arith) (omega arith)) ∙ drop-table (a .n) (now (a .t)) (c .before .before .before .before .before .before .pre .0) (a .k) (omega arith)
+    g ∙ rw e (moved-zeroed [] noRow (now (a .t)) (a .k) (a .n) (omega arith) (omega arith)) ∙ drop-table (a .n) (now (a .t)) (c .before .before .before .before .before .before .before .pre .0) (a .k) (omega arith)
 
 pub drop-first-spec : {M : Type 1} → statement M
-drop-first-spec = tie.close (tie.spec whole-requires move-down-requires sub-zero-rows zero-rows-requires returns)
+drop-first-spec = tie.close (tie.spec returns whole-requires move-down-requires sub-zero-rows zero-rows-requires returns-2)

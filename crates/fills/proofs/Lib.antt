@@ -1,0 +1,2 @@
+pub mod LawsFills
+pub mod Determined

@@ -1,0 +1,3 @@
+pub mod LawsMeeting
+pub mod LawsStopping
+pub mod Determined
