@@ -1,0 +1,3 @@
+pub mod LawsMatching
+pub mod LawsMatched
+pub mod Determined
