@@ -2,13 +2,13 @@
 -- made zero, and what lies ahead of a loop. Assumes nothing.
 use Prim.Native.Nat.{ℕ, zero, suc, _+_, _-_, _≤_, _<_}
 use mathlib.Core.Path.{_≡_, refl, sym, ap, _∙_}
-use mathlib.Core.List.{List, [], _∷_, _++_, append-assoc, append-nil}
+use mathlib.Core.List.{List, [], _∷_, _++_, map, append-assoc, append-nil}
 use lib.ListN.{length, take, drop, getD, set, replicate, length-append, length-take, length-drop, length-replicate, drop-of-length-le, take-append-drop, List·getD-append}
 use lib.Seq.{take-suc, take-append-le, drop-append-le, take-append-seam, drop-append-add, getD-append-add, getD-drop, drop-cons, drop-drop, length-take-le, set-at, getD-take, append-snoc, take-take}
 use native.Mathlib.Nat.{add-zero}
 use native.Mathlib.Numerals.{add-one}
 use native.Mathlib.Omega.{arith}
-use Rattle.basics.specs.Lists.{insertAt, removeAt, moved, zeroed}
+use Rattle.basics.specs.Lists.{insertAt, removeAt, moved, zeroed, All, none, also}
 
 -- the list after the places from i to n moved one up: place i is still as it was
 abbrev pub shifted : {A : Type 0} → List A → ℕ → ℕ → List A
@@ -178,3 +178,37 @@ module _ {A : Type 0} (d : A) where
       ap (λ (x : ℕ). drop x (s ++ drop (n - k) a)) w ∙ drop-append-add s (drop (n - k) a) k ∙ (drop-drop k (n - k) a ∙ rw y) in
       let g : n - (n - k) ≡ k = omega arith in
       rw (e, f, g)
+
+-- ── Maps and parts of lists ──
+
+module _ {A B : Type 0} (f : A → B) where
+  pub map-append : (s u : List A) → map f (s ++ u) ≡ map f s ++ map f u
+  map-append [] u = refl
+  map-append (x ∷ s) u = ap (λ (l : List B). f x ∷ l) (map-append s u)
+
+  pub map-take : (k : ℕ) (s : List A) → map f (take k s) ≡ take k (map f s)
+  map-take zero s = refl
+  map-take (suc k) [] = refl
+  map-take (suc k) (x ∷ s) = ap (λ (l : List B). f x ∷ l) (map-take k s)
+
+  pub map-drop : (k : ℕ) (s : List A) → map f (drop k s) ≡ drop k (map f s)
+  map-drop zero s = refl
+  map-drop (suc k) [] = refl
+  map-drop (suc k) (x ∷ s) = map-drop k s
+
+  pub map-set : (s : List A) (k : ℕ) (x : A) → map f (set s k x) ≡ set (map f s) k (f x)
+  map-set [] k x = refl
+  map-set (y ∷ s) zero x = refl
+  map-set (y ∷ s) (suc k) x = ap (λ (l : List B). f y ∷ l) (map-set s k x)
+
+  pub map-insertAt : (k : ℕ) (x : A) (s : List A) → map f (insertAt k x s) ≡ insertAt k (f x) (map f s)
+  map-insertAt k x s = map-append (take k s) (x ∷ drop k s) ∙ rw (map-take k s, map-drop k s)
+
+  pub map-removeAt : (k : ℕ) (s : List A) → map f (removeAt k s) ≡ removeAt k (map f s)
+  map-removeAt k s = map-append (take k s) (drop (k + 1) s) ∙ rw (map-take k s, map-drop (k + 1) s)
+
+-- ── Claims on every element ──
+
+pub all-alike : {A : Type 0} {P Q : A → Type 0} → ((x : A) → P x → Q x) → {s : List A} → All P s → All Q s
+all-alike f none = none
+all-alike f (also {x = x} p a) = also (f x p) (all-alike f a)

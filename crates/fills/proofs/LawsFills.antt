@@ -14,6 +14,7 @@ use Rattle.rules.specs.declared.Event.the-variants.{Executed}
 use Rattle.rules.specs.declared.Resting.{Resting}
 use Rattle.rules.specs.Book.{unused}
 use Rattle.rules.specs.Working.{nothing, executions, after, reducedBy}
+use Rattle.soundness.proofs.LawsLeaves.{after-nothing}
 use Rattle.side.specs.Walk.{tookTo}
 
 abbrev Holding : Resting → Type 0
@@ -23,13 +24,6 @@ Holding h = 1 ≤ h .shares .0
 
 reduced-none : (h : Resting) → reducedBy 0 h ≡ h
 reduced-none h = let e : h .shares .0 - 0 ≡ h .shares .0 = omega arith in rw e
-
-after-nothing : {s : List Resting} → All Holding s → after s (nothing s) ≡ s
-unfolding after nothing
-after-nothing none = refl
-after-nothing (also {x = h} {s = s} p a) =
-    let e = ne-eqb (h .shares .0 - 0) 0 (λ (z : h .shares .0 - 0 ≡ 0). omega arith) in
-    rw (e, reduced-none h) (ap (λ (l : List Resting). h ∷ l) (after-nothing a))
 
 executions-nothing : (n : Number) (s : List Resting) → executions n s (nothing s) ≡ []
 unfolding executions nothing

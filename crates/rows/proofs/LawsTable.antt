@@ -7,39 +7,12 @@ use lib.Dec.{eqb}
 use lib.ListN.{length, getD, set, take, drop, replicate, length-append, length-take, length-drop, length-replicate, length-map, length-set, replicate-append-replicate}
 use lib.Seq.{take-at, drop-append-add, getD-take, set-append-left}
 use native.Mathlib.Omega.{arith}
+use Rattle.basics.proofs.LawsLists.{map-drop, map-set, map-insertAt, map-removeAt}
 use Rattle.basics.specs.Choice.{if_then_else_}
 use Rattle.basics.specs.Lists.{insertAt, removeAt}
 use Rattle.rules.specs.declared.Resting.{Resting}
 use Rattle.rules.specs.Book.{placesASide, unused}
 use Rattle.rows.specs.Table.{orderOf, rowOf, noRow, side, tableOf, Holds}
-
--- ── Maps and parts of lists ──
-
-module _ {A B : Type 0} (f : A → B) where
-  map-append : (s u : List A) → map f (s ++ u) ≡ map f s ++ map f u
-  map-append [] u = refl
-  map-append (x ∷ s) u = ap (λ (l : List B). f x ∷ l) (map-append s u)
-
-  map-take : (k : ℕ) (s : List A) → map f (take k s) ≡ take k (map f s)
-  map-take zero s = refl
-  map-take (suc k) [] = refl
-  map-take (suc k) (x ∷ s) = ap (λ (l : List B). f x ∷ l) (map-take k s)
-
-  map-drop : (k : ℕ) (s : List A) → map f (drop k s) ≡ drop k (map f s)
-  map-drop zero s = refl
-  map-drop (suc k) [] = refl
-  map-drop (suc k) (x ∷ s) = map-drop k s
-
-  map-set : (s : List A) (k : ℕ) (x : A) → map f (set s k x) ≡ set (map f s) k (f x)
-  map-set [] k x = refl
-  map-set (y ∷ s) zero x = refl
-  map-set (y ∷ s) (suc k) x = ap (λ (l : List B). f y ∷ l) (map-set s k x)
-
-  map-insertAt : (k : ℕ) (x : A) (s : List A) → map f (insertAt k x s) ≡ insertAt k (f x) (map f s)
-  map-insertAt k x s = map-append (take k s) (x ∷ drop k s) ∙ rw (map-take k s, map-drop k s)
-
-  map-removeAt : (k : ℕ) (s : List A) → map f (removeAt k s) ≡ removeAt k (map f s)
-  map-removeAt k s = map-append (take k s) (drop (k + 1) s) ∙ rw (map-take k s, map-drop (k + 1) s)
 
 -- ── An order and its row ──
 
@@ -50,7 +23,7 @@ flag-back false = refl
 pub order-row : (o : Resting) → orderOf (rowOf o) ≡ o
 order-row o = rw (flag-back (o .displayed))
 
-orders-rows : (s : List Resting) → map orderOf (map rowOf s) ≡ s
+pub orders-rows : (s : List Resting) → map orderOf (map rowOf s) ≡ s
 orders-rows [] = refl
 orders-rows (o ∷ s) = let e = order-row o in let h = orders-rows s in cc
 

@@ -18,7 +18,7 @@ use Rattle.rules.specs.EventLines.{eventLines, eventLine}
 use Rattle.rules.specs.Examples.{Example, examples, linesFrom, lastReturned, returnedFor, Holds, DeskExamples}
 use Rattle.rules.specs.Instructions.{lawful}
 use Rattle.rules.specs.Refusals.{refusals, lineRefusals, headerRefusals, bodyRefusals, restsOnFullSide, firstOf}
-use Rattle.rules.specs.Step.{step, answer, doneBy}
+use Rattle.rules.specs.Step.{step, stepOn, answer, doneBy}
 use Rattle.rules.specs.Working.{does, accept, cancel, quote, close, executions, after, walked, takings, remainder, ending, endingWith, seeks, walk, nothing, insert, kept, cancels}
 
 -- two lists are the same, element by element
@@ -98,7 +98,7 @@ all-of test f [] h = none
 all-of test f (x ∷ s) h = also (f x (and-left (test x) (every test s) h)) (all-of test f s (and-right (test x) (every test s) h))
 
 all-pass : every passes examples ≡ true
-unfolding every passes saysRight leavesBuys leavesSells same sameOrder examples returnedFor lastReturned linesFrom step answer doneBy does accept cancel quote close executions after walked takings remainder ending endingWith seeks walk nothing insert kept cancels total any distinct sound recordSound bookIn recordOf placesOf inRankOrder ranksBefore apart lawful refusals lineRefusals headerRefusals bodyRefusals restsOnFullSide firstOf commandIn bodyIn orderIn cancelIn quoteIn closeIn numbersFrom lineOf written eventLines eventLine digits numberIn allDigits numberAfter nibbleOf onto ones onesIn
+unfolding every passes saysRight leavesBuys leavesSells same sameOrder examples returnedFor lastReturned linesFrom step stepOn answer doneBy does accept cancel quote close executions after walked takings remainder ending endingWith seeks walk nothing insert kept cancels total any distinct sound recordSound bookIn recordOf placesOf inRankOrder ranksBefore apart lawful refusals lineRefusals headerRefusals bodyRefusals restsOnFullSide firstOf commandIn bodyIn orderIn cancelIn quoteIn closeIn numbersFrom lineOf written eventLines eventLine digits numberIn allDigits numberAfter nibbleOf onto ones onesIn
 all-pass = refl
 
 pub desk-examples : DeskExamples

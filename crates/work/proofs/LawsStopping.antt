@@ -9,9 +9,10 @@ use lib.Dec.{ltb}
 use native.Mathlib.Omega.{arith}
 use borrow.Author.Tests.{lt-ltb, le-ltb}
 use Rattle.basics.specs.Choice.{if_then_else_}
-use Rattle.basics.specs.Lists.{total, All, none, also}
+use Rattle.basics.specs.Lists.{total, All}
 use Rattle.basics.proofs.LawsChoice.{holds-or-not, lt-or-le}
 use Rattle.fills.specs.Fills.{StopsIn}
+use Rattle.basics.proofs.LawsLists.{all-alike}
 use Rattle.pricing.specs.Bound.{boundOf}
 use Rattle.pricing.proofs.LawsBound.{within-bound}
 use Rattle.rules.specs.declared.Away.{Away}
@@ -23,16 +24,12 @@ use Rattle.side.specs.Walk.{isWithin, tookTo}
 use Rattle.side.proofs.LawsWalk.{nothing-total, stop-walk, stop-left, stop-within, stop-keeps, walk-alike, took-nothing}
 use Rattle.work.specs.Stopping.{Workable, untouched, walkStop, stopFor}
 
-all-of : {P Q : Resting → Type 0} → ((h : Resting) → P h → Q h) → {s : List Resting} → All P s → All Q s
-all-of f none = none
-all-of f (also {x = h} p a) = also (f h p) (all-of f a)
-
 module _ (o : Order) (away : Away) {s : List Resting} (workable : All Workable s) where
   -- the one bound stands for the limit and the away price
   bound-walk : walk (isWithin (buying o) (boundOf o away)) smaller (o .shares .0) s ≡ walk (λ (h : Resting). mayTouch o away (h .price)) smaller (o .shares .0) s
   bound-walk =
       walk-alike (isWithin (buying o) (boundOf o away)) (λ (h : Resting). mayTouch o away (h .price)) (o .shares .0)
-      (all-of (λ h w. within-bound o away (h .price) (w .priced)) workable)
+      (all-alike (λ h w. within-bound o away (h .price) (w .priced)) workable)
 
   walk-took : tookTo (walkStop o away s .at) (walkStop o away s .part .0) s ≡ walk (λ (h : Resting). mayTouch o away (h .price)) smaller (o .shares .0) s
   walk-took = stop-walk (isWithin (buying o) (boundOf o away)) (o .shares .0) s ∙ bound-walk
@@ -93,14 +90,14 @@ module _ (o : Order) (away : Away) {s : List Resting} (workable : All Workable s
   -- and a stop is within the side
   untouched-in : StopsIn s (untouched o)
   untouched-in = record {
-    holding = all-of (λ h w. w .holds) workable;
+    holding = all-alike (λ h w. w .holds) workable;
     place = omega arith;
     keeps = λ p. let z : ⊥ = omega arith in absurd z;
   }
 
   walk-in : StopsIn s (walkStop o away s)
   walk-in = record {
-    holding = all-of (λ h w. w .holds) workable;
+    holding = all-alike (λ h w. w .holds) workable;
     place = let l = stop-within (isWithin (buying o) (boundOf o away)) 0 (o .shares .0) s in omega arith;
     keeps = stop-keeps (isWithin (buying o) (boundOf o away)) (o .shares .0) s;
   }

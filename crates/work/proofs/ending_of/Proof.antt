@@ -7,7 +7,7 @@ use denote.Ref.{now}
 use Rattle.rows.specs.Table.{side}
 use Rattle.rules.specs.Instructions.{ioc, fok, postOnly, has}
 use Rattle.rules.specs.Working.{unlessPostOnlyMeets, seeks, endingWith}
-use Rattle.work.proofs.LawsMeeting.{unless-others}
+use Rattle.soundness.proofs.LawsRests.{unless-others}
 use Rattle.work.proofs.ending_of.Statement.{statement}
 use Rattle.work.proofs.ending_of.Tie as tie
 

@@ -1,0 +1,170 @@
+-- Every answer to a line keeps a sound book sound, so a day that begins with a fresh book has no unsound one. Assumes nothing.
+use Prim.Native.Nat.{ℕ, zero, suc, _+_, _-_, _≤_}
+use mathlib.Core.Bool.{Bool, true, false, not, _&&_}
+use mathlib.Core.List.{List, [], _∷_, _++_}
+use mathlib.Core.Logic.{⊎-elim}
+use mathlib.Core.Path.{_≡_, refl}
+use lib.Dec.{eqb, leb, ltb}
+use lib.ListN.{length, replicate, length-append, length-replicate}
+use lib.Seq.{take-append-seam, drop-append-seam}
+use native.Mathlib.Omega.{arith}
+use borrow.Author.Tests.{le-leb, eq-eqb, eqb-true}
+use Rattle.basics.specs.Choice.{if_then_else_}
+use Rattle.basics.specs.Lists.{every, distinct}
+use Rattle.basics.proofs.LawsChoice.{holds-or-not, and-left, and-right}
+use Rattle.kinds.specs.declared.Number.{Number}
+use Rattle.rules.specs.declared.Away.{Away}
+use Rattle.rules.specs.declared.Body.{Body}
+use Rattle.rules.specs.declared.Body.the-variants as body
+use Rattle.rules.specs.declared.Command.{Command}
+use Rattle.rules.specs.declared.Order.{Order}
+use Rattle.rules.specs.declared.Reading.{Reading}
+use Rattle.rules.specs.declared.Reading.the-variants as reading
+use Rattle.rules.specs.declared.Resting.{Resting}
+use Rattle.rules.specs.Book.{Book, BookRecord, fresh, opening, closing, placesASide, inRankOrder, apart, awayInRange, sound, unused, isUnused, ordersIn, placesOf, bookIn, recordOf, placesSound, recordSound}
+use Rattle.rules.specs.CommandLines.{commandIn}
+use Rattle.rules.specs.Day.{bookAfter}
+use Rattle.rules.specs.Refusals.{_givenWhen_, leastRoom, firstOf, restsOnFullSide, bodyRefusals, lineRefusals, refusals}
+use Rattle.rules.specs.Step.{doneBy, answer, answerTo, step, stepOn}
+use Rattle.rules.specs.Working.{buying, oppositeSide, ending, isNumber, accept, cancel, quote, close, does}
+use Rattle.soundness.proofs.LawsAccepted.{none-given, accepted, AcceptedOrder, accepted-order, accepted-quote}
+use Rattle.soundness.proofs.LawsOrder.{accept-sides}
+use Rattle.soundness.proofs.LawsSides.{sides-of, sides-sound, all-holding, sides-thinned, sides-later}
+use Rattle.soundness.proofs.LawsSound.{Sound, sound-is, is-sound}
+use Rattle.soundness.proofs.LawsThinned.{thinned-kept}
+
+-- ── An accepted command ──
+
+module _ (b : Book) (s : Sound b) (n : Number) (time : ℕ) (next : n .0 ≡ b .last .0 + 1) (isOpen : b .closed ≡ false)
+    (opened : leb opening time ≡ true) (inTime : leb time closing ≡ true) where
+  accept-sound : (o : Order) → AcceptedOrder b o → Sound (accept n time o b .book)
+  unfolding accept restsOnFullSide
+  accept-sound o a =
+      rw isOpen
+      (sides-sound n time (b .away) opened inTime (s .bid) (s .offer) (buying o)
+      (accept-sides n o (b .away) (sides-of (buying o) b s) next (a .isLawful) (a .inRange) (a .room) (ending o (b .away) (oppositeSide (buying o) b)) refl))
+
+  cancel-sound : (of : Number) → Sound (cancel n time of b .book)
+  unfolding cancel
+  cancel-sound of =
+      let sides = sides-of true b s in
+      let less = sides-thinned sides (thinned-kept (isNumber of) (all-holding (b .last) (sides .ownInRange))) (thinned-kept (isNumber of) (all-holding (b .last) (sides .oppositeInRange))) in
+      rw isOpen (sides-sound n time (b .away) opened inTime (s .bid) (s .offer) true (sides-later less (omega (arith, next))))
+
+  quote-sound : (away : Away) → (awayInRange (away .bid) && awayInRange (away .offer)) ≡ true → Sound (quote n time away b .book)
+  unfolding quote
+  quote-sound away a =
+      rw isOpen
+      (sides-sound n time away opened inTime (and-left (awayInRange (away .bid)) (awayInRange (away .offer)) a) (and-right (awayInRange (away .bid)) (awayInRange (away .offer)) a)
+      true (sides-later (sides-of true b s) (omega (arith, next))))
+
+  close-sound : Sound (close n time b .book)
+  unfolding close every distinct inRankOrder apart
+  close-sound = record {
+    buysFit = omega arith;
+    sellsFit = omega arith;
+    buysRanked = refl;
+    sellsRanked = refl;
+    inRange = refl;
+    once = refl;
+    isApart = refl;
+    opened = opened;
+    inTime = inTime;
+    bid = s .bid;
+    offer = s .offer;
+    closedEmpty = refl;
+  }
+
+  body-sound : (c : Body) → firstOf (bodyRefusals b c) ≡ 0 → Sound (does n time c b .book)
+  unfolding does
+  body-sound (body.Order o) e = accept-sound o (accepted-order b o e)
+  body-sound (body.Cancel of) e = cancel-sound of
+  body-sound (body.Quote away) e = quote-sound away (accepted-quote b away e)
+  body-sound body.Close e = close-sound
+
+pub does-sound : (b : Book) (c : Command) → sound b ≡ true → firstOf (lineRefusals b (reading.Is c)) ≡ 0 → sound (does (c .number) (c .time) (c .body) b .book) ≡ true
+does-sound b c s e =
+    let a = accepted b c e in
+    is-sound (does (c .number) (c .time) (c .body) b .book) (body-sound b (sound-is b s) (c .number) (c .time) (a .next) (a .isOpen) (a .opened) (a .inTime) (c .body) (a .byBody))
+
+-- ── Any line ──
+
+done-sound : (b : Book) (r : Reading) → sound b ≡ true → firstOf (lineRefusals b r) ≡ 0 → sound (doneBy r b .book) ≡ true
+unfolding doneBy
+done-sound b reading.Bad s e = s
+done-sound b (reading.Is c) s e = does-sound b c s e
+
+answer-kept : (b : Book) (r : Reading) (refusal : ℕ) → sound b ≡ true → (refusal ≡ 0 → firstOf (lineRefusals b r) ≡ 0) → sound (answer refusal r b .book) ≡ true
+unfolding answer
+answer-kept b r refusal s f =
+    ⊎-elim
+    (λ (t : eqb refusal 0 ≡ true). rw t (done-sound b r s (f (eqb-true refusal 0 t))))
+    (λ (t : eqb refusal 0 ≡ false). rw t s)
+    (holds-or-not (eqb refusal 0))
+
+-- what the whole table does not refuse, the line's own part of it does not
+line-accepted : (room : ℕ) (bookSound : Bool) (b : Book) (r : Reading) → firstOf (refusals room bookSound b r) ≡ 0 → firstOf (lineRefusals b r) ≡ 0
+unfolding refusals
+line-accepted room bookSound b r e =
+    none-given 2 (not bookSound) (lineRefusals b r) (omega arith) (none-given 1 (ltb room leastRoom) (2 givenWhen not bookSound ∷ lineRefusals b r) (omega arith) e .1) .1
+
+pub answer-sound : (b : Book) (line : List ℕ) → sound b ≡ true → sound (answerTo b line .book) ≡ true
+unfolding answerTo
+answer-sound b line s =
+    answer-kept b (commandIn line) (firstOf (refusals leastRoom true b (commandIn line))) s (line-accepted leastRoom true b (commandIn line))
+
+-- ── A day ──
+
+pub fresh-sound : sound fresh ≡ true
+unfolding sound every distinct inRankOrder apart
+fresh-sound = refl
+
+pub after-sound : (b : Book) (lines : List (List ℕ)) → sound b ≡ true → sound (bookAfter b lines) ≡ true
+unfolding bookAfter
+after-sound b [] s = s
+after-sound b (line ∷ lines) s = after-sound (answerTo b line .book) lines (answer-sound b line s)
+
+-- ── The record that is lent and handed back ──
+
+-- the places of a side hold its orders, and no others
+orders-places : (s : List Resting) → ordersIn (placesOf s) ≡ s
+unfolding placesOf
+orders-places s = take-append-seam s (replicate (placesASide - length s) unused)
+
+book-record : (b : Book) → bookIn (recordOf b) ≡ b
+unfolding bookIn recordOf
+book-record b = rw (orders-places (b .buys), orders-places (b .sells))
+
+every-unused : (n : ℕ) → every isUnused (replicate n unused) ≡ true
+unfolding every
+every-unused zero = refl
+every-unused (suc n) = every-unused n
+
+places-sound : (s : List Resting) → length s ≤ placesASide → placesSound (placesOf s) ≡ true
+unfolding placesOf
+places-sound s l =
+    let unusedPlaces = replicate (placesASide - length s) unused in
+    let all : length (s ++ unusedPlaces) ≡ placesASide = simp (length-append, length-replicate) (omega arith) in
+    rw (le-leb (length s) placesASide l, eq-eqb (length (s ++ unusedPlaces)) placesASide all, drop-append-seam s unusedPlaces) (every-unused (placesASide - length s))
+
+record-sound : (b : Book) → sound b ≡ true → recordSound (recordOf b) ≡ true
+unfolding recordSound recordOf
+record-sound b s =
+    let facts = sound-is b s in
+    rw (places-sound (b .buys) (facts .buysFit), places-sound (b .sells) (facts .sellsFit), book-record b) s
+
+step-kept : (r : BookRecord) (a : Reading) (refusal : ℕ) → recordSound r ≡ true → (refusal ≡ 0 → firstOf (lineRefusals (bookIn r) a) ≡ 0)
+    → recordSound (if eqb refusal 0 then recordOf (answer refusal a (bookIn r) .book) else r) ≡ true
+unfolding recordSound
+step-kept r a refusal s f =
+    ⊎-elim
+    (λ (t : eqb refusal 0 ≡ true).
+    let held : sound (bookIn r) ≡ true = and-right (placesSound (r .buys) && placesSound (r .sells)) (sound (bookIn r)) s in
+    rw t (record-sound (answer refusal a (bookIn r) .book) (answer-kept (bookIn r) a refusal held f)))
+    (λ (t : eqb refusal 0 ≡ false). rw t s)
+    (holds-or-not (eqb refusal 0))
+
+pub step-sound : (r : BookRecord) (line out : List ℕ) → recordSound r ≡ true → recordSound (step r line out .book) ≡ true
+unfolding step stepOn
+step-sound r line out s =
+    step-kept r (commandIn line) (firstOf (refusals (length out) (recordSound r) (bookIn r) (commandIn line))) s (line-accepted (length out) (recordSound r) (bookIn r) (commandIn line))

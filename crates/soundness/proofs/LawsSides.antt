@@ -1,0 +1,219 @@
+-- The resting orders of a sound book, seen from the side of an order: its own side and the opposite one. What is thinned, and what
+-- gets one order more, stays sound. Assumes nothing.
+use Prim.Native.Nat.{ℕ, _≤_, _<_}
+use mathlib.Core.Bool.{Bool, true, false, not, _&&_}
+use mathlib.Core.List.{List, [], _∷_, _++_, map}
+use mathlib.Core.Path.{_≡_, refl}
+use lib.Dec.{eqb, leb}
+use lib.ListN.{length}
+use native.Mathlib.Omega.{arith}
+use borrow.Author.Tests.{le-leb, leb-true, ne-eqb}
+use Rattle.basics.proofs.LawsLists.{all-alike}
+use Rattle.basics.specs.Choice.{if_then_else_}
+use Rattle.basics.specs.Lists.{every, any, distinct, All, none, also}
+use Rattle.basics.proofs.LawsChoice.{and-left, and-right}
+use Rattle.kinds.specs.declared.Number.{Number}
+use Rattle.kinds.specs.Kinds.{priceInRange, sharesInRange}
+use Rattle.rules.specs.declared.Away.{Away}
+use Rattle.rules.specs.declared.Resting.{Resting}
+use Rattle.rules.specs.Book.{Book, placesASide, opening, closing, inRankOrder, restingInRange, awayInRange}
+use Rattle.rules.specs.Working.{ownSide, oppositeSide, insert}
+use Rattle.soundness.proofs.LawsApart.{Beyond, Apart, apart-all, apart-best, apart-flip, apart-thinned}
+use Rattle.soundness.proofs.LawsInsert.{Added, added-insert, added-before, added-behind, added-length, added-all, added-distinct, ranked-insert}
+use Rattle.soundness.proofs.LawsSound.{Sound}
+use Rattle.soundness.proofs.LawsThinned.{Thinned, withShares, thinned-both, thinned-length, thinned-all, thinned-ranked, thinned-distinct}
+
+-- ── Fields in range ──
+
+-- "fields in range; numbers from 1 to the last number"
+pub record InRange (last : Number) (h : Resting) : Type 0 where
+  pub fromOne : 1 ≤ h .number .0
+  pub upToLast : h .number .0 ≤ last .0
+  pub priced : priceInRange (h .price) ≡ true
+  pub holding : 1 ≤ h .shares .0
+  pub atMost : h .shares .0 ≤ 1000000
+
+range-is : (last : Number) (h : Resting) → restingInRange last h ≡ true → InRange last h
+range-is last h e =
+    let numbered = leb 1 (h .number .0) && leb (h .number .0) (last .0) in
+    let f = and-left (numbered && priceInRange (h .price)) (sharesInRange (h .shares)) e in
+    let s = and-right (numbered && priceInRange (h .price)) (sharesInRange (h .shares)) e in
+    let n = and-left numbered (priceInRange (h .price)) f in
+    record {
+      fromOne = leb-true 1 (h .number .0) (and-left (leb 1 (h .number .0)) (leb (h .number .0) (last .0)) n);
+      upToLast = leb-true (h .number .0) (last .0) (and-right (leb 1 (h .number .0)) (leb (h .number .0) (last .0)) n);
+      priced = and-right numbered (priceInRange (h .price)) f;
+      holding = leb-true 1 (h .shares .0) (and-left (leb 1 (h .shares .0)) (leb (h .shares .0) 1000000) s);
+      atMost = leb-true (h .shares .0) 1000000 (and-right (leb 1 (h .shares .0)) (leb (h .shares .0) 1000000) s);
+    }
+
+is-range : (last : Number) (h : Resting) → InRange last h → restingInRange last h ≡ true
+is-range last h r =
+    rw (le-leb 1 (h .number .0) (r .fromOne), le-leb (h .number .0) (last .0) (r .upToLast), r .priced, le-leb 1 (h .shares .0) (r .holding))
+    (le-leb (h .shares .0) 1000000 (r .atMost))
+
+ranges-first : (last : Number) (s u : List Resting) → every (restingInRange last) (s ++ u) ≡ true → All (InRange last) s
+unfolding every
+ranges-first last [] u e = none
+ranges-first last (h ∷ s) u e =
+    also (range-is last h (and-left (restingInRange last h) (every (restingInRange last) (s ++ u)) e)) (ranges-first last s u (and-right (restingInRange last h) (every (restingInRange last) (s ++ u)) e))
+
+ranges-second : (last : Number) (s u : List Resting) → every (restingInRange last) (s ++ u) ≡ true → All (InRange last) u
+unfolding every
+ranges-second last [] [] e = none
+ranges-second last [] (h ∷ u) e =
+    also (range-is last h (and-left (restingInRange last h) (every (restingInRange last) u) e)) (ranges-second last [] u (and-right (restingInRange last h) (every (restingInRange last) u) e))
+ranges-second last (h ∷ s) u e = ranges-second last s u (and-right (restingInRange last h) (every (restingInRange last) (s ++ u)) e)
+
+all-both : {P : Resting → Type 0} {s u : List Resting} → All P s → All P u → All P (s ++ u)
+all-both none b = b
+all-both (also p a) b = also p (all-both a b)
+
+ranges-every : (last : Number) {s : List Resting} → All (InRange last) s → every (restingInRange last) s ≡ true
+unfolding every
+ranges-every last none = refl
+ranges-every last (also {x = h} r a) = rw (is-range last h r) (ranges-every last a)
+
+-- ── The two sides ──
+
+-- the buys and then the sells, of an order's own side and the opposite one
+abbrev pub bothSides : Bool → List Resting → List Resting → List Resting
+bothSides buy own opposite = if buy then own ++ opposite else opposite ++ own
+
+pub record Sides (buy : Bool) (last : Number) (own opposite : List Resting) : Type 0 where
+  pub ownFits : length own ≤ placesASide
+  pub oppositeFits : length opposite ≤ placesASide
+  pub ownRanked : inRankOrder buy own ≡ true
+  pub oppositeRanked : inRankOrder (not buy) opposite ≡ true
+  pub ownInRange : All (InRange last) own
+  pub oppositeInRange : All (InRange last) opposite
+  pub once : distinct (map (λ (o : Resting). o .number .0) (bothSides buy own opposite)) ≡ true
+  pub isApart : Apart buy own opposite
+
+pub sides-of : (buy : Bool) (b : Book) → Sound b → Sides buy (b .last) (ownSide buy b) (oppositeSide buy b)
+sides-of true b s = record {
+  ownFits = s .buysFit;
+  oppositeFits = s .sellsFit;
+  ownRanked = s .buysRanked;
+  oppositeRanked = s .sellsRanked;
+  ownInRange = ranges-first (b .last) (b .buys) (b .sells) (s .inRange);
+  oppositeInRange = ranges-second (b .last) (b .buys) (b .sells) (s .inRange);
+  once = s .once;
+  isApart = apart-all (b .buys) (b .sells) (s .buysRanked) (s .sellsRanked) (s .isApart);
+}
+sides-of false b s = record {
+  ownFits = s .sellsFit;
+  oppositeFits = s .buysFit;
+  ownRanked = s .sellsRanked;
+  oppositeRanked = s .buysRanked;
+  ownInRange = ranges-second (b .last) (b .buys) (b .sells) (s .inRange);
+  oppositeInRange = ranges-first (b .last) (b .buys) (b .sells) (s .inRange);
+  once = s .once;
+  isApart = apart-flip true (b .buys) (b .sells) (apart-all (b .buys) (b .sells) (s .buysRanked) (s .sellsRanked) (s .isApart));
+}
+
+-- an open book of such sides, in the session, is sound
+module _ (n : Number) (time : ℕ) (away : Away) {own opposite : List Resting} (opened : leb opening time ≡ true) (inTime : leb time closing ≡ true)
+    (bid : awayInRange (away .bid) ≡ true) (offer : awayInRange (away .offer) ≡ true) where
+  pub sides-sound : (buy : Bool) → Sides buy n own opposite
+      → Sound (record { last = n; time = time; away = away; closed = false; buys = if buy then own else opposite; sells = if buy then opposite else own })
+  sides-sound true s = record {
+    buysFit = s .ownFits;
+    sellsFit = s .oppositeFits;
+    buysRanked = s .ownRanked;
+    sellsRanked = s .oppositeRanked;
+    inRange = ranges-every n (all-both (s .ownInRange) (s .oppositeInRange));
+    once = s .once;
+    isApart = apart-best own opposite (s .isApart);
+    opened = opened;
+    inTime = inTime;
+    bid = bid;
+    offer = offer;
+    closedEmpty = refl;
+  }
+  sides-sound false s = record {
+    buysFit = s .oppositeFits;
+    sellsFit = s .ownFits;
+    buysRanked = s .oppositeRanked;
+    sellsRanked = s .ownRanked;
+    inRange = ranges-every n (all-both (s .oppositeInRange) (s .ownInRange));
+    once = s .once;
+    isApart = apart-best opposite own (apart-flip false own opposite (s .isApart));
+    opened = opened;
+    inTime = inTime;
+    bid = bid;
+    offer = offer;
+    closedEmpty = refl;
+  }
+
+-- ── What keeps them ──
+
+pub all-holding : (last : Number) {s : List Resting} → All (InRange last) s → All (λ (h : Resting). 1 ≤ h .shares .0) s
+all-holding last a = all-alike (λ h r. r .holding) a
+
+-- lower shares stay in range
+fewer : {last : Number} (h : Resting) (left : ℕ) → 1 ≤ left → left ≤ h .shares .0 → InRange last h → InRange last (withShares left h)
+fewer h left l m r = record { fromOne = r .fromOne; upToLast = r .upToLast; priced = r .priced; holding = l; atMost = omega (arith, r .atMost) }
+
+thinned-sides : (buy : Bool) {own own′ opposite opposite′ : List Resting} → Thinned own own′ → Thinned opposite opposite′ → Thinned (bothSides buy own opposite) (bothSides buy own′ opposite′)
+thinned-sides true s t = thinned-both s t
+thinned-sides false s t = thinned-both t s
+
+added-sides : (buy : Bool) {x : Resting} {own own′ : List Resting} (opposite : List Resting) → Added x own own′ → Added x (bothSides buy own opposite) (bothSides buy own′ opposite)
+added-sides true opposite a = added-before opposite a
+added-sides false opposite a = added-behind opposite a
+
+all-sides : (buy : Bool) {P : Resting → Type 0} {own opposite : List Resting} → All P own → All P opposite → All P (bothSides buy own opposite)
+all-sides true a b = all-both a b
+all-sides false a b = all-both b a
+
+-- a number above the last is new
+new-number : (n : ℕ) {last : Number} {s : List Resting} → last .0 < n → All (InRange last) s → any (eqb n) (map (λ (o : Resting). o .number .0) s) ≡ false
+unfolding any
+new-number n l none = refl
+new-number n l (also {x = h} r a) = rw (ne-eqb n (h .number .0) (λ (e : n ≡ h .number .0). omega (arith, r .upToLast))) (new-number n l a)
+
+later-range : {last next : Number} → last .0 ≤ next .0 → (h : Resting) → InRange last h → InRange next h
+later-range l h r = record { fromOne = r .fromOne; upToLast = omega (arith, r .upToLast); priced = r .priced; holding = r .holding; atMost = r .atMost }
+
+module _ {buy : Bool} {last : Number} {own opposite : List Resting} (sides : Sides buy last own opposite) where
+  pub sides-thinned : {own′ opposite′ : List Resting} → Thinned own own′ → Thinned opposite opposite′ → Sides buy last own′ opposite′
+  sides-thinned s t = record {
+    ownFits = omega (arith, thinned-length s, sides .ownFits);
+    oppositeFits = omega (arith, thinned-length t, sides .oppositeFits);
+    ownRanked = thinned-ranked buy s (sides .ownRanked);
+    oppositeRanked = thinned-ranked (not buy) t (sides .oppositeRanked);
+    ownInRange = thinned-all fewer s (sides .ownInRange);
+    oppositeInRange = thinned-all fewer t (sides .oppositeInRange);
+    once = thinned-distinct (thinned-sides buy s t) (sides .once);
+    isApart = apart-thinned buy s t (sides .isApart);
+  }
+
+  pub sides-later : {next : Number} → last .0 ≤ next .0 → Sides buy next own opposite
+  sides-later l = record {
+    ownFits = sides .ownFits;
+    oppositeFits = sides .oppositeFits;
+    ownRanked = sides .ownRanked;
+    oppositeRanked = sides .oppositeRanked;
+    ownInRange = all-alike (later-range l) (sides .ownInRange);
+    oppositeInRange = all-alike (later-range l) (sides .oppositeInRange);
+    once = sides .once;
+    isApart = sides .isApart;
+  }
+
+  -- a new order rests: the next number, on a side that has room, apart from the opposite side
+  pub sides-added : (x : Resting) → last .0 < x .number .0 → InRange (x .number) x → length own < placesASide → Beyond buy (x .price) opposite
+      → Sides buy (x .number) (insert buy x own) opposite
+  sides-added x above range room apart =
+      let added = added-insert buy x own in
+      let l : last .0 ≤ x .number .0 = omega arith in
+      record {
+        ownFits = omega (arith, added-length added);
+        oppositeFits = sides .oppositeFits;
+        ownRanked = ranked-insert buy x own (all-alike (λ h r. λ (e : x .number .0 ≡ h .number .0). omega (arith, r .upToLast)) (sides .ownInRange)) (sides .ownRanked);
+        oppositeRanked = sides .oppositeRanked;
+        ownInRange = added-all range added (all-alike (later-range l) (sides .ownInRange));
+        oppositeInRange = all-alike (later-range l) (sides .oppositeInRange);
+        once = added-distinct (added-sides buy opposite added) (new-number (x .number .0) above (all-sides buy (sides .ownInRange) (sides .oppositeInRange))) (sides .once);
+        isApart = added-all apart added (sides .isApart);
+      }

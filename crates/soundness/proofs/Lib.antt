@@ -1,0 +1,12 @@
+pub mod LawsRank
+pub mod LawsThinned
+pub mod LawsApart
+pub mod LawsInsert
+pub mod LawsLeaves
+pub mod LawsSeeks
+pub mod LawsRests
+pub mod LawsSound
+pub mod LawsAccepted
+pub mod LawsSides
+pub mod LawsOrder
+pub mod LawsKept

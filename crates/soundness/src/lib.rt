@@ -1,0 +1,1 @@
+// Soundness of a book (01, The book).
