@@ -25,8 +25,14 @@ pub fn report_whole(
     let mut len = 0;
     let mut i = 0;
     while i < at {
-        let o = rows::row(t, i);
-        len += events::write_executed(&mut out[len..], number, o.number, o.price, o.shares);
+        let resting = rows::row(t, i);
+        len += events::write_executed(
+            &mut out[len..],
+            number,
+            resting.number,
+            resting.price,
+            resting.shares,
+        );
         i += 1;
     }
     len

@@ -1,6 +1,6 @@
 -- `digits::nibble` meets its contract: a letter's number is chosen before a decimal digit's. Assumes nothing.
 use Prim.Native.Nat.{_≤_, _-_}
-use mathlib.Core.Bool.{_&&_}
+use mathlib.Core.Bool.{true, false, _&&_}
 use mathlib.Core.Logic.{⊎-elim}
 use mathlib.Core.Path.{_≡_}
 use lib.Dec.{leb}
@@ -24,7 +24,9 @@ sub-result c =
 
 returns : tie.Need-returns
 unfolding nibbleOf
-returns c = rw (c .if2 .taken)
+returns c =
+    let letter : (leb 97 (c .before .before .args .c) && leb (c .before .before .args .c) 102) ≡ true = c .if2 .taken in
+    rw letter
 
 -- what stands in `decimal` where the ways meet
 decimal-is : (c : tie.Joined1)
@@ -33,7 +35,9 @@ decimal-is c = ⊎-elim (λ w. rw (w .0 .taken) (w .1)) (λ w. rw (w .0 .left) (
 
 returns-2 : tie.Need-returns-2
 unfolding nibbleOf
-returns-2 c = rw (c .if2 .left) (decimal-is (c .before))
+returns-2 c =
+    let no-letter : (leb 97 (c .before .before .args .c) && leb (c .before .before .args .c) 102) ≡ false = c .if2 .left in
+    rw no-letter (decimal-is (c .before))
 
 pub nibble-spec : {M : Type 1} → statement M
 nibble-spec = tie.close (tie.spec sub-decimal sub-result returns returns-2)

@@ -9,6 +9,7 @@ use Rattle.basics.specs.Bytes.{onto}
 use Rattle.rows.specs.Table.{side}
 use Rattle.rules.specs.declared.Event.{Event}
 use Rattle.rules.specs.EventLines.{eventLines}
+use Rattle.rules.specs.Instructions.{has, displayed}
 use Rattle.rules.specs.Working.{executions}
 use Rattle.side.specs.Walk.{tookTo}
 use Rattle.matching.proofs.finish.Statement.{statement}
@@ -75,7 +76,9 @@ same-length-3 c = search needs
 returns-3 : tie.Need-returns-3
 returns-3 c =
     let x = c .before .before .execute-and-rest in
-    let h = c .before .before .before .before .before .before .before .has .ensures in
+    let asked = c .before .before .before .before .before .before .before in
+    let o = asked .before .before .before .before .before .before .args .o in
+    let h : asked .has .result ≡ has (o .word) displayed = asked .has .ensures in
     rw (c .before .before .before .before .before .before .before .before .before .before .end2 .given .1, sym h)
     (x .ensures .0, (x .ensures .1 .0, (x .ensures .1 .1 .0, x .ensures .1 .1 .1)))
 

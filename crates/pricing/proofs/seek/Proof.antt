@@ -1,4 +1,5 @@
 -- `pricing::seek` meets its contract: the tests come in the definition's order. Assumes nothing.
+use Prim.Native.Nat.{_<_}
 use mathlib.Core.Bool.{true, false, not, _&&_, _||_}
 use mathlib.Core.Path.{_≡_, ap, _∙_}
 use lib.Dec.{eqb}
@@ -58,7 +59,8 @@ module _ (c : tie.After-has2) where
 less-aggressive-requires : tie.Need-less-aggressive-requires
 less-aggressive-requires c κs =
     let k = c .before .before .before .before .before .before in
-    rw (locking-is k) (k .before .before .before .before .before .pre)
+    let below : k .before .before .locking-price .result .0 < 4294967295 = rw (locking-is k) (k .before .before .before .before .before .pre) in
+    below
 
 adjust-requires : tie.Need-adjust-requires
 adjust-requires c κs = search needs

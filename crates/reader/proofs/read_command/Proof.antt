@@ -2,8 +2,8 @@
 -- on is the body's. Assumes nothing.
 use Prim.Native.Nat.{ℕ, _-_, _≤_}
 use mathlib.Core.List.{List}
-use mathlib.Core.Path.{_≡_, sym, _∙_}
-use lib.ListN.{length, drop, length-drop}
+use mathlib.Core.Path.{_≡_, sym, ap, _∙_}
+use lib.ListN.{length, take, drop, length-drop}
 use lib.Seq.{take-all}
 use native.Mathlib.Omega.{arith}
 use borrow.Author.Needs.{needs}
@@ -125,7 +125,9 @@ body-is : (c : tie.After-read-body) (r : BodyReading) → c .read-body .result �
 body-is c r e =
     let s = whole (start-time (c .before .before)) in
     let l : length (drop 18 s) ≤ length s - 18 = simp length-drop (omega arith) in
-    rw (take-all (length s - 18) (drop 18 s) l) at (sym (c .read-body .ensures) ∙ e)
+    let kind = before-number (before-time (c .before .before)) .before .kind .given .0 .0 in
+    let found : c .read-body .result ≡ bodyIn kind (take (length s - 18) (drop 18 s)) = c .read-body .ensures in
+    sym (ap (bodyIn kind) (take-all (length s - 18) (drop 18 s) l)) ∙ sym found ∙ e
 
 returns-5 : tie.Need-returns-5
 unfolding commandIn numbersFrom
