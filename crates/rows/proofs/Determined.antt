@@ -4,6 +4,7 @@ use mathlib.Core.Path.{_≡_, sym, _∙_}
 use denote.Ref.{now}
 use Rattle.rules.specs.declared.Resting.{Resting}
 use Rattle.rows.proofs.row.Reads as row
+use Rattle.rows.proofs.put_row.Reads as put-row
 use Rattle.rows.proofs.insert.Reads as insert
 use Rattle.rows.proofs.remove.Reads as remove
 use Rattle.rows.proofs.drop_first.Reads as drop-first
@@ -11,6 +12,9 @@ use Rattle.rows.proofs.reduce.Reads as reduce
 
 pub row-determined : (κs : _) (a : _) (r r′ : Resting) (s s′ : _) → row.Post κs a r s → row.Post κs a r′ s′ → r ≡ r′
 row-determined κs a r r′ s s′ p q = p ∙ sym q
+
+pub put-row-determined : (κs : _) (a : _) (r r′ : _) (s s′ : _) → put-row.Post κs a r s → put-row.Post κs a r′ s′ → now (s .0) ≡ now (s′ .0)
+put-row-determined κs a r r′ s s′ p q = p ∙ sym q
 
 pub insert-determined : (κs : _) (a : _) (r r′ : _) (s s′ : _) → insert.Post κs a r s → insert.Post κs a r′ s′ → now (s .0) ≡ now (s′ .0)
 insert-determined κs a r r′ s s′ p q = p ∙ sym q

@@ -50,7 +50,7 @@ pub fn row(t: &[[u32; 4]; PLACES], i: usize) -> Resting
     order_of(r)
 }
 
-fn put_row(t: &mut [[u32; 4]; PLACES], i: usize, o: Resting)
+pub fn put_row(t: &mut [[u32; 4]; PLACES], i: usize, o: Resting)
     requires { ⌜ i < placesASide ⌝ }
     ensures { λ _. ⌜ now (t .exit) ≡ set (now (t .entry)) i (rowOf o) ⌝ }
 {

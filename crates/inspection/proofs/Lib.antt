@@ -1,0 +1,3 @@
+pub mod LawsTurns
+pub mod LawsInspection
+pub mod Determined

@@ -1,0 +1,87 @@
+-- `inspection::all_in_range` meets its contract. The loop passes orders that are in range. Assumes nothing.
+use Prim.Native.Nat.{_+_, _-_, _≤_}
+use mathlib.Core.Bool.{true, false}
+use mathlib.Core.List.{[], _∷_}
+use mathlib.Core.Path.{_≡_, refl, sym, _∙_}
+use lib.ListN.{length}
+use native.Mathlib.Omega.{arith}
+use borrow.Author.Needs.{needs}
+use borrow.Author.Tests.{not-true, not-false}
+use denote.Ref.{now}
+use Rattle.basics.specs.Lists.{every}
+use Rattle.rules.specs.Book.{placesASide, restingInRange}
+use Rattle.rows.specs.Table.{side}
+use Rattle.side.proofs.LawsPlaces.{ahead, ahead-end, ahead-next}
+use Rattle.inspection.proofs.LawsTurns.{every-end, every-fails, every-next}
+use Rattle.inspection.proofs.all_in_range.Statement.{statement}
+use Rattle.inspection.proofs.all_in_range.Tie as tie
+
+abbrev Inv-loop : tie.InvT-loop
+Inv-loop t n last i₀ i = (i ≤ n) × (every (restingInRange last) (ahead n t i) ≡ every (restingInRange last) (side n t))
+
+abbrev μ-loop : tie.MeasureT-loop
+μ-loop t n last i₀ i = n - i
+
+whole-requires : tie.Need-whole-requires Inv-loop μ-loop
+whole-requires c κs = search needs
+
+loop-holds : tie.Need-loop-holds Inv-loop μ-loop
+loop-holds c = (search needs, refl)
+
+row-requires : tie.Need-row-requires Inv-loop μ-loop
+row-requires c κs = search needs
+
+in-range-requires : tie.Need-in-range-requires Inv-loop μ-loop
+in-range-requires c κs = search needs
+
+returns : tie.Need-returns Inv-loop μ-loop
+returns c =
+    let r = c .before .before .row in
+    let l = c .before .before .before .before .loop in
+    let a = c .before .before .before .before .before .before .args in
+    let f : length (now (a .t)) ≡ placesASide = c .before .before .before .before .before .whole .ensures in
+    let next : ahead (a .n) (now (a .t)) (l .i) ≡ r .result ∷ ahead (a .n) (now (a .t)) (l .i + 1) =
+    ahead-next (a .n) (now (a .t)) (l .i) (omega arith) (omega arith) (r .result) (r .ensures) in
+    let p : restingInRange (a .last) (r .result) ≡ false = sym (c .before .in-range .ensures) ∙ not-true _ (c .if1 .taken) in
+    sym (every-fails (restingInRange (a .last)) next p) ∙ l .inv .1
+
+add-i : tie.Need-add-i Inv-loop μ-loop
+add-i c = search needs
+
+loop-less : tie.Need-loop-less Inv-loop μ-loop
+loop-less c = search needs
+
+loop-again : tie.Need-loop-again Inv-loop μ-loop
+loop-again c =
+    let r = c .before .before .row in
+    let l = c .before .before .before .before .loop in
+    let a = c .before .before .before .before .before .before .args in
+    let f : length (now (a .t)) ≡ placesASide = c .before .before .before .before .before .whole .ensures in
+    let next : ahead (a .n) (now (a .t)) (l .i) ≡ r .result ∷ ahead (a .n) (now (a .t)) (l .i + 1) =
+    ahead-next (a .n) (now (a .t)) (l .i) (omega arith) (omega arith) (r .result) (r .ensures) in
+    let p : restingInRange (a .last) (r .result) ≡ true = sym (c .before .in-range .ensures) ∙ not-false _ (c .if1 .left) in
+    (omega arith, sym (every-next (restingInRange (a .last)) next p) ∙ l .inv .1)
+
+returns-2 : tie.Need-returns-2 Inv-loop μ-loop
+returns-2 c =
+    let l = c .before .loop in
+    let a = c .before .before .before .args in
+    let f : length (now (a .t)) ≡ placesASide = c .before .before .whole .ensures in
+    let end : ahead (a .n) (now (a .t)) (l .i) ≡ [] = ahead-end (a .n) (now (a .t)) (l .i) (omega arith) (omega arith) in
+    sym (every-end (restingInRange (a .last)) end) ∙ l .inv .1
+
+pub all-in-range-spec : {M : Type 1} → statement M
+all-in-range-spec =
+    tie.close
+    (tie.spec
+    Inv-loop
+    μ-loop
+    whole-requires
+    loop-holds
+    row-requires
+    in-range-requires
+    returns
+    add-i
+    loop-less
+    loop-again
+    returns-2)

@@ -1,0 +1,91 @@
+-- `inspection::none_on_both` meets its contract. The loop passes orders whose number the other side has not. Assumes nothing.
+use Prim.Native.Nat.{_+_, _-_, _≤_}
+use mathlib.Core.Bool.{true, false}
+use mathlib.Core.List.{[], _∷_}
+use mathlib.Core.Path.{_≡_, refl, sym, ap, _∙_}
+use lib.ListN.{length}
+use native.Mathlib.Omega.{arith}
+use borrow.Author.Needs.{needs}
+use denote.Ref.{now}
+use Rattle.basics.specs.Lists.{every}
+use Rattle.rules.specs.Book.{placesASide}
+use Rattle.rows.specs.Table.{side}
+use Rattle.side.proofs.LawsPlaces.{ahead, ahead-end, ahead-next}
+use Rattle.inspection.specs.Inspection.{numbers}
+use Rattle.inspection.proofs.LawsTurns.{noneOf, none-fails, none-passes, every-end, every-fails, every-next}
+use Rattle.inspection.proofs.none_on_both.Statement.{statement}
+use Rattle.inspection.proofs.none_on_both.Tie as tie
+
+abbrev Inv-loop : tie.InvT-loop
+Inv-loop t n other m i₀ i = (i ≤ n) × (every (noneOf (numbers (side m other))) (numbers (ahead n t i)) ≡ every (noneOf (numbers (side m other))) (numbers (side n t)))
+
+abbrev μ-loop : tie.MeasureT-loop
+μ-loop t n other m i₀ i = n - i
+
+whole-requires : tie.Need-whole-requires Inv-loop μ-loop
+whole-requires c κs = search needs
+
+loop-holds : tie.Need-loop-holds Inv-loop μ-loop
+loop-holds c = (search needs, refl)
+
+row-requires : tie.Need-row-requires Inv-loop μ-loop
+row-requires c κs = search needs
+
+has-number-requires : tie.Need-has-number-requires Inv-loop μ-loop
+has-number-requires c κs = search needs
+
+returns : tie.Need-returns Inv-loop μ-loop
+returns c =
+    let r = c .before .before .row in
+    let l = c .before .before .before .before .loop in
+    let a = c .before .before .before .before .before .before .args in
+    let f : length (now (a .t)) ≡ placesASide = c .before .before .before .before .before .whole .ensures in
+    let next : ahead (a .n) (now (a .t)) (l .i) ≡ r .result ∷ ahead (a .n) (now (a .t)) (l .i + 1) =
+    ahead-next (a .n) (now (a .t)) (l .i) (omega arith) (omega arith) (r .result) (r .ensures) in
+    let there = c .before .has-number in
+    let others = numbers (side (a .m) (now (a .other))) in
+    let p : noneOf others (r .result .number .0) ≡ false = none-fails others (r .result .number .0) (there .result) (there .ensures) (c .if1 .taken) in
+    sym (every-fails (noneOf others) (ap numbers next) p) ∙ l .inv .1
+
+add-i : tie.Need-add-i Inv-loop μ-loop
+add-i c = search needs
+
+loop-less : tie.Need-loop-less Inv-loop μ-loop
+loop-less c = search needs
+
+loop-again : tie.Need-loop-again Inv-loop μ-loop
+loop-again c =
+    let r = c .before .before .row in
+    let l = c .before .before .before .before .loop in
+    let a = c .before .before .before .before .before .before .args in
+    let f : length (now (a .t)) ≡ placesASide = c .before .before .before .before .before .whole .ensures in
+    let next : ahead (a .n) (now (a .t)) (l .i) ≡ r .result ∷ ahead (a .n) (now (a .t)) (l .i + 1) =
+    ahead-next (a .n) (now (a .t)) (l .i) (omega arith) (omega arith) (r .result) (r .ensures) in
+    let there = c .before .has-number in
+    let others = numbers (side (a .m) (now (a .other))) in
+    let p : noneOf others (r .result .number .0) ≡ true = none-passes others (r .result .number .0) (there .result) (there .ensures) (c .if1 .left) in
+    (omega arith, sym (every-next (noneOf others) (ap numbers next) p) ∙ l .inv .1)
+
+returns-2 : tie.Need-returns-2 Inv-loop μ-loop
+returns-2 c =
+    let l = c .before .loop in
+    let a = c .before .before .before .args in
+    let f : length (now (a .t)) ≡ placesASide = c .before .before .whole .ensures in
+    let end : ahead (a .n) (now (a .t)) (l .i) ≡ [] = ahead-end (a .n) (now (a .t)) (l .i) (omega arith) (omega arith) in
+    sym (every-end (noneOf (numbers (side (a .m) (now (a .other))))) (ap numbers end)) ∙ l .inv .1
+
+pub none-on-both-spec : {M : Type 1} → statement M
+none-on-both-spec =
+    tie.close
+    (tie.spec
+    Inv-loop
+    μ-loop
+    whole-requires
+    loop-holds
+    row-requires
+    has-number-requires
+    returns
+    add-i
+    loop-less
+    loop-again
+    returns-2)

@@ -1,0 +1,33 @@
+-- The clauses of `sound`, in the groups in which a book's header and its two tables are inspected. LawsInspection shows that
+-- together they are `recordSound`.
+use Prim.Native.Nat.{ℕ}
+use mathlib.Core.Bool.{Bool, not, _&&_, _||_}
+use mathlib.Core.List.{List, map}
+use lib.Dec.{eqb, leb}
+use lib.ListN.{drop}
+use Rattle.basics.specs.Lists.{every, distinct}
+use Rattle.kinds.specs.declared.Number.{Number}
+use Rattle.rules.specs.declared.Resting.{Resting}
+use Rattle.rules.specs.Book.{opening, closing, awayInRange, isUnused, inRankOrder, restingInRange}
+use Rattle.rows.specs.Table.{orderOf, side}
+use Rattle.tables.specs.declared.Head.{Head}
+
+abbrev pub numbers : List Resting → List ℕ
+numbers s = map (λ (o : Resting). o .number .0) s
+
+-- what is said of the header alone
+abbrev pub headSound : Head → Bool
+headSound h =
+    leb opening (h .time)
+    && leb (h .time) closing
+    && awayInRange (h .away .bid)
+    && awayInRange (h .away .offer)
+    && (not (h .closed) || (eqb (h .buys) 0 && eqb (h .sells) 0))
+
+-- what is said of one side alone, the unused places with it
+abbrev pub sideSound : Bool → Number → ℕ → List (List ℕ) → Bool
+sideSound buy last n t =
+    inRankOrder buy (side n t)
+    && every (restingInRange last) (side n t)
+    && every isUnused (drop n (map orderOf t))
+    && distinct (numbers (side n t))

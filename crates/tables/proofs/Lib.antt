@@ -1,0 +1,2 @@
+pub mod LawsCopied
+pub mod Determined

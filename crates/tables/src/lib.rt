@@ -1,0 +1,43 @@
+// The book as a small header by value and two lent tables of rows, the form in which commands are worked. The places of a side
+// are loaded into a table once, and saved once.
+use kinds::Number;
+use rows::PLACES;
+use rules::Away;
+use rules::Resting;
+ghost use mathlib.Core.List.{map};
+ghost use mathlib.Core.Path.{_≡_};
+ghost use Rattle.rows.specs.Table.{orderOf, rowOf};
+
+// All of a book but its orders: of these, how many each side holds.
+pub struct Head {
+    pub last: Number,
+    pub time: u32,
+    pub away: Away,
+    pub closed: bool,
+    pub buys: usize,
+    pub sells: usize,
+}
+
+// The places of a side as rows.
+pub fn load(t: &mut [[u32; 4]; PLACES], places: [Resting; PLACES])
+    ensures { λ _. ⌜ now (t .exit) ≡ map rowOf places ⌝ }
+{
+    rows::whole(t);
+    for i in 0..PLACES {
+        let o = places[i];
+        rows::put_row(t, i, o);
+    }
+}
+
+// The rows as places of a side.
+pub fn save(t: &[[u32; 4]; PLACES]) -> [Resting; PLACES]
+    ensures { λ r. ⌜ r ≡ map orderOf (now (t .entry)) ⌝ }
+{
+    rows::whole(t);
+    let mut places = [rows::UNUSED; PLACES];
+    for i in 0..PLACES {
+        let o = rows::row(t, i);
+        places[i] = o;
+    }
+    places
+}
