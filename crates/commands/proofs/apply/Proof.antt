@@ -1,0 +1,105 @@
+-- `commands::apply` meets its contract: the header is judged, and then an arm for each body. Assumes nothing.
+use native.Mathlib.Omega.{arith}
+use borrow.Author.Needs.{needs}
+use denote.Ref.{now}
+use Rattle.rules.specs.declared.Body.the-variants as body
+use Rattle.tables.specs.Tables.{bookOn}
+use Rattle.commands.proofs.LawsAnswers.{left-refused}
+use Rattle.commands.proofs.LawsCommand.{header-refused, left-passed, left-quoted}
+use Rattle.commands.proofs.apply.Statement.{statement}
+use Rattle.commands.proofs.apply.Tie as tie
+
+header-refusal-requires : tie.Need-header-refusal-requires
+header-refusal-requires c κs = search needs
+
+returns : tie.Need-returns
+returns c =
+    let a = c .before .before .before .before .before .args in
+    let b = bookOn (a .h) (now (a .buys)) (now (a .sells)) in
+    let k = c .before .header-refusal in
+    left-refused (a .h) (now (a .buys)) (now (a .sells)) (c .before .before .before .before .before .pre .0) (k .result) (now (a .out)) _
+    (header-refused (a .c) b (k .result) (k .ensures) (omega (arith, c .if1 .taken)))
+
+enum-known-body : tie.Need-enum-known-body
+enum-known-body c = search needs
+
+enter-requires : tie.Need-enter-requires
+enter-requires c κs = c .before .before .before .before .before .before .before .before .before .before .before .pre
+
+enum-known-body-2 : tie.Need-enum-known-body-2
+enum-known-body-2 c = search needs
+
+cancel-requires : tie.Need-cancel-requires
+cancel-requires c κs = c .before .before .before .before .before .before .before .before .before .before .before .pre
+
+enum-known-body-3 : tie.Need-enum-known-body-3
+enum-known-body-3 c = search needs
+
+quote-requires : tie.Need-quote-requires
+quote-requires c κs = c .before .before .before .before .before .before .before .before .before .before .pre .0
+
+enum-told : tie.Need-enum-told
+enum-told c = search needs
+
+close-requires : tie.Need-close-requires
+close-requires c κs = c .before .before .before .before .before .before .before .before .before .before .pre
+
+same-length : tie.Need-same-length
+same-length c = search needs
+
+returns-2 : tie.Need-returns-2
+returns-2 c =
+    let a = c .before .before .before .before .before .before .before .before .before .before .before .before .before .before .args in
+    let b = bookOn (a .h) (now (a .buys)) (now (a .sells)) in
+    let k = c .before .before .before .before .before .before .before .before .before .before .header-refusal in
+    left-passed (a .c) b (k .result) _ (c .before .before .before .before .before .before .before .body .given .1) (k .ensures) (c .before .before .before .before .before .before .before .before .before .if1 .left) _ _ _ _ (now (a .out)) (c .before .before .enter .ensures)
+
+same-length-2 : tie.Need-same-length-2
+same-length-2 c = search needs
+
+returns-3 : tie.Need-returns-3
+returns-3 c =
+    let a = c .before .before .before .before .before .before .before .before .before .before .before .before .before .before .args in
+    let b = bookOn (a .h) (now (a .buys)) (now (a .sells)) in
+    let k = c .before .before .before .before .before .before .before .before .before .before .header-refusal in
+    left-passed (a .c) b (k .result) _ (c .before .before .before .before .before .before .before .body2 .given .1) (k .ensures) (c .before .before .before .before .before .before .before .before .before .if1 .left) _ _ _ _ (now (a .out)) (c .before .before .cancel .ensures)
+
+returns-4 : tie.Need-returns-4
+returns-4 c =
+    let a = c .before .before .before .before .before .before .before .before .before .before .before .args in
+    let b = bookOn (a .h) (now (a .buys)) (now (a .sells)) in
+    let k = c .before .before .before .before .before .before .before .header-refusal in
+    left-passed (a .c) b (k .result) _ (c .before .before .before .before .body3 .given .1) (k .ensures) (c .before .before .before .before .before .before .if1 .left) _ _ _ _ (now (a .out))
+    (left-quoted (a .h) (now (a .buys)) (now (a .sells)) (c .before .before .before .before .before .before .before .before .before .before .before .pre .0) (a .c .number) (a .c .time) _ (now (a .out)) _ (c .quote .ensures))
+
+same-length-3 : tie.Need-same-length-3
+same-length-3 c = search needs
+
+returns-5 : tie.Need-returns-5
+returns-5 c =
+    let a = c .before .before .before .before .before .before .before .before .before .before .before .before .before .args in
+    let b = bookOn (a .h) (now (a .buys)) (now (a .sells)) in
+    let k = c .before .before .before .before .before .before .before .before .before .header-refusal in
+    left-passed (a .c) b (k .result) body.Close (c .before .before .before .before .before .before .enum-told .given .1) (k .ensures) (c .before .before .before .before .before .before .before .before .if1 .left) _ _ _ _ (now (a .out)) (c .before .before .close .ensures)
+
+pub apply-spec : {M : Type 1} → statement M
+apply-spec =
+    tie.close
+    (tie.spec
+    header-refusal-requires
+    returns
+    enum-known-body
+    enter-requires
+    enum-known-body-2
+    cancel-requires
+    enum-known-body-3
+    quote-requires
+    enum-told
+    close-requires
+    same-length
+    returns-2
+    same-length-2
+    returns-3
+    returns-4
+    same-length-3
+    returns-5)
