@@ -1,0 +1,82 @@
+-- What a command leaves in the tables is what a step over the record returns. Assumes nothing.
+use Prim.Native.Nat.{ℕ, _≤_}
+use mathlib.Core.Bool.{true}
+use mathlib.Core.List.{List, []}
+use mathlib.Core.Logic.{_≢_}
+use mathlib.Core.Path.{_≡_, sym, ap, _∙_}
+use lib.Dec.{eqb}
+use lib.ListN.{length}
+use borrow.Author.Tests.{ne-eqb}
+use Rattle.basics.specs.Bytes.{onto}
+use Rattle.basics.specs.Choice.{if_then_else_}
+use Rattle.rules.specs.declared.Command.{Command}
+use Rattle.rules.specs.declared.Reading.the-variants as reading
+use Rattle.rules.specs.Book.{Book, BookRecord, bookIn, recordOf, recordSound}
+use Rattle.rules.specs.EventLines.{eventLines}
+use Rattle.rules.specs.Refusals.{leastRoom}
+use Rattle.rules.specs.Step.{Answer, Returned, answer, stepOn}
+use Rattle.tables.specs.declared.Head.{Head}
+use Rattle.tables.specs.Tables.{bookOn, recordOn}
+use Rattle.commands.specs.declared.Step.{Step}
+use Rattle.commands.specs.Commands.{answerOf}
+use Rattle.commands.proofs.LawsAnswers.{Left}
+use Rattle.book.specs.declared.Book as value
+use Rattle.book.specs.declared.Reply.{Reply}
+use Rattle.book.specs.Record.{recordIn, bookWith, replyOf}
+use Rattle.book.proofs.LawsRecord.{saved-as}
+use Rattle.book.proofs.LawsStep.{step-answer}
+
+-- a refusal has no event
+no-event : (c : Command) (b : Book) → answerOf c b .refusal ≢ 0 → answerOf c b .events ≡ []
+unfolding answerOf answer
+no-event c b e = rw (ne-eqb _ 0 e)
+
+abbrev reply : ℕ → ℕ → value.Book → Reply
+reply refusal length book = record { refusal = refusal; length = length; book = book }
+
+reply-is : {refusal length length′ : ℕ} {book book′ : value.Book} → length ≡ length′ → book ≡ book′ → reply refusal length book ≡ reply refusal length′ book′
+reply-is e f = rw (e, f)
+
+-- an answer on a record, as a step returns it
+abbrev returned : BookRecord → List ℕ → Answer → Returned
+returned r out a = record {
+  refusal = a .refusal;
+  length = length (eventLines (a .events));
+  book = if eqb (a .refusal) 0 then recordOf (a .book) else r;
+  out = onto (eventLines (a .events)) out;
+}
+
+module _ (b : value.Book) (c : Command) (out : List ℕ) (isSound : recordSound (recordIn b) ≡ true) (room : leastRoom ≤ length out) (h : Head) (t u : List (List ℕ))
+    (stood : bookOn h t u ≡ bookIn (recordIn b)) (s : Step) (t′ u′ : List (List ℕ)) (out′ : List ℕ) (left : Left s t′ u′ out′ out (answerOf c (bookOn h t u))) where
+  it : Answer
+  it = answerOf c (bookIn (recordIn b))
+
+  left-it : Left s t′ u′ out′ out it
+  unfolding it
+  left-it = rw (← stood) left
+
+  returns-it : stepOn (recordIn b) (reading.Is c) out ≡ returned (recordIn b) out it
+  unfolding it
+  returns-it = step-answer (recordIn b) out c isSound room
+
+  refusal-is : s .refusal ≡ it .refusal
+  refusal-is = ap (λ (x : Step). x .refusal) (left-it .0)
+
+  out-is : out′ ≡ stepOn (recordIn b) (reading.Is c) out .out
+  out-is = left-it .1 .1 .1 ∙ ap (λ (x : Returned). x .out) (sym returns-it)
+
+  pub work-refused : s .refusal ≢ 0
+      → (reply (s .refusal) 0 b ≡ replyOf (stepOn (recordIn b) (reading.Is c) out)) × (out′ ≡ stepOn (recordIn b) (reading.Is c) out .out)
+  unfolding it eventLines
+  work-refused e =
+      let f : it .refusal ≢ 0 = λ z. e (refusal-is ∙ z) in
+      let g : it .events ≡ [] = no-event c (bookIn (recordIn b)) f in
+      (rw (returns-it, refusal-is, ne-eqb (it .refusal) 0 f, g), out-is)
+
+  pub work-done : s .refusal ≡ 0 → (x : value.Book) → x ≡ bookWith (recordOn (s .head) t′ u′)
+      → (reply 0 (s .length) x ≡ replyOf (stepOn (recordIn b) (reading.Is c) out)) × (out′ ≡ stepOn (recordIn b) (reading.Is c) out .out)
+  work-done e x saved =
+      let z : it .refusal ≡ 0 = sym refusal-is ∙ e in
+      let long : s .length ≡ length (eventLines (it .events)) = ap (λ (y : Step). y .length) (left-it .0) in
+      let book : recordOn (s .head) t′ u′ ≡ recordOf (it .book) = saved-as (it .book) (s .head) t′ u′ (ap (λ (y : Step). y .head) (left-it .0)) (left-it .1 .0) (left-it .1 .1 .0) in
+      (reply-is long (saved ∙ ap bookWith book) ∙ rw (returns-it, z), out-is)

@@ -1,0 +1,4 @@
+pub mod LawsRecord
+pub mod LawsStep
+pub mod LawsWork
+pub mod Determined

@@ -1,0 +1,47 @@
+-- The book by value and the book record of 01 are one thing, field by field; so are a reply and what a step returns.
+use Rattle.rules.specs.Book.{Places, BookRecord}
+use Rattle.rules.specs.Step.{Returned}
+use Rattle.tables.specs.declared.Head.{Head}
+use Rattle.book.specs.declared.Book.{Book}
+use Rattle.book.specs.declared.Reply.{Reply}
+use Rattle.book.specs.declared.Side.{Side}
+
+abbrev pub placesOn : Side → Places
+placesOn s = record { used = s .used; places = s .places }
+
+abbrev pub sideWith : Places → Side
+sideWith p = record { used = p .used; places = p .places }
+
+abbrev pub recordIn : Book → BookRecord
+recordIn b = record {
+  last = b .last;
+  time = b .time;
+  away = b .away;
+  closed = b .closed;
+  buys = placesOn (b .buys);
+  sells = placesOn (b .sells);
+}
+
+abbrev pub bookWith : BookRecord → Book
+bookWith r = record {
+  last = r .last;
+  time = r .time;
+  away = r .away;
+  closed = r .closed;
+  buys = sideWith (r .buys);
+  sells = sideWith (r .sells);
+}
+
+abbrev pub replyOf : Returned → Reply
+replyOf r = record { refusal = r .refusal; length = r .length; book = bookWith (r .book) }
+
+-- the header of a book by value
+abbrev pub headIn : Book → Head
+headIn b = record {
+  last = b .last;
+  time = b .time;
+  away = b .away;
+  closed = b .closed;
+  buys = b .buys .used;
+  sells = b .sells .used;
+}

@@ -1,0 +1,253 @@
+// The book, handed in by value and handed back (01, The book): fresh, sound, and a command or a line to it, over any bytes, any book
+// and any output.
+use kinds::Cents;
+use kinds::Number;
+use rows::PLACES;
+use rules::Away;
+use rules::Body;
+use rules::Command;
+use rules::Order;
+use rules::Reading;
+use rules::Resting;
+use tables::Head;
+ghost use mathlib.Core.Bool.{true, not};
+ghost use mathlib.Core.List.{[], _∷_, map};
+ghost use mathlib.Core.Path.{_≡_};
+ghost use Prim.Native.Nat.{_≤_};
+ghost use lib.Dec.{ltb};
+ghost use lib.ListN.{length};
+ghost use Rattle.rows.specs.Table.{rowOf};
+ghost use Rattle.rules.specs.Book.{fresh, recordOf, recordSound};
+ghost use Rattle.rules.specs.Refusals.{_givenWhen_, firstOf, leastRoom};
+ghost use Rattle.rules.specs.Step.{step, stepOn};
+ghost use Rattle.rules.specs.declared.Body.the-variants as body;
+ghost use Rattle.rules.specs.declared.Reading.the-variants as reading;
+ghost use Rattle.tables.specs.Tables.{recordOn};
+ghost use Rattle.book.specs.Record.{recordIn, bookWith, replyOf, headIn};
+
+// A side: its places, of which the first `used` hold resting orders in rank order; the others are zero.
+pub struct Side {
+    pub used: usize,
+    pub places: [Resting; PLACES],
+}
+
+pub struct Book {
+    pub last: Number,
+    pub time: u32,
+    pub away: Away,
+    pub closed: bool,
+    pub buys: Side,
+    pub sells: Side,
+}
+
+// What the book says back: the refusal's number or 0, the length of the event lines, and the book.
+pub struct Reply {
+    pub refusal: u8,
+    pub length: usize,
+    pub book: Book,
+}
+
+fn command(number: Number, time: u32, body: Body) -> Command
+    ensures { λ r. ⌜ r ≡ record { number = number; time = time; body = body } ⌝ }
+{
+    Command {
+        number: number,
+        time: time,
+        body: body,
+    }
+}
+
+impl Book {
+    pub fn fresh() -> Book
+        ensures { λ r. ⌜ r ≡ bookWith (recordOf fresh) ⌝ }
+    {
+        let buys = Side {
+            used: 0,
+            places: [rows::UNUSED; PLACES],
+        };
+        let sells = Side {
+            used: 0,
+            places: [rows::UNUSED; PLACES],
+        };
+        let away = Away {
+            bid: Cents(0),
+            offer: Cents(0),
+        };
+        Book {
+            last: Number(0),
+            time: judge::OPENING,
+            away: away,
+            closed: false,
+            buys: buys,
+            sells: sells,
+        }
+    }
+
+    // ── Into the tables and out of them ──
+
+    fn head(self) -> Head
+        ensures { λ r. ⌜ r ≡ headIn self ⌝ }
+    {
+        let last = self.last;
+        let away = self.away;
+        let buys = self.buys;
+        let sells = self.sells;
+        Head {
+            last: last,
+            time: self.time,
+            away: away,
+            closed: self.closed,
+            buys: buys.used,
+            sells: sells.used,
+        }
+    }
+
+    fn load(self, buys: &mut [[u32; 4]; PLACES], sells: &mut [[u32; 4]; PLACES])
+        ensures { λ _. ⌜ now (buys .exit) ≡ map rowOf (self .buys .places) ⌝ }
+        ensures { λ _. ⌜ now (sells .exit) ≡ map rowOf (self .sells .places) ⌝ }
+    {
+        let bought = self.buys;
+        let sold = self.sells;
+        let places = bought.places;
+        tables::load(buys, places);
+        let places = sold.places;
+        tables::load(sells, places);
+    }
+
+    fn save(h: Head, buys: &[[u32; 4]; PLACES], sells: &[[u32; 4]; PLACES]) -> Book
+        ensures { λ r. ⌜ r ≡ bookWith (recordOn h (now (buys .entry)) (now (sells .entry))) ⌝ }
+    {
+        let last = h.last;
+        let away = h.away;
+        let bought = Side {
+            used: h.buys,
+            places: tables::save(buys),
+        };
+        let sold = Side {
+            used: h.sells,
+            places: tables::save(sells),
+        };
+        Book {
+            last: last,
+            time: h.time,
+            away: away,
+            closed: h.closed,
+            buys: bought,
+            sells: sold,
+        }
+    }
+
+    // ── Sound ──
+
+    pub fn is_sound(self) -> bool
+        ensures { λ r. ⌜ r ≡ recordSound (recordIn self) ⌝ }
+    {
+        let mut buys = [[0u32; 4]; PLACES];
+        let mut sells = [[0u32; 4]; PLACES];
+        self.load(&mut buys, &mut sells);
+        inspection::is_sound(self.head(), &buys, &sells)
+    }
+
+    // ── A command and a line ──
+
+    // Refusals 1 and 2, or 0: they are tried before the line is read.
+    fn unfit(self, room: usize) -> u8
+        ensures { λ r. ⌜ r ≡ firstOf (1 givenWhen ltb room leastRoom ∷ 2 givenWhen not (recordSound (recordIn self)) ∷ []) ⌝ }
+    {
+        if room < 4096 {
+            return 1;
+        }
+        if !self.is_sound() {
+            return 2;
+        }
+        0
+    }
+
+    // A refusal hands back the same book.
+    fn refuse(self, refusal: u8) -> Reply
+        ensures { λ r. ⌜ r ≡ record { refusal = refusal; length = 0; book = self } ⌝ }
+    {
+        Reply {
+            refusal: refusal,
+            length: 0,
+            book: self,
+        }
+    }
+
+    // A command to a sound book, with room for its lines.
+    fn work(self, c: Command, out: &mut [u8]) -> Reply
+        requires { ⌜ (recordSound (recordIn self) ≡ true) × (leastRoom ≤ length (now out)) ⌝ }
+        ensures { λ r. ⌜ r ≡ replyOf (stepOn (recordIn self) (reading.Is c) (now (out .entry))) ⌝ }
+        ensures { λ _. ⌜ now (out .exit) ≡ stepOn (recordIn self) (reading.Is c) (now (out .entry)) .out ⌝ }
+    {
+        let mut buys = [[0u32; 4]; PLACES];
+        let mut sells = [[0u32; 4]; PLACES];
+        self.load(&mut buys, &mut sells);
+        let step = commands::apply(self.head(), c, &mut buys, &mut sells, out);
+        if step.refusal != 0 {
+            return self.refuse(step.refusal);
+        }
+        let h = step.head;
+        let book = Book::save(h, &buys, &sells);
+        Reply {
+            refusal: 0,
+            length: step.length,
+            book: book,
+        }
+    }
+
+    // A command, whatever the book and the output.
+    pub fn obey(self, c: Command, out: &mut [u8]) -> Reply
+        ensures { λ r. ⌜ r ≡ replyOf (stepOn (recordIn self) (reading.Is c) (now (out .entry))) ⌝ }
+        ensures { λ _. ⌜ now (out .exit) ≡ stepOn (recordIn self) (reading.Is c) (now (out .entry)) .out ⌝ }
+    {
+        let refusal = self.unfit(out.len());
+        if refusal != 0 {
+            return self.refuse(refusal);
+        }
+        self.work(c, out)
+    }
+
+    pub fn accept(self, number: Number, time: u32, order: Order, out: &mut [u8]) -> Reply
+        ensures { λ r. ⌜ r ≡ replyOf (stepOn (recordIn self) (reading.Is (record { number = number; time = time; body = body.Order order })) (now (out .entry))) ⌝ }
+        ensures { λ _. ⌜ now (out .exit) ≡ stepOn (recordIn self) (reading.Is (record { number = number; time = time; body = body.Order order })) (now (out .entry)) .out ⌝ }
+    {
+        self.obey(command(number, time, Body::Order(order)), out)
+    }
+
+    pub fn cancel(self, number: Number, time: u32, of: Number, out: &mut [u8]) -> Reply
+        ensures { λ r. ⌜ r ≡ replyOf (stepOn (recordIn self) (reading.Is (record { number = number; time = time; body = body.Cancel of })) (now (out .entry))) ⌝ }
+        ensures { λ _. ⌜ now (out .exit) ≡ stepOn (recordIn self) (reading.Is (record { number = number; time = time; body = body.Cancel of })) (now (out .entry)) .out ⌝ }
+    {
+        self.obey(command(number, time, Body::Cancel(of)), out)
+    }
+
+    pub fn quote(self, number: Number, time: u32, away: Away, out: &mut [u8]) -> Reply
+        ensures { λ r. ⌜ r ≡ replyOf (stepOn (recordIn self) (reading.Is (record { number = number; time = time; body = body.Quote away })) (now (out .entry))) ⌝ }
+        ensures { λ _. ⌜ now (out .exit) ≡ stepOn (recordIn self) (reading.Is (record { number = number; time = time; body = body.Quote away })) (now (out .entry)) .out ⌝ }
+    {
+        self.obey(command(number, time, Body::Quote(away)), out)
+    }
+
+    pub fn close(self, number: Number, time: u32, out: &mut [u8]) -> Reply
+        ensures { λ r. ⌜ r ≡ replyOf (stepOn (recordIn self) (reading.Is (record { number = number; time = time; body = body.Close })) (now (out .entry))) ⌝ }
+        ensures { λ _. ⌜ now (out .exit) ≡ stepOn (recordIn self) (reading.Is (record { number = number; time = time; body = body.Close })) (now (out .entry)) .out ⌝ }
+    {
+        self.obey(command(number, time, Body::Close), out)
+    }
+
+    // The entry: a line of any bytes to any book, with any output.
+    pub fn answer(self, line: &[u8], out: &mut [u8]) -> Reply
+        ensures { λ r. ⌜ r ≡ replyOf (step (recordIn self) (now (line .entry)) (now (out .entry))) ⌝ }
+        ensures { λ _. ⌜ now (out .exit) ≡ step (recordIn self) (now (line .entry)) (now (out .entry)) .out ⌝ }
+    {
+        let Reading::Is(c) = reader::read_command(line) else {
+            let unfit = self.unfit(out.len());
+            if unfit == 0 {
+                return self.refuse(3);
+            }
+            return self.refuse(unfit);
+        };
+        self.obey(c, out)
+    }
+}
