@@ -6,6 +6,7 @@ use Prim.Native.Nat.{ℕ}
 use Rattle.events.proofs.write_executed.Reads as write-executed
 use Rattle.events.proofs.write_rested.Reads as write-rested
 use Rattle.events.proofs.write_cancelled.Reads as write-cancelled
+use Rattle.events.proofs.write_refusal.Reads as write-refusal
 
 pub write-executed-determined : (κs : _) (a : _) (r r′ : ℕ) (s s′ : _) → write-executed.Post κs a r s → write-executed.Post κs a r′ s′ → (r ≡ r′) × (now (s .0) ≡ now (s′ .0))
 write-executed-determined κs a r r′ s s′ p q = (p .0 ∙ sym (q .0), p .1 ∙ sym (q .1))
@@ -15,3 +16,6 @@ write-rested-determined κs a r r′ s s′ p q = (p .0 ∙ sym (q .0), p .1 ∙
 
 pub write-cancelled-determined : (κs : _) (a : _) (r r′ : ℕ) (s s′ : _) → write-cancelled.Post κs a r s → write-cancelled.Post κs a r′ s′ → (r ≡ r′) × (now (s .0) ≡ now (s′ .0))
 write-cancelled-determined κs a r r′ s s′ p q = (p .0 ∙ sym (q .0), p .1 ∙ sym (q .1))
+
+pub write-refusal-determined : (κs : _) (a : _) (r r′ : ℕ) (s s′ : _) → write-refusal.Post κs a r s → write-refusal.Post κs a r′ s′ → (r ≡ r′) × (now (s .0) ≡ now (s′ .0))
+write-refusal-determined κs a r r′ s s′ p q = (p .0 ∙ sym (q .0), p .1 ∙ sym (q .1))

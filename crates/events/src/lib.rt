@@ -1,4 +1,4 @@
-// The writers of event lines 11, 12 and 13 (01, What the machine says back). Each gets the rest of the output, from its
+// The writers of event lines 11, 12 and 13, and of a refusal's line (01, What the machine says back). Each gets the rest of the output, from its
 // first free byte, as a mutable subslice, writes its line to the front of it and tells the line's length. That there is
 // room for the line is the caller's to show: whoever accepts a command has tested the room for all of its lines.
 use kinds::Cents;
@@ -8,7 +8,7 @@ ghost use mathlib.Core.Path.{_≡_};
 ghost use Prim.Native.Nat.{_≤_};
 ghost use lib.ListN.{length};
 ghost use Rattle.basics.specs.Bytes.{onto};
-ghost use Rattle.rules.specs.EventLines.{eventLine};
+ghost use Rattle.rules.specs.EventLines.{eventLine, refusalLine};
 ghost use Rattle.rules.specs.declared.Event.the-variants.{Executed, Rested, Cancelled};
 
 // Line 11: shares of a resting order are executed against the incoming one.
@@ -58,4 +58,16 @@ pub fn write_cancelled(out: &mut [u8], number: Number, shares: Shares, reason: u
     digits::write_one(out, 18, reason);
     out[20] = 10;
     21
+}
+
+// The line that the program prints of a refusal.
+pub fn write_refusal(out: &mut [u8], refusal: u8) -> usize
+    requires { ⌜ 5 ≤ length (now out) ⌝ }
+    ensures { λ r. ⌜ r ≡ 5 ⌝ }
+    ensures { λ _. ⌜ now (out .exit) ≡ onto (refusalLine refusal) (now (out .entry)) ⌝ }
+{
+    digits::write_one(out, 0, 0x1f);
+    digits::write_one(out, 2, refusal);
+    out[4] = 10;
+    5
 }

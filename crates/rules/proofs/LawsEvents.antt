@@ -8,7 +8,7 @@ use Rattle.kinds.specs.declared.Number.{Number}
 use Rattle.kinds.specs.declared.Shares.{Shares}
 use Rattle.rules.specs.declared.Event.{Event}
 use Rattle.rules.specs.declared.Event.the-variants.{Executed, Rested, Cancelled}
-use Rattle.rules.specs.EventLines.{eventLine, eventLines}
+use Rattle.rules.specs.EventLines.{eventLine, eventLines, refusalLine}
 use Rattle.rules.proofs.LawsWriting.{none, pair, length-line}
 
 pub executed-length : (n m : Number) (p : Cents) (s : Shares) → length (eventLine (Executed n m p s)) ≡ 35
@@ -22,6 +22,10 @@ rested-length n p s = length-line (pair 1 0x12 (pair 4 (n .0) (pair 4 (p .0) (pa
 pub cancelled-length : (n : Number) (s : Shares) (reason : ℕ) → length (eventLine (Cancelled n s reason)) ≡ 21
 unfolding eventLine
 cancelled-length n s reason = length-line (pair 1 0x13 (pair 4 (n .0) (pair 4 (s .0) (pair 1 reason none))))
+
+pub refusal-length : (code : ℕ) → length (refusalLine code) ≡ 5
+unfolding refusalLine
+refusal-length code = length-line (pair 1 0x1f (pair 1 code none))
 
 pub eventLines-append : (es fs : List Event) → eventLines (es ++ fs) ≡ eventLines es ++ eventLines fs
 unfolding eventLines

@@ -8,12 +8,13 @@ ghost use mathlib.Core.List.{map};
 ghost use mathlib.Core.Path.{_≡_};
 ghost use Rattle.rows.specs.Table.{orderOf, rowOf};
 
-// All of a book but its orders: of these, how many each side holds.
+// All of a book but its orders: of these, how many each side holds. The flag comes first: between the other fields it would leave a
+// gap of seven bytes, which is copied with them at every command.
 pub struct Head {
+    pub closed: bool,
     pub last: Number,
     pub time: u32,
     pub away: Away,
-    pub closed: bool,
     pub buys: usize,
     pub sells: usize,
 }

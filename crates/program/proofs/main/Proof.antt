@@ -1,0 +1,22 @@
+-- `program::main` is safe: the tables that it lends hold nothing yet. Assumes nothing.
+use mathlib.Core.Path.{refl}
+use Rattle.rows.specs.Table.{tableOf}
+use borrow.Author.Needs.{needs}
+use Rattle.program.proofs.main.Statement.{statement}
+use Rattle.program.proofs.main.Tie as tie
+
+slice-aggregate-run : tie.Need-slice-aggregate-run
+slice-aggregate-run c = search needs
+
+slice-aggregate-run-2 : tie.Need-slice-aggregate-run-2
+slice-aggregate-run-2 c = search needs
+
+run-requires : tie.Need-run-requires
+unfolding tableOf
+run-requires c κs = (refl, refl, search needs, search needs)
+
+returns : tie.Need-returns
+returns c = search needs
+
+pub main-spec : {M : Type 1} → statement M
+main-spec = tie.close (tie.spec slice-aggregate-run slice-aggregate-run-2 run-requires returns)

@@ -1,0 +1,201 @@
+-- One line after the other: what is worked so far and what is worked of the rest are together what is worked of the whole input.
+-- Assumes nothing.
+use Prim.Native.Nat.{ℕ, suc, _+_, _-_, _≤_, _<_}
+use mathlib.Core.Bool.{true}
+use mathlib.Core.List.{List, [], _∷_, _++_, append-assoc, append-nil}
+use mathlib.Core.Path.{_≡_, refl, sym, ap, _∙_}
+use lib.ListN.{length, take, drop, length-append, length-drop}
+use lib.Seq.{take-at, drop-drop, length-take-le}
+use native.Mathlib.Omega.{arith}
+use borrow.Author.Tests.{lt-ltb, le-ltb}
+use Rattle.basics.specs.Bytes.{onto}
+use Rattle.basics.specs.Lists.{firstWhere}
+use Rattle.basics.proofs.LawsBytes.{onto-none, onto-after, onto-part}
+use Rattle.commands.specs.Commands.{Stands}
+use Rattle.rows.specs.Table.{tableOf}
+use Rattle.rows.proofs.LawsTable.{length-side, side-tableOf, holds-tableOf}
+use Rattle.rules.specs.Book.{Book, sound}
+use Rattle.rules.specs.Day.{printed}
+use Rattle.rules.specs.Refusals.{leastRoom}
+use Rattle.rules.specs.Step.{Answer, answerTo}
+use Rattle.soundness.proofs.LawsKept.{answer-sound}
+use Rattle.soundness.proofs.LawsSound.{sound-is}
+use Rattle.tables.specs.declared.Head.{Head}
+use Rattle.tables.specs.Tables.{bookOn, headOf}
+use Rattle.replay.specs.declared.Fed.{Fed}
+use Rattle.replay.specs.Feed.{Worked, nothingOf, behind, worked, fedBy}
+use Rattle.replay.specs.Pieces.{Cut, cut}
+use Rattle.replay.proofs.LawsCut.{isLineFeed, cut-line, cut-none}
+
+-- ── A sound book in its header and tables ──
+
+book-back : (b : Book) → bookOn (headOf b) (tableOf (b .buys)) (tableOf (b .sells)) ≡ b
+book-back b = rw (side-tableOf (b .buys), side-tableOf (b .sells))
+
+pub stands-back : (b : Book) → sound b ≡ true → Stands (headOf b) (tableOf (b .buys)) (tableOf (b .sells))
+stands-back b s =
+    let facts = sound-is b s in
+    record {
+      buys = holds-tableOf (b .buys) (facts .buysFit);
+      sells = holds-tableOf (b .sells) (facts .sellsFit);
+      isSound = ap sound (book-back b) ∙ s;
+    }
+
+-- ── The lines worked so far ──
+
+abbrev fed : Head → ℕ → ℕ → Fed
+fed h at len = record { head = h; at = at; length = len }
+
+-- what was worked before, in front of what is worked after it
+abbrev pub ahead : List ℕ → ℕ → Worked → Worked
+ahead lines k w = record { book = w .book; length = k + w .length; printed = lines ++ w .printed }
+
+pub record Feeding (input out₀ : List ℕ) (b₀ : Book) (t u : List (List ℕ)) (out : List ℕ) (h : Head) (at len : ℕ) : Type 0 where
+  pub stands : Stands h t u
+  pub within : at ≤ length input
+  pub fits : len ≤ length out₀
+  pub long : length out ≡ length out₀
+  pub written : out ≡ onto (take len out) out₀
+  pub goesOn : worked (length out₀) b₀ (cut input .whole) ≡ ahead (take len out) at (worked (length out₀ - len) (bookOn h t u) (cut (drop at input) .whole))
+
+pub feeding-start : (input out : List ℕ) (h : Head) (t u : List (List ℕ)) → Stands h t u → Feeding input out (bookOn h t u) t u out h 0 0
+feeding-start input out h t u s = record {
+  stands = s;
+  within = omega arith;
+  fits = omega arith;
+  long = refl;
+  written = onto-none out;
+  goesOn =
+      let all : length out - 0 ≡ length out = omega arith in
+      let none : 0 + worked (length out) (bookOn h t u) (cut input .whole) .length ≡ worked (length out) (bookOn h t u) (cut input .whole) .length = omega arith in
+      rw (all, none);
+}
+
+-- ── The end ──
+
+module _ (input out₀ : List ℕ) (b₀ : Book) (t u : List (List ℕ)) (out : List ℕ) (h : Head) (at len : ℕ) (f : Feeding input out₀ b₀ t u out h at len) where
+  -- nothing more is worked
+  abbrev pub Ends : Type 0
+  Ends = worked (length out₀) b₀ (cut input .whole) ≡ record { book = bookOn h t u; length = at; printed = take len out }
+
+  ends : worked (length out₀ - len) (bookOn h t u) (cut (drop at input) .whole) ≡ nothingOf (bookOn h t u) → Ends
+  ends e =
+      let z : at + 0 ≡ at = omega arith in
+      f .goesOn ∙ ap (ahead (take len out) at) e ∙ rw (z, append-nil (take len out))
+
+  no-room : (s : List (List ℕ)) (room : ℕ) (b : Book) → room < leastRoom → worked room b s ≡ nothingOf b
+  unfolding worked
+  no-room [] room b l = refl
+  no-room (x ∷ s) room b l = rw (lt-ltb room leastRoom l)
+
+  pub ends-full : length out - len < leastRoom → Ends
+  ends-full l = ends (no-room (cut (drop at input) .whole) (length out₀ - len) (bookOn h t u) (omega (arith, f .long)))
+
+  pub ends-empty : length input ≤ at + firstWhere isLineFeed (drop at input) → Ends
+  unfolding worked
+  ends-empty l =
+      let short : length (drop at input) ≡ length input - at = length-drop at input in
+      let m : length (drop at input) ≤ firstWhere isLineFeed (drop at input) = omega (arith, short) in
+      ends (rw (cut-none (drop at input) m))
+
+  -- so the header, the tables and the output are those of all that is worked
+  pub left-end : Ends
+      → (record { head = h; at = at; length = len } ≡ fedBy (worked (length out₀) b₀ (cut input .whole)))
+      × ((t ≡ tableOf (worked (length out₀) b₀ (cut input .whole) .book .buys))
+      × ((u ≡ tableOf (worked (length out₀) b₀ (cut input .whole) .book .sells))
+      × (out ≡ onto (worked (length out₀) b₀ (cut input .whole) .printed) out₀)))
+  left-end e =
+      let s = f .stands in
+      let head : headOf (bookOn h t u) ≡ h = rw (length-side (h .buys) t (s .buys), length-side (h .sells) u (s .sells)) in
+      let long : length (take len out) ≡ len = length-take-le len out (omega (arith, f .fits, f .long)) in
+      rw e (fed-is (sym head) (sym long), (s .buys .table, (s .sells .table, f .written)))
+    where
+      fed-is : {h h′ : Head} {len len′ : ℕ} → h ≡ h′ → len ≡ len′ → fed h at len ≡ fed h′ at len′
+      fed-is p q = rw (p, q)
+
+  -- ── A turn ──
+
+  module _ (room : leastRoom ≤ length out - len) (e : ℕ) (found : e ≡ at + firstWhere isLineFeed (drop at input)) (isLine : e < length input)
+      (line : List ℕ) (lineIs : line ≡ take (e + 1 - at) (drop at input)) where
+    abbrev pub it : Answer
+    it = answerTo (bookOn h t u) line
+
+    -- the line, and what is cut behind it
+    first-line : cut (drop at input) .whole ≡ line ∷ cut (drop (e + 1) input) .whole
+    first-line =
+        let s = drop at input in
+        let long : length s ≡ length input - at = length-drop at input in
+        let k : suc (firstWhere isLineFeed s) ≡ e + 1 - at = omega (arith, found) in
+        let j : at + (e + 1 - at) ≡ e + 1 = omega (arith, found) in
+        let c = ap (λ (x : Cut). x .whole) (cut-line s (omega (arith, found, long, f .within))) in
+        c ∙ rw (k, ← lineIs, drop-drop (e + 1 - at) at input, j)
+
+    line-long : at + length line ≡ e + 1
+    line-long =
+        let long : length (drop at input) ≡ length input - at = length-drop at input in
+        let m : length (take (e + 1 - at) (drop at input)) ≡ e + 1 - at = length-take-le (e + 1 - at) (drop at input) (omega (arith, found, long)) in
+        let n : length line ≡ e + 1 - at = ap length lineIs ∙ m in
+        omega (arith, found, n)
+
+    worked-line : worked (length out₀ - len) (bookOn h t u) (cut (drop at input) .whole)
+        ≡ behind line (printed it) (worked (length out₀ - len - length (printed it)) (it .book) (cut (drop (e + 1) input) .whole))
+    unfolding worked
+    worked-line = rw (first-line, le-ltb (length out₀ - len) leastRoom (omega (arith, room, f .long)))
+
+    -- what printing the line leaves: the header, both tables, and the part of the output that was lent
+    module _ (h′ : Head) (t′ u′ : List (List ℕ)) (n : ℕ) (part : List ℕ) (headIs : h′ ≡ headOf (it .book)) (lengthIs : n ≡ length (printed it))
+        (buysIs : t′ ≡ tableOf (it .book .buys)) (sellsIs : u′ ≡ tableOf (it .book .sells))
+        (partIs : part ≡ onto (printed it) (take (length out - len) (drop len out))) where
+      abbrev pub next : List ℕ
+      next = take len out ++ (part ++ drop (length out - len) (drop len out))
+
+      module _ (same : length next ≡ length out) where
+        front-long : length (take len out) ≡ len
+        front-long = length-take-le len out (omega (arith, f .fits, f .long))
+
+        next-is : next ≡ onto (take len out ++ printed it) out₀
+        next-is = onto-after (take len out) (printed it) out₀ out next len front-long (f .written) (onto-part len (printed it) out part partIs)
+
+        lines-long : length (take len out ++ printed it) ≡ len + n
+        lines-long = length-append (take len out) (printed it) ∙ omega (arith, front-long, lengthIs)
+
+        lines-fit : len + n ≤ length out₀
+        unfolding onto
+        lines-fit =
+            let l : length next ≡ length (take len out ++ printed it) + (length out₀ - length (take len out ++ printed it)) =
+            ap length next-is ∙ simp (length-append, length-drop) in
+            omega (arith, l, lines-long, same, f .long)
+
+        taken : take (len + n) next ≡ take len out ++ printed it
+        unfolding onto
+        taken =
+            ap (take (len + n)) next-is
+            ∙ take-at (take len out ++ printed it) (drop (length (take len out ++ printed it)) out₀) (len + n) lines-long
+
+        book-next : bookOn h′ t′ u′ ≡ it .book
+        book-next = rw (headIs, buysIs, sellsIs) (book-back (it .book))
+
+        rest-same : worked (length out₀ - len - length (printed it)) (it .book) (cut (drop (e + 1) input) .whole)
+            ≡ worked (length out₀ - (len + n)) (bookOn h′ t′ u′) (cut (drop (e + 1) input) .whole)
+        rest-same =
+            let k : length out₀ - len - length (printed it) ≡ length out₀ - (len + n) = omega (arith, lengthIs) in
+            rw (k, book-next)
+
+        pub feeding-turn : Feeding input out₀ b₀ t′ u′ next h′ (e + 1) (len + n)
+        feeding-turn =
+            let w = worked (length out₀ - (len + n)) (bookOn h′ t′ u′) (cut (drop (e + 1) input) .whole) in
+            let lengths : at + (length line + w .length) ≡ e + 1 + w .length = omega (arith, line-long) in
+            record {
+              stands = rw (headIs, buysIs, sellsIs) (stands-back (it .book) (answer-sound (bookOn h t u) line (f .stands .isSound)));
+              within = omega (arith, isLine);
+              fits = lines-fit;
+              long = same ∙ f .long;
+              written = next-is ∙ ap (λ (p : List ℕ). onto p out₀) (sym taken);
+              goesOn =
+                  f .goesOn
+                  ∙ ap (ahead (take len out) at) (worked-line ∙ ap (behind line (printed it)) rest-same)
+                  ∙ rw (taken, ← lengths) (ap (λ (p : List ℕ). joined p (w .book) (at + (length line + w .length))) (sym (append-assoc (take len out) (printed it) (w .printed))));
+            }
+          where
+            joined : List ℕ → Book → ℕ → Worked
+            joined p b k = record { book = b; length = k; printed = p }

@@ -1,0 +1,39 @@
+-- The whole lines of an input worked one after the other, as long as the output has room for the lines of a command.
+use Prim.Native.Nat.{ℕ, _+_, _-_}
+use mathlib.Core.List.{List, [], _∷_, _++_}
+use lib.Dec.{ltb}
+use lib.ListN.{length}
+use Rattle.basics.specs.Choice.{if_then_else_}
+use Rattle.rules.specs.Book.{Book}
+use Rattle.rules.specs.Day.{printed}
+use Rattle.rules.specs.Refusals.{leastRoom}
+use Rattle.rules.specs.Step.{Answer, answerTo}
+use Rattle.tables.specs.Tables.{headOf}
+use Rattle.replay.specs.declared.Fed.{Fed}
+use Rattle.replay.specs.declared.Printed.{Printed}
+
+-- what is worked: the book after it, how many bytes of input it is, and what is printed of it
+pub record Worked : Type 0 where
+  pub book : Book
+  pub length : ℕ
+  pub printed : List ℕ
+
+abbrev pub nothingOf : Book → Worked
+nothingOf b = record { book = b; length = 0; printed = [] }
+
+-- a line and what it prints, in front of what is worked after it
+abbrev pub behind : List ℕ → List ℕ → Worked → Worked
+behind line lines w = record { book = w .book; length = length line + w .length; printed = lines ++ w .printed }
+
+unfoldable pub worked : ℕ → Book → List (List ℕ) → Worked
+worked room b [] = nothingOf b
+worked room b (l ∷ ls) =
+    if ltb room leastRoom then nothingOf b
+    else behind l (printed (answerTo b l)) (worked (room - length (printed (answerTo b l))) (answerTo b l .book) ls)
+
+-- the same in a header and numbers
+abbrev pub printedStep : Answer → Printed
+printedStep a = record { head = headOf (a .book); length = length (printed a) }
+
+abbrev pub fedBy : Worked → Fed
+fedBy w = record { head = headOf (w .book); at = w .length; length = length (w .printed) }
