@@ -11,7 +11,7 @@ ghost use Prim.Native.Nat.{_+_, _≤_, min};
 ghost use lib.Dec.{eqb};
 ghost use lib.ListN.{length, drop};
 ghost use Rattle.basics.specs.Bytes.{onto};
-ghost use Rattle.basics.specs.Lists.{firstWhere, moved};
+ghost use Rattle.basics.specs.Lists.{any, firstWhere, moved};
 ghost use Rattle.commands.specs.Commands.{Stands};
 ghost use Rattle.rows.specs.Table.{tableOf};
 ghost use Rattle.rules.specs.Book.{fresh};
@@ -90,8 +90,38 @@ fn print_line(
     }
 }
 
-// The place of the first line feed from place `from` on, or the length of the input where there is none.
-fn line_end(input: &[u8], from: usize) -> usize
+// Whether a line feed stands among some bytes. Every byte is looked at, so that it compiles to steps of many bytes.
+fn has_line_feed(bytes: &[u8]) -> bool
+    ensures { λ r. ⌜ r ≡ any (λ c. eqb c lineFeed) (now (bytes .entry)) ⌝ }
+{
+    let mut found = false;
+    let mut i = 0;
+    while i < bytes.len() {
+        found = found | (bytes[i] == 10);
+        i += 1;
+    }
+    found
+}
+
+// Where the line that begins at place `from` would end, if it were a command of the kind that its second digit says.
+fn guess_end(input: &[u8], from: usize) -> usize
+    requires { ⌜ from ≤ length (now input) ⌝ }
+    ensures { λ r. ⌜ from ≤ r ⌝ }
+{
+    if input.len() - from < 41 {
+        return from;
+    }
+    match input[from + 1] {
+        49 => from + 40,
+        50 => from + 26,
+        51 => from + 34,
+        52 => from + 18,
+        _ => from,
+    }
+}
+
+// The same place found byte by byte.
+fn scan_line(input: &[u8], from: usize) -> usize
     requires { ⌜ from ≤ length (now input) ⌝ }
     ensures { λ r. ⌜ r ≡ from + firstWhere (λ c. eqb c lineFeed) (drop from (now (input .entry))) ⌝ }
 {
@@ -103,6 +133,21 @@ fn line_end(input: &[u8], from: usize) -> usize
         i += 1;
     }
     i
+}
+
+// The place of the first line feed from place `from` on, or the length of the input where there is none. Most lines are commands,
+// so the end of one is tried first.
+fn line_end(input: &[u8], from: usize) -> usize
+    requires { ⌜ from ≤ length (now input) ⌝ }
+    ensures { λ r. ⌜ r ≡ from + firstWhere (λ c. eqb c lineFeed) (drop from (now (input .entry))) ⌝ }
+{
+    let end = guess_end(input, from);
+    if end < input.len() {
+        if (input[end] == 10) & !has_line_feed(&input[from..end]) {
+            return end;
+        }
+    }
+    scan_line(input, from)
 }
 
 // Works the whole lines of an input, until none is left or the output has no room for another.
