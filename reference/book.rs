@@ -1,0 +1,476 @@
+//! The order book of paper 01: command lines read, orders worked, event lines written.
+//!
+//! Shared by `ordinary.rs` (the program) and `days.rs` (the generator of test days).
+//! Written for speed: no allocation per command, digits by arithmetic eight at a time,
+//! each side one sorted vector with its best order last. The book is its own and room is
+//! always there, so refusals 1 and 2 cannot occur and soundness is not tested.
+
+/// Limit and resting prices, in cents.
+pub const MIN_PRICE: u32 = 100;
+pub const MAX_PRICE: u32 = 200_000;
+pub const MAX_SHARES: u32 = 1_000_000;
+/// Resting orders a side.
+pub const PLACES: usize = 64;
+/// The Regular Session, in milliseconds after midnight Eastern.
+pub const SESSION_START: u32 = 34_200_000;
+pub const SESSION_END: u32 = 57_600_000;
+
+/// Instruction bits.
+pub const IOC: u16 = 1 << 0;
+pub const FOK: u16 = 1 << 1;
+pub const DAY: u16 = 1 << 2;
+pub const DISPLAYED: u16 = 1 << 3;
+pub const NON_DISPLAYED: u16 = 1 << 4;
+pub const PRICE_ADJUST: u16 = 1 << 5;
+pub const CANCEL_BACK: u16 = 1 << 6;
+pub const POST_ONLY: u16 = 1 << 7;
+pub const ISO: u16 = 1 << 8;
+pub const MARKET: u16 = 1 << 9;
+
+/// Words below this have bits 10 to 15 zero.
+const WORDS: usize = 1 << 10;
+/// The answer of `lawful` for each of those words.
+static LAWFUL: [bool; WORDS] = lawful_words();
+
+/// Refusals, with the paper's numbers.
+#[derive(Clone, Copy, PartialEq, Eq, Debug)]
+pub enum Refusal {
+    NotAForm = 3,
+    AlreadySeen = 4,
+    Gap = 5,
+    BookClosed = 6,
+    WrongTime = 7,
+    UnlawfulWord = 8,
+    FieldOutOfRange = 9,
+    NotResting = 10,
+    SideFull = 11,
+}
+
+/// Cancel reasons, with the paper's numbers.
+#[derive(Clone, Copy)]
+pub enum Reason {
+    ByCommand = 1,
+    IocRemainder = 2,
+    FillOrKill = 3,
+    CancelBack = 4,
+    NoPriceInRange = 5,
+    PostOnlyMeets = 6,
+    Close = 7,
+}
+
+/// A command carries a number, a time and one of four bodies.
+#[derive(Clone, Copy)]
+pub struct Command {
+    pub number: u32,
+    pub time: u32,
+    pub body: Body,
+}
+
+#[derive(Clone, Copy)]
+pub enum Body {
+    Order(Order),
+    Cancel { order: u32 },
+    Quote { bid: u32, offer: u32 },
+    Close,
+}
+
+/// The fields of an order as the line gives them, any values.
+#[derive(Clone, Copy)]
+pub struct Order {
+    pub side: u8,
+    pub word: u16,
+    pub price: u32,
+    pub shares: u32,
+}
+
+/// A resting order. `rank` holds price, display and number, and the lower rank is first.
+#[derive(Clone, Copy)]
+pub struct Resting {
+    rank: u64,
+    pub price: u32,
+    pub shares: u32,
+}
+
+impl Resting {
+    pub fn number(&self) -> u32 {
+        self.rank as u32
+    }
+}
+
+pub struct Book {
+    pub last_number: u32,
+    pub last_time: u32,
+    /// Best away prices, 0 for none.
+    pub away_bid: u32,
+    pub away_offer: u32,
+    pub open: bool,
+    /// Resting orders in falling rank: the best order last.
+    pub buys: Vec<Resting>,
+    pub sells: Vec<Resting>,
+}
+
+impl Book {
+    pub fn fresh() -> Book {
+        Book {
+            last_number: 0,
+            last_time: SESSION_START,
+            away_bid: 0,
+            away_offer: 0,
+            open: true,
+            buys: Vec::with_capacity(PLACES),
+            sells: Vec::with_capacity(PLACES),
+        }
+    }
+
+    /// Takes one command and appends its event lines. A refusal changes nothing.
+    #[inline]
+    pub fn apply(&mut self, command: &Command, events: &mut Vec<u8>) -> Result<(), Refusal> {
+        self.check_header(command)?;
+        match command.body {
+            Body::Order(order) => {
+                check_order(&order)?;
+                if order.side == 0 {
+                    self.work_order::<true>(command.number, &order, events)?;
+                } else {
+                    self.work_order::<false>(command.number, &order, events)?;
+                }
+            }
+            Body::Cancel { order } => self.cancel(order, events)?,
+            Body::Quote { bid, offer } => {
+                if !is_away_price(bid) || !is_away_price(offer) {
+                    return Err(Refusal::FieldOutOfRange);
+                }
+                self.away_bid = bid;
+                self.away_offer = offer;
+            }
+            Body::Close => self.close(events),
+        }
+        self.last_number = command.number;
+        self.last_time = command.time;
+        Ok(())
+    }
+
+    /// Refusals 4 to 7. The last accepted time is never below the session's start.
+    #[inline]
+    fn check_header(&self, command: &Command) -> Result<(), Refusal> {
+        if command.number <= self.last_number {
+            return Err(Refusal::AlreadySeen);
+        }
+        if command.number - self.last_number > 1 {
+            return Err(Refusal::Gap);
+        }
+        if !self.open {
+            return Err(Refusal::BookClosed);
+        }
+        let latest = if let Body::Close = command.body { SESSION_END } else { SESSION_END - 1 };
+        if command.time < self.last_time || command.time > latest {
+            return Err(Refusal::WrongTime);
+        }
+        Ok(())
+    }
+
+    /// How an order is worked. All is decided before anything is changed.
+    fn work_order<const BUY: bool>(
+        &mut self,
+        number: u32,
+        order: &Order,
+        events: &mut Vec<u8>,
+    ) -> Result<(), Refusal> {
+        // The Locking Price is the away offer for a buy, the away bid for a sell; 0 for none.
+        let (own, opposite, locking) = if BUY {
+            (&mut self.buys, &mut self.sells, self.away_offer)
+        } else {
+            (&mut self.sells, &mut self.buys, self.away_bid)
+        };
+        let word = order.word;
+        let limit = match (word & MARKET != 0, BUY) {
+            (false, _) => order.price,
+            (true, true) => MAX_PRICE,
+            (true, false) => MIN_PRICE,
+        };
+
+        // 1. The walk: how many orders execute whole, the shares of one more that executes
+        //    in part, and the remainder. It ends at the first order it may not touch.
+        let mut whole = 0;
+        let mut part = 0;
+        let mut remainder = order.shares;
+        if word & POST_ONLY == 0 {
+            let bound = match (locking == 0 || word & ISO != 0, BUY) {
+                (true, _) => limit,
+                (false, true) => limit.min(locking),
+                (false, false) => limit.max(locking),
+            };
+            for resting in opposite.iter().rev() {
+                if remainder == 0 || !reaches::<BUY>(bound, resting.price) {
+                    break;
+                }
+                if resting.shares > remainder {
+                    part = remainder;
+                    remainder = 0;
+                    break;
+                }
+                remainder -= resting.shares;
+                whole += 1;
+            }
+        }
+
+        // What becomes of the remainder: the price at which it rests, or the reason of its cancel.
+        let mut fate = Ok(0);
+        if remainder > 0 {
+            if word & FOK != 0 {
+                // 2. Nothing executes and the whole order is cancelled.
+                write_cancelled(events, number, order.shares, Reason::FillOrKill);
+                return Ok(());
+            }
+            if word & IOC != 0 {
+                // 3. A remainder of IOC is cancelled.
+                fate = Err(Reason::IocRemainder);
+            } else {
+                // 4. A Day remainder seeks its price.
+                fate = resting_price::<BUY>(limit, word, locking);
+                if let Ok(price) = fate {
+                    let best = opposite.last();
+                    if word & POST_ONLY != 0 && best.is_some_and(|best| reaches::<BUY>(price, best.price)) {
+                        // 5. Post Only equals or passes an opposite resting price.
+                        fate = Err(Reason::PostOnlyMeets);
+                    } else if own.len() == PLACES {
+                        return Err(Refusal::SideFull);
+                    }
+                }
+            }
+        }
+
+        // Executions come first, each at the resting order's price.
+        let untouched = opposite.len() - whole;
+        for resting in opposite[untouched..].iter().rev() {
+            write_execution(events, number, resting.number(), resting.price, resting.shares);
+        }
+        opposite.truncate(untouched);
+        if part > 0 {
+            let resting = &mut opposite[untouched - 1];
+            resting.shares -= part;
+            write_execution(events, number, resting.number(), resting.price, part);
+        }
+
+        // Then at most one rested or cancelled line.
+        if remainder > 0 {
+            match fate {
+                Ok(price) => {
+                    // 6. Otherwise it rests.
+                    let rank = rank::<BUY>(price, word & NON_DISPLAYED != 0, number);
+                    // From the best down, as most orders come near the best.
+                    let worse = own.iter().rposition(|resting| resting.rank > rank);
+                    let place = worse.map_or(0, |worse| worse + 1);
+                    own.insert(place, Resting { rank, price, shares: remainder });
+                    write_rested(events, number, price, remainder);
+                }
+                Err(reason) => write_cancelled(events, number, remainder, reason),
+            }
+        }
+        Ok(())
+    }
+
+    /// Cancel of a resting order, on whichever side it is.
+    fn cancel(&mut self, number: u32, events: &mut Vec<u8>) -> Result<(), Refusal> {
+        for side in [&mut self.buys, &mut self.sells] {
+            if let Some(place) = side.iter().position(|resting| resting.number() == number) {
+                let resting = side.remove(place);
+                write_cancelled(events, number, resting.shares, Reason::ByCommand);
+                return Ok(());
+            }
+        }
+        Err(Refusal::NotResting)
+    }
+
+    /// Close cancels all buys in rank order, then all sells, and closes.
+    fn close(&mut self, events: &mut Vec<u8>) {
+        for side in [&mut self.buys, &mut self.sells] {
+            for resting in side.iter().rev() {
+                write_cancelled(events, resting.number(), resting.shares, Reason::Close);
+            }
+            side.clear();
+        }
+        self.open = false;
+    }
+}
+
+/// Whether an incoming order that goes as far as `bound` may meet `price`:
+/// a buy meets prices at or below it, a sell prices at or above it.
+fn reaches<const BUY: bool>(bound: u32, price: u32) -> bool {
+    if BUY { price <= bound } else { price >= bound }
+}
+
+/// Better price first (higher buy, lower sell); at one price displayed before
+/// non-displayed; then lower number.
+fn rank<const BUY: bool>(price: u32, hidden: bool, number: u32) -> u64 {
+    let distance = if BUY { MAX_PRICE - price } else { price };
+    (distance as u64) << 33 | (hidden as u64) << 32 | number as u64
+}
+
+/// Step 4: the price a Day remainder rests at, or the reason why it is cancelled.
+fn resting_price<const BUY: bool>(limit: u32, word: u16, locking: u32) -> Result<u32, Reason> {
+    if word & ISO != 0 || locking == 0 || !reaches::<BUY>(limit, locking) {
+        return Ok(limit);
+    }
+    // At its limit it would lock or cross the away price; Non-Displayed may lock.
+    let displayed = word & DISPLAYED != 0;
+    if !displayed && limit == locking {
+        return Ok(limit);
+    }
+    if word & CANCEL_BACK != 0 {
+        return Err(Reason::CancelBack);
+    }
+    let adjusted = match (displayed, BUY) {
+        (true, true) => locking - 1,
+        (true, false) => locking + 1,
+        (false, _) => locking,
+    };
+    if is_price(adjusted) { Ok(adjusted) } else { Err(Reason::NoPriceInRange) }
+}
+
+fn is_price(price: u32) -> bool {
+    (MIN_PRICE..=MAX_PRICE).contains(&price)
+}
+
+fn is_away_price(price: u32) -> bool {
+    price == 0 || is_price(price)
+}
+
+/// Refusals 8 and 9 of an order.
+#[inline]
+fn check_order(order: &Order) -> Result<(), Refusal> {
+    if !is_lawful(order.word) {
+        return Err(Refusal::UnlawfulWord);
+    }
+    let priced_well = if order.word & MARKET != 0 { order.price == 0 } else { is_price(order.price) };
+    if order.side > 1 || !(1..=MAX_SHARES).contains(&order.shares) || !priced_well {
+        return Err(Refusal::FieldOutOfRange);
+    }
+    Ok(())
+}
+
+#[inline]
+pub fn is_lawful(word: u16) -> bool {
+    (word as usize) < WORDS && LAWFUL[word as usize]
+}
+
+const fn lawful_words() -> [bool; WORDS] {
+    let mut table = [false; WORDS];
+    let mut word = 0;
+    while word < WORDS {
+        table[word] = lawful(word as u16);
+        word += 1;
+    }
+    table
+}
+
+/// The law for a word whose bits 10 to 15 are zero.
+const fn lawful(word: u16) -> bool {
+    const fn one_of(word: u16, bits: u16) -> bool {
+        (word & bits).count_ones() == 1
+    }
+    let one_each = one_of(word, IOC | FOK | DAY)
+        && one_of(word, DISPLAYED | NON_DISPLAYED)
+        && one_of(word, PRICE_ADJUST | CANCEL_BACK);
+    let post_only = word & POST_ONLY == 0 || (word & DAY != 0 && word & DISPLAYED != 0 && word & ISO == 0);
+    let iso = word & ISO == 0 || word & (FOK | MARKET) == 0;
+    let market = word & MARKET == 0 || word & (IOC | FOK) != 0;
+    one_each && post_only && iso && market
+}
+
+/// Reads the command line at the front of `input` and gives its length with the line feed.
+/// `None` if no whole, well formed line stands there: a line feed is no digit, so a line
+/// that ends early has a bad digit, and one that ends late has no line feed in its place.
+#[inline]
+pub fn read_command(input: &[u8]) -> Option<(Command, usize)> {
+    let header: &[u8; 18] = input.first_chunk()?;
+    if header[0] != b'0' {
+        return None;
+    }
+    let number = read_field(header, 2)?;
+    let time = read_field(header, 10)?;
+    let body = &input[18..];
+    let (body, digits) = match header[1] {
+        b'1' => {
+            let body: &[u8; 23] = body.first_chunk()?;
+            // Side and word are six digits; the reader takes eight, the first two set to 0.
+            let short = [b'0', b'0', body[0], body[1], body[2], body[3], body[4], body[5]];
+            let side_and_word = read_field(&short, 0)?;
+            let order = Order {
+                side: (side_and_word >> 16) as u8,
+                word: side_and_word as u16,
+                price: read_field(body, 6)?,
+                shares: read_field(body, 14)?,
+            };
+            (Body::Order(order), 22)
+        }
+        b'2' => (Body::Cancel { order: read_field(body, 0)? }, 8),
+        b'3' => (Body::Quote { bid: read_field(body, 0)?, offer: read_field(body, 8)? }, 16),
+        b'4' => (Body::Close, 0),
+        _ => return None,
+    };
+    if *input.get(18 + digits)? != b'\n' {
+        return None;
+    }
+    Some((Command { number, time, body }, 18 + digits + 1))
+}
+
+const ONES: u64 = 0x0101_0101_0101_0101;
+const HIGH_BITS: u64 = 0x80 * ONES;
+
+/// Reads the eight lowercase hexadecimal digits from `at` on, all at once in one word of eight bytes.
+#[inline]
+fn read_field(digits: &[u8], at: usize) -> Option<u32> {
+    let digits = u64::from_be_bytes(*digits.get(at..)?.first_chunk()?);
+    // The high bit of each byte tells whether that byte is at or above `least`.
+    let low_bits = digits & !HIGH_BITS;
+    let at_or_above = |least: u8| low_bits + (0x80 - least) as u64 * ONES;
+    let figure = at_or_above(b'0') & !at_or_above(b'9' + 1);
+    let letter = at_or_above(b'a') & !at_or_above(b'f' + 1);
+    if (figure | letter) & !digits & HIGH_BITS != HIGH_BITS {
+        return None;
+    }
+    // A letter's low four bits count from 1 and its bit 6 is set.
+    let fours = (digits & (0x0f * ONES)) + 9 * ((digits >> 6) & ONES);
+    let bytes = (fours | fours >> 4) & 0x00ff_00ff_00ff_00ff;
+    let pairs = (bytes | bytes >> 8) & 0x0000_ffff_0000_ffff;
+    Some((pairs | pairs >> 16) as u32)
+}
+
+/// The eight digits of a field of 4 bytes.
+#[inline]
+fn field_digits(value: u32) -> [u8; 8] {
+    let pairs = (value as u64 | (value as u64) << 16) & 0x0000_ffff_0000_ffff;
+    let bytes = (pairs | pairs << 8) & 0x00ff_00ff_00ff_00ff;
+    let fours = (bytes | bytes << 4) & (0x0f * ONES);
+    let is_letter = ((fours + 6 * ONES) >> 4) & ONES;
+    (fours + b'0' as u64 * ONES + (b'a' - b'9' - 1) as u64 * is_letter).to_be_bytes()
+}
+
+#[inline]
+fn write_execution(events: &mut Vec<u8>, incoming: u32, resting: u32, price: u32, shares: u32) {
+    let mut line = *b"11--------------------------------\n";
+    line[2..10].copy_from_slice(&field_digits(incoming));
+    line[10..18].copy_from_slice(&field_digits(resting));
+    line[18..26].copy_from_slice(&field_digits(price));
+    line[26..34].copy_from_slice(&field_digits(shares));
+    events.extend_from_slice(&line);
+}
+
+#[inline]
+fn write_rested(events: &mut Vec<u8>, number: u32, price: u32, shares: u32) {
+    let mut line = *b"12------------------------\n";
+    line[2..10].copy_from_slice(&field_digits(number));
+    line[10..18].copy_from_slice(&field_digits(price));
+    line[18..26].copy_from_slice(&field_digits(shares));
+    events.extend_from_slice(&line);
+}
+
+#[inline]
+fn write_cancelled(events: &mut Vec<u8>, number: u32, shares: u32, reason: Reason) {
+    let mut line = *b"13----------------0-\n";
+    line[2..10].copy_from_slice(&field_digits(number));
+    line[10..18].copy_from_slice(&field_digits(shares));
+    line[19] = b'0' + reason as u8; // reasons are 1 to 7
+    events.extend_from_slice(&line);
+}

@@ -1,0 +1,702 @@
+//! A generator of test days: `days KIND SEED LINES` prints a day of LINES command lines.
+//! The same arguments always give the same bytes. Every day begins at the fresh book.
+//!
+//! Kinds:
+//!   plain     orders around a moving price, cancels and quotes, about 40 orders resting a side
+//!   nasty     valid and damaged lines mixed; most days are closed somewhere, with more lines after
+//!             it, and the last line feed is missing now and then
+//!   full      both sides kept at or near 64 resting orders
+//!   crossing  sweeps, FOK just fillable and just not, Post Only that meets, ISO, locked and
+//!             crossed away quotes, Price Adjust at the edges of the price range
+//!   short     a few lines (at most 12, and at most LINES) of one of the kinds above
+//! The last line is the close in all but the nasty days.
+//!
+//! The generator works each line on a book of its own (`book.rs`), so it knows what rests,
+//! which number comes next and which commands were refused.
+//!
+//! Compile: rustc -O --edition 2021 days.rs
+
+#[path = "book.rs"]
+mod book;
+
+use book::*;
+use std::io::{self, BufWriter, Write};
+use std::process::ExitCode;
+
+const BUY: u8 = 0;
+const SELL: u8 = 1;
+/// The length of the session in milliseconds.
+const SESSION: u64 = (SESSION_END - SESSION_START) as u64;
+/// Day, Displayed, Price Adjust: the ordinary word.
+const ORDINARY: u16 = DAY | DISPLAYED | PRICE_ADJUST;
+
+fn main() -> ExitCode {
+    let arguments: Vec<String> = std::env::args().skip(1).collect();
+    let Some((kind, seed, lines)) = read_arguments(&arguments) else {
+        eprintln!("usage: days plain|nasty|full|crossing|short SEED LINES");
+        return ExitCode::from(2);
+    };
+    let mut output = BufWriter::with_capacity(64 * 1024, io::stdout().lock());
+    match print_day(kind, seed, lines, &mut output).and_then(|()| output.flush()) {
+        Ok(()) => ExitCode::SUCCESS,
+        Err(error) => {
+            eprintln!("days: cannot write the output: {error}");
+            ExitCode::FAILURE
+        }
+    }
+}
+
+#[derive(Clone, Copy)]
+enum Kind {
+    Plain,
+    Nasty,
+    Full,
+    Crossing,
+    Short,
+}
+
+fn read_arguments(arguments: &[String]) -> Option<(Kind, u64, u64)> {
+    let [kind, seed, lines] = arguments else { return None };
+    let kind = match kind.as_str() {
+        "plain" => Kind::Plain,
+        "nasty" => Kind::Nasty,
+        "full" => Kind::Full,
+        "crossing" => Kind::Crossing,
+        "short" => Kind::Short,
+        _ => return None,
+    };
+    Some((kind, seed.parse().ok()?, lines.parse().ok()?))
+}
+
+fn print_day(kind: Kind, seed: u64, lines: u64, output: &mut impl Write) -> io::Result<()> {
+    let mut random = Random(seed);
+    let (kind, lines) = match kind {
+        Kind::Short => {
+            let kinds = [Kind::Plain, Kind::Nasty, Kind::Nasty, Kind::Full, Kind::Crossing];
+            (random.pick(&kinds), random.below(13).min(lines))
+        }
+        kind => (kind, lines),
+    };
+    let mut day = Day::new(random, lines);
+    while day.printed < lines {
+        let is_last = day.printed + 1 == lines;
+        let line = match kind {
+            Kind::Nasty => day.nasty_line(),
+            _ if is_last => day.closing_line(),
+            Kind::Plain => day.plain_line(),
+            Kind::Full => day.full_line(),
+            Kind::Crossing | Kind::Short => day.crossing_line(),
+        };
+        output.write_all(&line)?;
+        // A refused command changes nothing and leaves its number free: the next line takes it.
+        let _ = day.work(&line);
+    }
+    Ok(())
+}
+
+/// Splitmix64.
+struct Random(u64);
+
+impl Random {
+    fn next(&mut self) -> u64 {
+        self.0 = self.0.wrapping_add(0x9e37_79b9_7f4a_7c15);
+        let mixed = (self.0 ^ self.0 >> 30).wrapping_mul(0xbf58_476d_1ce4_e5b9);
+        let mixed = (mixed ^ mixed >> 27).wrapping_mul(0x94d0_49bb_1331_11eb);
+        mixed ^ mixed >> 31
+    }
+
+    /// 0 to `bound` - 1.
+    fn below(&mut self, bound: u64) -> u64 {
+        ((self.next() as u128 * bound as u128) >> 64) as u64
+    }
+
+    fn between(&mut self, least: u32, most: u32) -> u32 {
+        least + self.below((most - least) as u64 + 1) as u32
+    }
+
+    fn percent(&mut self, chance: u64) -> bool {
+        self.below(100) < chance
+    }
+
+    fn pick<T: Copy>(&mut self, choices: &[T]) -> T {
+        choices[self.below(choices.len() as u64) as usize]
+    }
+}
+
+struct Day {
+    random: Random,
+    book: Book,
+    /// Event lines of the last command, unread.
+    events: Vec<u8>,
+    lawful: Vec<u16>,
+    lines: u64,
+    printed: u64,
+    /// The price around which orders come.
+    middle: u32,
+    /// Nasty: the place of the close (none if past the day), and whether the last line feed is missing.
+    close_at: u64,
+    cut_end: bool,
+    /// Full: the number of orders that each side is held at, changed now and then.
+    hold: usize,
+}
+
+impl Day {
+    fn new(mut random: Random, lines: u64) -> Day {
+        let close_at = match random.below(8) {
+            0 | 1 => u64::MAX,
+            2 => lines.saturating_sub(1),
+            3 => random.below(lines + 1),
+            _ => lines - random.below(lines / 8 + 1),
+        };
+        let cut_end = random.percent(30);
+        Day {
+            random,
+            book: Book::fresh(),
+            events: Vec::new(),
+            lawful: (0..=u16::MAX).filter(|&word| is_lawful(word)).collect(),
+            lines,
+            printed: 0,
+            middle: 2000,
+            close_at,
+            cut_end,
+            hold: PLACES,
+        }
+    }
+
+    /// Works a line on the generator's own book, as the program will.
+    fn work(&mut self, line: &[u8]) -> Result<(), Refusal> {
+        self.printed += 1;
+        self.events.clear();
+        match read_command(line) {
+            Some((command, length)) if length == line.len() => self.book.apply(&command, &mut self.events),
+            _ => Err(Refusal::NotAForm),
+        }
+    }
+
+    // Commands with the next number and a time that fits.
+
+    /// The day's lines are spread over the session; times may repeat.
+    fn command(&mut self, body: Body) -> Command {
+        let due = (SESSION as u128 * self.printed as u128 / self.lines as u128) as u32;
+        let step = (SESSION / self.lines).min(1000);
+        let time = SESSION_START + due + self.random.below(step + 1) as u32;
+        let time = time.min(SESSION_END - 1).max(self.book.last_time);
+        Command { number: self.book.last_number.wrapping_add(1), time, body }
+    }
+
+    fn order(&mut self, side: u8, word: u16, price: u32, shares: u32) -> Command {
+        let price = if word & MARKET != 0 { 0 } else { price.clamp(MIN_PRICE, MAX_PRICE) };
+        self.command(Body::Order(Order { side, word, price, shares: shares.clamp(1, MAX_SHARES) }))
+    }
+
+    /// A quote of lawful prices: 0 stays 0, others are brought into the range.
+    fn quote(&mut self, bid: u32, offer: u32) -> Command {
+        let lawful = |price: u32| if price == 0 { 0 } else { price.clamp(MIN_PRICE, MAX_PRICE) };
+        self.command(Body::Quote { bid: lawful(bid), offer: lawful(offer) })
+    }
+
+    /// A cancel of a random resting order of that side, if there is one.
+    fn cancel(&mut self, side: u8) -> Option<Command> {
+        let count = self.side(side).len() as u64;
+        if count == 0 {
+            return None;
+        }
+        let place = self.random.below(count) as usize;
+        let order = self.side(side)[place].number();
+        Some(self.command(Body::Cancel { order }))
+    }
+
+    /// A close, at an ordinary time or at the very end of the session.
+    fn closing_line(&mut self) -> Vec<u8> {
+        let mut close = self.command(Body::Close);
+        close.time = self.random.pick(&[close.time, SESSION_END]);
+        write_command(&close)
+    }
+
+    // The book and prices.
+
+    fn any_side(&mut self) -> u8 {
+        self.random.pick(&[BUY, SELL])
+    }
+
+    fn lawful_word(&mut self) -> u16 {
+        self.random.pick(&self.lawful)
+    }
+
+    /// Resting orders of a side, the best last.
+    fn side(&self, side: u8) -> &[Resting] {
+        if side == BUY { &self.book.buys } else { &self.book.sells }
+    }
+
+    fn best(&self, side: u8) -> Option<u32> {
+        self.side(side).last().map(|resting| resting.price)
+    }
+
+    /// A price `steps` cents from the middle, on the side where it does not cross; may be 0.
+    fn passive(&self, side: u8, steps: u32) -> u32 {
+        if side == BUY { self.middle.saturating_sub(steps) } else { self.middle + steps }
+    }
+
+    fn aggressive(&self, side: u8, steps: u32) -> u32 {
+        self.passive(1 - side, steps)
+    }
+
+    /// The shares that an order which isn't ISO would find up to its limit.
+    fn fillable(&self, side: u8, limit: u32) -> u32 {
+        let reached = |resting: &&Resting| {
+            let price = resting.price;
+            if side == BUY {
+                price <= limit && (self.book.away_offer == 0 || price <= self.book.away_offer)
+            } else {
+                price >= limit && price >= self.book.away_bid
+            }
+        };
+        self.side(1 - side).iter().filter(reached).map(|resting| resting.shares).sum()
+    }
+
+    /// The price of a random opposite order, or the middle.
+    fn opposite_price(&mut self, side: u8) -> u32 {
+        let count = self.side(1 - side).len() as u64;
+        let place = self.random.below(count.max(1)) as usize;
+        self.side(1 - side).get(place).map_or(self.middle, |resting| resting.price)
+    }
+
+    // Plain days.
+
+    fn plain_line(&mut self) -> Vec<u8> {
+        if self.random.below(40) == 0 {
+            self.middle = (self.middle + self.random.between(0, 2) - 1).clamp(1000, 9000);
+        }
+        let side = self.any_side();
+        let resting = self.side(side).len();
+        let command = match self.random.below(1000) {
+            0..=39 => {
+                let bid = self.middle - self.random.between(1, 4);
+                let offer = self.middle + self.random.between(1, 4);
+                self.quote(bid, offer)
+            }
+            40..=119 => self.plain_taker(side),
+            120..=122 => {
+                // A cancel that comes too late: its order has gone, or had never rested.
+                let order = self.random.between(1, self.book.last_number.max(1));
+                self.command(Body::Cancel { order })
+            }
+            choice => {
+                // Half orders, half cancels, held near 40 resting orders.
+                let wants_order = choice % 2 == 0;
+                if resting < 36 || (wants_order && resting < 44) {
+                    self.plain_maker(side)
+                } else {
+                    self.cancel(side).expect("a side of 36 orders is not empty")
+                }
+            }
+        };
+        write_command(&command)
+    }
+
+    /// An order that mostly rests.
+    fn plain_maker(&mut self, side: u8) -> Command {
+        let word = match self.random.below(100) {
+            0..=64 => ORDINARY,
+            65..=79 => DAY | NON_DISPLAYED | PRICE_ADJUST,
+            80..=87 => DAY | DISPLAYED | CANCEL_BACK,
+            88..=97 => ORDINARY | POST_ONLY,
+            _ => ORDINARY | ISO,
+        };
+        let steps = self.random.between(0, 12);
+        let price = self.passive(side, steps);
+        let shares = 100 * self.random.between(1, 10);
+        self.order(side, word, price, shares)
+    }
+
+    /// An order that mostly executes against one to three others.
+    fn plain_taker(&mut self, side: u8) -> Command {
+        let word = match self.random.below(100) {
+            0..=49 => IOC | DISPLAYED | PRICE_ADJUST,
+            50..=64 => IOC | DISPLAYED | PRICE_ADJUST | MARKET,
+            65..=74 => FOK | DISPLAYED | PRICE_ADJUST,
+            75..=84 => IOC | DISPLAYED | PRICE_ADJUST | ISO,
+            _ => ORDINARY,
+        };
+        let steps = self.random.between(1, 4);
+        let price = self.aggressive(side, steps);
+        let shares = 100 * self.random.between(1, 15);
+        self.order(side, word, price, shares)
+    }
+
+    // Nasty days.
+
+    fn nasty_line(&mut self) -> Vec<u8> {
+        let mut line = self.nasty_full_line();
+        if self.cut_end && self.printed + 1 == self.lines && line.len() > 1 {
+            line.pop();
+        }
+        line
+    }
+
+    fn nasty_full_line(&mut self) -> Vec<u8> {
+        if self.printed == self.close_at {
+            return self.closing_line();
+        }
+        if self.random.below(60) == 0 {
+            self.middle = self.random.pick(&[100, 103, 500, 2000, 199_997, 200_000]);
+        }
+        let mut command = self.nasty_command();
+        match self.random.below(100) {
+            0..=64 => write_command(&command),
+            65..=87 => {
+                if self.random.percent(25) {
+                    // A time newer than the next lines have, which a refused command must not leave behind.
+                    let ahead = 1 + self.random.below(10 * SESSION / self.lines) as u32;
+                    command.time = (command.time + ahead).min(SESSION_END - 1);
+                }
+                // One to three damaged fields: the lowest refusal is to be given.
+                for _ in 0..self.random.pick(&[1, 1, 1, 1, 2, 3]) {
+                    self.damage_field(&mut command);
+                    if let Body::Close = command.body {
+                        break; // or a second damage might undo the first, and the day would end
+                    }
+                }
+                write_command(&command)
+            }
+            _ => {
+                if self.random.percent(20) {
+                    self.damage_field(&mut command);
+                }
+                let line = write_command(&command);
+                self.damage_text(line)
+            }
+        }
+    }
+
+    /// A good command of any kind, with any lawful word, close around the middle.
+    fn nasty_command(&mut self) -> Command {
+        let side = self.any_side();
+        match self.random.below(100) {
+            0..=11 => {
+                let mut away = || match self.random.below(4) {
+                    0 => 0,
+                    _ => self.middle.saturating_sub(3) + self.random.between(0, 6),
+                };
+                let (bid, offer) = (away(), away());
+                self.quote(bid, offer)
+            }
+            12..=24 if !self.side(side).is_empty() => self.cancel(side).expect("not empty"),
+            _ => {
+                let word = self.lawful_word();
+                let word = self.random.pick(&[ORDINARY, DAY | NON_DISPLAYED | PRICE_ADJUST, word]);
+                let price = self.middle.saturating_sub(4) + self.random.between(0, 8);
+                let shares = self.random.pick(&[1, 10, 50, 100, 1_000_000]);
+                let less = self.random.between(0, 9);
+                self.order(side, word, price, shares - less.min(shares - 1))
+            }
+        }
+    }
+
+    /// Sets a field to a value at or just outside a limit; the command may stay good.
+    fn damage_field(&mut self, command: &mut Command) {
+        let last = self.book.last_number;
+        match self.random.below(14) {
+            0 | 1 => {
+                let seen = self.random.between(0, last);
+                command.number = self.random.pick(&[last, last, seen, 0]);
+            }
+            2 => {
+                let gap = self.random.between(3, 1000);
+                command.number = last + self.random.pick(&[2, 2, gap, u32::MAX - last]);
+            }
+            3 | 4 => {
+                let before = self.book.last_time - 1;
+                let mut times = vec![0, 34_199_999, 34_200_000, before, 57_600_000, 57_600_001, u32::MAX];
+                if self.printed + self.lines / 20 >= self.lines {
+                    times.push(57_599_999); // taken near the end only, as no later time follows
+                }
+                command.time = self.random.pick(&times);
+            }
+            5 => {
+                // A close is taken only where the day is to be closed, so it gets a number seen or a bad time.
+                command.body = Body::Close;
+                if self.random.percent(50) {
+                    command.number = last;
+                } else {
+                    command.time = self.random.pick(&[34_199_999, 57_600_001]);
+                }
+            }
+            _ => self.damage_body(&mut command.body),
+        }
+    }
+
+    fn damage_body(&mut self, body: &mut Body) {
+        const PRICES: [u32; 9] = [0, 1, 99, 100, 200_000, 200_001, 1 << 31, u32::MAX, 101];
+        const SHARES: [u32; 8] = [0, 1, 1_000_000, 1_000_001, 0, 1_000_001, 1 << 24, u32::MAX];
+        match body {
+            Body::Order(order) => match self.random.below(8) {
+                0 | 1 => order.price = self.random.pick(&PRICES),
+                2 | 3 => order.shares = self.random.pick(&SHARES),
+                4 => order.side = self.random.pick(&[2, 2, 3, 255]),
+                5 => {
+                    order.word = IOC | DISPLAYED | PRICE_ADJUST | MARKET; // a market order with a price
+                    order.price = self.random.pick(&[1, 99, 100, 2000, 200_001]);
+                }
+                6 => {
+                    let bit = self.random.below(16);
+                    order.word = self.lawful_word() ^ 1 << bit;
+                }
+                _ => {
+                    // Just unlawful by one of the last rules, or anything.
+                    let anything = self.random.next() as u16;
+                    let words = [
+                        ORDINARY | POST_ONLY | ISO,
+                        DAY | NON_DISPLAYED | PRICE_ADJUST | POST_ONLY,
+                        IOC | DISPLAYED | PRICE_ADJUST | POST_ONLY,
+                        FOK | DISPLAYED | CANCEL_BACK | POST_ONLY,
+                        FOK | DISPLAYED | PRICE_ADJUST | ISO,
+                        IOC | DISPLAYED | PRICE_ADJUST | ISO | MARKET,
+                        ORDINARY | MARKET,
+                        anything & 0x03ff,
+                        anything,
+                    ];
+                    order.word = self.random.pick(&words);
+                    if order.word & MARKET != 0 {
+                        order.price = 0;
+                    }
+                }
+            },
+            Body::Cancel { order } => {
+                let last = self.book.last_number;
+                let seen = self.random.between(0, last);
+                *order = self.random.pick(&[0, seen, seen, last, last + 1, last + 2, u32::MAX]);
+            }
+            Body::Quote { bid, offer } => {
+                let price = self.random.pick(&PRICES);
+                *(if self.random.percent(50) { bid } else { offer }) = price;
+            }
+            Body::Close => {}
+        }
+    }
+
+    /// Damages the bytes of a line. The line feed at its end stays the only one.
+    fn damage_text(&mut self, mut line: Vec<u8>) -> Vec<u8> {
+        line.pop();
+        let place = self.random.below(line.len() as u64) as usize;
+        match self.random.below(12) {
+            0 | 1 => line[place] = self.random.pick(b"g`/:@G xX-+\0\r\x7f\x80\xb0\xe1\xff"),
+            2 => line.make_ascii_uppercase(),
+            3 => {
+                // One letter of the line in uppercase.
+                match line.iter().position(|byte| byte.is_ascii_lowercase()) {
+                    Some(letter) => line[letter].make_ascii_uppercase(),
+                    None => line[place] = b'A',
+                }
+            }
+            4 => line.truncate(place.max(1)),
+            5 => {
+                line.remove(place);
+            }
+            6 => {
+                let digits = self.random.between(1, 8);
+                for _ in 0..digits {
+                    line.push(self.random.pick(b"0123456789abcdef"));
+                }
+            }
+            7 => line.insert(place, self.random.pick(b"0123456789abcdef")),
+            8 => line.push(self.random.pick(b" \r\t\0g")),
+            9 => line.clear(),
+            10 => {
+                // Another kind, or this kind with another's body.
+                let kind = self.random.pick(&[b"00", b"01", b"02", b"03", b"04", b"05", b"06", b"0a", b"10", b"11", b"ff"]);
+                line[..2].copy_from_slice(kind);
+                if line.starts_with(b"04") && line.len() == 18 {
+                    line[1] = b'5';
+                }
+            }
+            _ => {
+                // A line over 41 bytes; seldom one longer than any piece that is read.
+                let most = if self.random.below(100) == 0 { 150_000 } else { 200 };
+                let length = self.random.between(41, most);
+                while line.len() < length as usize {
+                    line.push(self.random.pick(b"0123456789abcdef"));
+                }
+            }
+        }
+        line.push(b'\n');
+        line
+    }
+
+    // Full days.
+
+    fn full_line(&mut self) -> Vec<u8> {
+        if self.random.below(300) == 0 {
+            self.hold = self.random.pick(&[PLACES, PLACES, PLACES, 62, 48]);
+        }
+        let side = self.any_side();
+        let resting = self.side(side).len();
+        let steps = self.random.between(1, 30);
+        let passive = self.passive(side, steps);
+        let shares = self.random.between(1, 60);
+        let word = self.random.pick(&[ORDINARY, ORDINARY, DAY | NON_DISPLAYED | PRICE_ADJUST, DAY | DISPLAYED | CANCEL_BACK, ORDINARY | POST_ONLY, ORDINARY | ISO]);
+        let choice = self.random.below(100);
+        let command = if resting > self.hold && choice < 60 {
+            self.cancel(side).expect("more than the hold rest")
+        } else if resting < self.hold && choice < 70 {
+            self.order(side, word, passive, shares)
+        } else {
+            match choice {
+                // One that would rest.
+                0..=24 => self.order(side, word, passive, shares),
+                // A place freed, to be used at once.
+                25..=44 => match self.cancel(side) {
+                    Some(cancel) => cancel,
+                    None => self.order(side, ORDINARY, passive, shares),
+                },
+                // Filled whole, just not filled whole, and with a remainder at the best opposite price.
+                45..=69 => {
+                    let limit = self.best(1 - side).unwrap_or(passive);
+                    let found = self.fillable(side, limit);
+                    let shares = self.random.pick(&[1, found, found, found + 1, found.saturating_sub(1), found + 500]);
+                    let word = self.random.pick(&[ORDINARY, ORDINARY, word, IOC | DISPLAYED | PRICE_ADJUST, FOK | DISPLAYED | PRICE_ADJUST]);
+                    self.order(side, word, limit, shares)
+                }
+                // Post Only that meets, or Price Adjust and Cancel Back against the away price.
+                70..=79 => {
+                    let limit = self.aggressive(side, steps);
+                    let word = self.random.pick(&[ORDINARY | POST_ONLY, DAY | DISPLAYED | CANCEL_BACK, ORDINARY]);
+                    self.order(side, word, limit, shares)
+                }
+                80..=87 => {
+                    let bid = self.random.pick(&[0, self.middle - 1, self.middle, self.middle - 10]);
+                    let offer = self.random.pick(&[0, self.middle + 1, self.middle, self.middle + 10, 100]);
+                    self.quote(bid, offer)
+                }
+                // A cancel of an order that has gone, mostly.
+                88..=91 => {
+                    let order = self.random.between(0, self.book.last_number);
+                    self.command(Body::Cancel { order })
+                }
+                // Seldom, a sweep of a good part of the opposite side.
+                92 => {
+                    let limit = self.opposite_price(side);
+                    self.order(side, IOC | DISPLAYED | PRICE_ADJUST, limit, 1000)
+                }
+                // Numbers again or too high, with any order.
+                93 => {
+                    let mut command = self.order(side, word, passive, shares);
+                    command.number = self.random.pick(&[command.number - 1, command.number + 1]);
+                    command
+                }
+                _ => self.order(side, ORDINARY, passive, shares),
+            }
+        };
+        write_command(&command)
+    }
+
+    // Crossing days.
+
+    fn crossing_line(&mut self) -> Vec<u8> {
+        if self.printed % 200 == 0 {
+            // Another stretch of prices; the orders left at the last one lie far off and are swept.
+            let edges = [1500, 3000, 100, 102, 199_998, 200_000];
+            self.middle = self.random.pick(&edges);
+        }
+        let side = self.any_side();
+        let command = match self.random.below(100) {
+            0..=49 => {
+                // Small orders at a few prices, for others to sweep.
+                let steps = self.random.between(0, 8);
+                let price = self.passive(side, steps);
+                let word = self.random.pick(&[ORDINARY, ORDINARY, DAY | NON_DISPLAYED | PRICE_ADJUST, ORDINARY | ISO, DAY | NON_DISPLAYED | CANCEL_BACK]);
+                let shares = self.random.between(1, 40);
+                if self.side(side).len() == PLACES && self.random.percent(90) {
+                    self.cancel(side).expect("a full side is not empty")
+                } else {
+                    self.order(side, word, price, shares)
+                }
+            }
+            50..=64 => self.crossing_quote(),
+            65..=69 => match self.cancel(side) {
+                Some(cancel) => cancel,
+                None => self.crossing_quote(),
+            },
+            70..=79 => {
+                // Fill-or-Kill, just fillable and just not.
+                let market = if self.random.percent(25) { MARKET } else { 0 };
+                let limit = self.opposite_price(side);
+                let bound = match (market != 0, side) {
+                    (false, _) => limit,
+                    (true, BUY) => MAX_PRICE,
+                    (true, _) => MIN_PRICE,
+                };
+                let found = self.fillable(side, bound);
+                let shares = self.random.pick(&[found, found, found + 1, found.saturating_sub(1)]);
+                self.order(side, FOK | DISPLAYED | PRICE_ADJUST | market, limit, shares)
+            }
+            80..=86 => {
+                // Post Only at, one before and one past a price of the opposite side.
+                let price = self.opposite_price(side) - 1 + self.random.between(0, 2);
+                let pricing = self.random.pick(&[PRICE_ADJUST, PRICE_ADJUST, CANCEL_BACK]);
+                self.order(side, DAY | DISPLAYED | POST_ONLY | pricing, price, 25)
+            }
+            _ => {
+                // Large orders through many: IOC, market, ISO, and Day ones with a remainder to rest.
+                let words = [
+                    IOC | DISPLAYED | PRICE_ADJUST,
+                    IOC | NON_DISPLAYED | CANCEL_BACK | MARKET,
+                    IOC | DISPLAYED | PRICE_ADJUST | ISO,
+                    ORDINARY | ISO,
+                    DAY | NON_DISPLAYED | PRICE_ADJUST | ISO,
+                    ORDINARY,
+                    DAY | DISPLAYED | CANCEL_BACK,
+                    DAY | NON_DISPLAYED | PRICE_ADJUST,
+                    DAY | NON_DISPLAYED | CANCEL_BACK,
+                ];
+                let word = self.random.pick(&words);
+                let limit = self.opposite_price(side);
+                let found = self.fillable(side, limit);
+                let large = self.random.between(100, 2000);
+                let shares = self.random.pick(&[large, large, found, found + 1, MAX_SHARES]);
+                self.order(side, word, limit, shares)
+            }
+        };
+        write_command(&command)
+    }
+
+    /// Away quotes: ordinary, locked, crossed, one-sided, at our own best prices, at the edges.
+    fn crossing_quote(&mut self) -> Command {
+        let middle = self.middle;
+        let bid = self.best(BUY).unwrap_or(middle);
+        let offer = self.best(SELL).unwrap_or(middle);
+        let near = self.random.between(0, 3);
+        let quotes = [
+            (0, 0),
+            (middle - near, middle + near + 1),
+            (middle, middle),
+            (middle + near, middle - near),
+            (bid, offer),
+            (offer, bid),
+            (offer + near, 0),
+            (0, bid - near),
+            (bid, 0),
+            (0, offer),
+            (MAX_PRICE, middle),
+            (middle, MIN_PRICE),
+            (MAX_PRICE, MIN_PRICE),
+            (MAX_PRICE - near, MIN_PRICE + near),
+        ];
+        let (bid, offer) = self.random.pick(&quotes);
+        self.quote(bid, offer)
+    }
+}
+
+/// The line of a command, of any field values.
+fn write_command(command: &Command) -> Vec<u8> {
+    let Command { number, time, body } = command;
+    let line = match body {
+        Body::Order(Order { side, word, price, shares }) => {
+            format!("01{number:08x}{time:08x}{side:02x}{word:04x}{price:08x}{shares:08x}\n")
+        }
+        Body::Cancel { order } => format!("02{number:08x}{time:08x}{order:08x}\n"),
+        Body::Quote { bid, offer } => format!("03{number:08x}{time:08x}{bid:08x}{offer:08x}\n"),
+        Body::Close => format!("04{number:08x}{time:08x}\n"),
+    };
+    line.into_bytes()
+}
