@@ -1,0 +1,249 @@
+-- Demand 3, the sums: over any run from a fresh book, for each accepted order, shares entered equal shares executed plus cancelled,
+-- both summed from the event lines, plus those still resting. Assumes nothing.
+use Prim.Native.Nat.{ℕ, _+_, _≤_, _<_}
+use mathlib.Core.Bool.{true, false}
+use mathlib.Core.List.{List, [], _∷_, _++_}
+use mathlib.Core.Logic.{_≢_, ⊎-elim}
+use mathlib.Core.Path.{_≡_, refl, sym, ap, _∙_, subst}
+use native.Mathlib.Omega.{arith}
+use Rattle.basics.specs.Lists.{total, All, none, also}
+use Rattle.basics.proofs.LawsChoice.{holds-or-not}
+use Rattle.kinds.specs.declared.Number.{Number}
+use Rattle.rules.specs.declared.Away.{Away}
+use Rattle.rules.specs.declared.Body.{Body}
+use Rattle.rules.specs.declared.Body.the-variants as body
+use Rattle.rules.specs.declared.Command.{Command}
+use Rattle.rules.specs.declared.Event.{Event}
+use Rattle.rules.specs.declared.Order.{Order}
+use Rattle.rules.specs.declared.Reading.{Reading}
+use Rattle.rules.specs.declared.Reading.the-variants as reading
+use Rattle.rules.specs.declared.Resting.{Resting}
+use Rattle.rules.specs.Book.{Book, fresh, sound}
+use Rattle.rules.specs.CommandLines.{commandIn}
+use Rattle.rules.specs.Day.{bookAfter}
+use Rattle.rules.specs.EventLines.{eventLines, byCommand, atClose}
+use Rattle.rules.specs.Step.{doneBy, answer, answerTo}
+use Rattle.rules.specs.Working.{buying, takings, remainder, executions, after, ending, lastLine, withRemainder, accept, cancels, isNumber, cancel, quote, close, does}
+use Rattle.rules.proofs.LawsEvents.{eventLines-append}
+use Rattle.soundness.proofs.LawsKept.{answer-sound, fresh-sound}
+use Rattle.soundness.proofs.LawsSides.{InRange, sides-of}
+use Rattle.soundness.proofs.LawsSound.{sound-is}
+use Rattle.demands.specs.Once.{acts, eventLinesOf, numberIn}
+use Rattle.demands.specs.Sums.{eventsOf, countedIf, executedIn, cancelledIn, restsOn, restingOf, Enters, now, later}
+use Rattle.demands.proofs.LawsHeld.{counted-same, counted-other, counted-split, executed-append, cancelled-append, takings-no-more, takings-at-most, executions-sum, executions-cancel-none, cancels-sum, cancels-all, cancels-execute-none, ending-sum, ending-leaves}
+use Rattle.demands.proofs.LawsOnce.{refused-book, refused-events, next-acts, answer-rises}
+
+-- the event lines are the lines of the events
+pub lines-of-events : (b : Book) (lines : List (List ℕ)) → eventLinesOf b lines ≡ eventLines (eventsOf b lines)
+unfolding eventLinesOf eventsOf eventLines
+lines-of-events b [] = refl
+lines-of-events b (l ∷ ls) =
+    ap (λ (s : List ℕ). eventLines (answerTo b l .events) ++ s) (lines-of-events (answerTo b l .book) ls)
+    ∙ sym (eventLines-append (answerTo b l .events) (eventsOf (answerTo b l .book) ls))
+
+-- ── One command ──
+
+-- the shares of order n that events execute or cancel
+abbrev goneIn : Number → List Event → ℕ
+goneIn n es = executedIn n es + cancelledIn n es
+
+gone-append : (n : Number) (es fs : List Event) → goneIn n (es ++ fs) ≡ goneIn n es + goneIn n fs
+gone-append n es fs = omega (arith, executed-append n es fs, cancelled-append n es fs)
+
+-- an order's shares are what it takes and what is left of it
+split-entered : (n m : Number) (o : Order) (away : Away) (s : List Resting)
+    → countedIf n m (o .shares .0) ≡ countedIf n m (total (takings o away s)) + countedIf n m (remainder o away s)
+unfolding remainder
+split-entered n m o away s = counted-split n m (total (takings o away s)) (o .shares .0) (takings-at-most o away s)
+
+-- an order worked against the opposite side, with its own side
+work-sum : (n m : Number) (o : Order) (away : Away) (own opposite : List Resting)
+    → restsOn n own + restsOn n opposite + countedIf n m (o .shares .0)
+    ≡ goneIn n (executions m opposite (takings o away opposite) ++ lastLine m (remainder o away opposite) (ending o away opposite))
+    + (restsOn n (withRemainder m o (remainder o away opposite) (ending o away opposite) own) + restsOn n (after opposite (takings o away opposite)))
+work-sum n m o away own opposite =
+    let ts = takings o away opposite in
+    let left = remainder o away opposite in
+    let end = ending o away opposite in
+    omega (
+      arith,
+      gone-append n (executions m opposite ts) (lastLine m left end),
+      executions-sum n m (takings-no-more o away opposite),
+      executions-cancel-none n m opposite ts,
+      ending-sum n m o left end own (ending-leaves o away opposite),
+      split-entered n m o away opposite,
+    )
+
+accept-sum : (n m : Number) (time : ℕ) (o : Order) (b : Book)
+    → restingOf n b + countedIf n m (o .shares .0) ≡ goneIn n (accept m time o b .events) + restingOf n (accept m time o b .book)
+unfolding accept
+accept-sum n m time o b =
+    ⊎-elim
+    (λ (t : buying o ≡ true). rw t (work-sum n m o (b .away) (b .buys) (b .sells)))
+    (λ (t : buying o ≡ false). rw t (omega (arith, work-sum n m o (b .away) (b .sells) (b .buys))))
+    (holds-or-not (buying o))
+
+-- the shares that a command of number m enters under n
+abbrev pub enteredBy : Number → Number → Body → ℕ
+enteredBy n m (body.Order o) = countedIf n m (o .shares .0)
+enteredBy n m (body.Cancel of) = 0
+enteredBy n m (body.Quote away) = 0
+enteredBy n m body.Close = 0
+
+abbrev pub enteredUnder : Number → Command → ℕ
+enteredUnder n c = enteredBy n (c .number) (c .body)
+
+does-sum : (n m : Number) (time : ℕ) (c : Body) (b : Book)
+    → restingOf n b + enteredBy n m c ≡ goneIn n (does m time c b .events) + restingOf n (does m time c b .book)
+unfolding does cancel quote close executedIn cancelledIn restsOn
+does-sum n m time (body.Order o) b = accept-sum n m time o b
+does-sum n m time (body.Cancel of) b =
+    omega (
+      arith,
+      gone-append n (cancels byCommand (isNumber of) (b .buys)) (cancels byCommand (isNumber of) (b .sells)),
+      cancels-sum n byCommand (isNumber of) (b .buys),
+      cancels-sum n byCommand (isNumber of) (b .sells),
+      cancels-execute-none n byCommand (isNumber of) (b .buys),
+      cancels-execute-none n byCommand (isNumber of) (b .sells),
+    )
+does-sum n m time (body.Quote away) b = omega arith
+does-sum n m time body.Close b =
+    omega (
+      arith,
+      gone-append n (cancels atClose (λ h. true) (b .buys)) (cancels atClose (λ h. true) (b .sells)),
+      cancels-all n atClose (b .buys),
+      cancels-all n atClose (b .sells),
+      cancels-execute-none n atClose (λ h. true) (b .buys),
+      cancels-execute-none n atClose (λ h. true) (b .sells),
+    )
+
+-- ── One line ──
+
+answer-done : (b : Book) (line : List ℕ) → acts b line ≡ true → (c : Command) → commandIn line ≡ reading.Is c
+    → (answerTo b line .events ≡ does (c .number) (c .time) (c .body) b .events) × (answerTo b line .book ≡ does (c .number) (c .time) (c .body) b .book)
+unfolding answerTo answer doneBy
+answer-done b line t c e = (rw t (rw e refl), rw t (rw e refl))
+
+-- what rested of n, and what entered under n, is executed, cancelled or rests
+pub balance : (b : Book) (line : List ℕ) (n : Number) → sound b ≡ true → acts b line ≡ true → (c : Command) → commandIn line ≡ reading.Is c
+    → restingOf n b + enteredUnder n c
+    ≡ executedIn n (answerTo b line .events) + cancelledIn n (answerTo b line .events) + restingOf n (answerTo b line .book)
+balance b line n s t c e =
+    let done = answer-done b line t c e in
+    rw (done .0, done .1) (does-sum n (c .number) (c .time) (c .body) b)
+
+-- ── A run of lines ──
+
+-- a line that acts is a command with the number after the last
+next-number : (b : Book) (line : List ℕ) → acts b line ≡ true → (c : Command) → commandIn line ≡ reading.Is c → c .number .0 ≡ b .last .0 + 1
+next-number b line t c e = subst (λ (a : Reading). numberIn a ≡ b .last .0 + 1) e (next-acts b line t .0)
+
+-- under any other number it enters nothing
+acts-balance : (b : Book) (line : List ℕ) (n : Number) → sound b ≡ true → acts b line ≡ true → n .0 ≢ b .last .0 + 1
+    → restingOf n b ≡ goneIn n (answerTo b line .events) + restingOf n (answerTo b line .book)
+acts-balance b line n s t other = by-reading (commandIn line) refl
+  where
+    entered-none : (c : Command) (x : Body) → c .number .0 ≡ b .last .0 + 1 → enteredBy n (c .number) x ≡ 0
+    entered-none c (body.Order o) e = counted-other n (c .number) (o .shares .0) (λ (z : n .0 ≡ c .number .0). other (z ∙ e))
+    entered-none c (body.Cancel of) e = refl
+    entered-none c (body.Quote away) e = refl
+    entered-none c body.Close e = refl
+
+    by-reading : (a : Reading) → commandIn line ≡ a → restingOf n b ≡ goneIn n (answerTo b line .events) + restingOf n (answerTo b line .book)
+    by-reading reading.Bad e =
+        let z : 0 ≡ b .last .0 + 1 = subst (λ (a : Reading). numberIn a ≡ b .last .0 + 1) e (next-acts b line t .0) in
+        let no : ⊥ = omega (arith, z) in
+        absurd no
+    by-reading (reading.Is c) e =
+        omega (arith, balance b line n s t c e, entered-none c (c .body) (next-number b line t c e))
+
+-- nothing more enters under a number that is not above the last
+settled : (n : Number) (b : Book) (lines : List (List ℕ)) → sound b ≡ true → n .0 ≤ b .last .0
+    → restingOf n b ≡ goneIn n (eventsOf b lines) + restingOf n (bookAfter b lines)
+unfolding eventsOf bookAfter executedIn cancelledIn
+settled n b [] s l = omega arith
+settled n b (line ∷ lines) s l =
+    ⊎-elim
+    (λ (t : acts b line ≡ true).
+    let book = answerTo b line .book in
+    let last = next-acts b line t .1 in
+    let other : n .0 ≢ b .last .0 + 1 = λ (z : n .0 ≡ b .last .0 + 1). omega (arith, z) in
+    omega (
+      arith,
+      gone-append n (answerTo b line .events) (eventsOf book lines),
+      acts-balance b line n s t other,
+      settled n book lines (answer-sound b line s) (omega (arith, last)),
+    ))
+    (λ (t : acts b line ≡ false).
+    let book = answerTo b line .book in
+    let rest : restingOf n b ≡ goneIn n (eventsOf book lines) + restingOf n (bookAfter book lines) = rw (refused-book b line t) (settled n b lines s l) in
+    rw (refused-events b line t) rest)
+    (holds-or-not (acts b line))
+
+-- an order that enters has a number above the last
+enters-above : {b : Book} {lines : List (List ℕ)} {stood : Book} {c : Command} {o : Order} → Enters b lines stood c o → b .last .0 < c .number .0
+enters-above (now {b = b} {l = line} {c = c} t e f) = omega (arith, next-number b line t c e)
+enters-above (later {b = b} {l = line} r) = omega (arith, answer-rises b line, enters-above r)
+
+-- nothing rests under a number above the last
+above-none : (n : Number) {last : Number} {s : List Resting} → last .0 < n .0 → All (InRange last) s → restsOn n s ≡ 0
+unfolding restsOn
+above-none n l none = refl
+above-none n l (also {x = h} r a) =
+    let other : n .0 ≢ h .number .0 = λ (z : n .0 ≡ h .number .0). omega (arith, z, r .upToLast) in
+    omega (arith, counted-other n (h .number) (h .shares .0) other, above-none n l a)
+
+above-rests-none : (n : Number) (b : Book) → sound b ≡ true → b .last .0 < n .0 → restingOf n b ≡ 0
+above-rests-none n b s l =
+    let sides = sides-of true b (sound-is b s) in
+    omega (arith, above-none n l (sides .ownInRange), above-none n l (sides .oppositeInRange))
+
+entered-order : (n : Number) (c : Command) (o : Order) → n .0 ≡ c .number .0 → c .body ≡ body.Order o → enteredUnder n c ≡ o .shares .0
+entered-order n c o e f = rw f (counted-same n (c .number) (o .shares .0) e)
+
+conserved-from : {b : Book} {lines : List (List ℕ)} {stood : Book} {c : Command} {o : Order} → sound b ≡ true → Enters b lines stood c o
+    → o .shares .0 ≡ goneIn (c .number) (eventsOf b lines) + restingOf (c .number) (bookAfter b lines)
+unfolding eventsOf bookAfter
+conserved-from s (now {b = b} {l = line} {ls = lines} {c = c} {o = o} t e f) =
+    let book = answerTo b line .book in
+    let next = next-number b line t c e in
+    let last = next-acts b line t .1 in
+    omega (
+      arith,
+      gone-append (c .number) (answerTo b line .events) (eventsOf book lines),
+      balance b line (c .number) s t c e,
+      entered-order (c .number) c o refl f,
+      above-rests-none (c .number) b s (omega (arith, next)),
+      settled (c .number) book lines (answer-sound b line s) (omega (arith, next, last)),
+    )
+conserved-from s (later {b = b} {l = line} {ls = lines} {stood = stood} {c = c} {o = o} r) =
+    let book = answerTo b line .book in
+    let ih = conserved-from (answer-sound b line s) r in
+    ⊎-elim
+    (λ (t : acts b line ≡ true).
+    let above = enters-above r in
+    let last = next-acts b line t .1 in
+    let other : c .number .0 ≢ b .last .0 + 1 = λ (z : c .number .0 ≡ b .last .0 + 1). omega (arith, z, above, last) in
+    omega (
+      arith,
+      gone-append (c .number) (answerTo b line .events) (eventsOf book lines),
+      acts-balance b line (c .number) s t other,
+      above-rests-none (c .number) b s (omega (arith, above, last)),
+      ih,
+    ))
+    (λ (t : acts b line ≡ false). rw (refused-events b line t) ih)
+    (holds-or-not (acts b line))
+
+-- over any run from a fresh book, for each accepted order: shares entered = executed + cancelled + resting
+pub conserved : (lines : List (List ℕ)) (stood : Book) (c : Command) (o : Order) → Enters fresh lines stood c o
+    → o .shares .0
+    ≡ executedIn (c .number) (eventsOf fresh lines) + cancelledIn (c .number) (eventsOf fresh lines) + restingOf (c .number) (bookAfter fresh lines)
+conserved lines stood c o r = conserved-from fresh-sound r
+
+stood-from : {b : Book} {lines : List (List ℕ)} {stood : Book} {c : Command} {o : Order} → sound b ≡ true → Enters b lines stood c o → sound stood ≡ true
+stood-from s (now t e f) = s
+stood-from s (later {b = b} {l = line} r) = stood-from (answer-sound b line s) r
+
+-- the book that an order meets in a run is sound
+pub stood-sound : (lines : List (List ℕ)) (stood : Book) (c : Command) (o : Order) → Enters fresh lines stood c o → sound stood ≡ true
+stood-sound lines stood c o r = stood-from fresh-sound r

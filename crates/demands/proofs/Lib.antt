@@ -1,0 +1,5 @@
+pub mod LawsOnce
+pub mod LawsWalked
+pub mod LawsShareOut
+pub mod LawsHeld
+pub mod LawsSums
