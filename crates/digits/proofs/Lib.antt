@@ -1,2 +1,5 @@
 pub mod LawsDigits
+pub mod LawsWords
+pub mod LawsSpread
+pub mod LawsGather
 pub mod Determined

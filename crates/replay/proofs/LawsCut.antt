@@ -1,16 +1,16 @@
 -- The first line of an input, as a loop finds it, and what is cut behind it. Assumes nothing.
-use Prim.Native.Nat.{ℕ, zero, suc, _+_, _-_, _≤_, _<_}
-use mathlib.Core.Bool.{Bool, true, false, _||_}
+use Prim.Native.Nat.{ℕ, suc, _+_, _-_, _≤_, _<_}
+use mathlib.Core.Bool.{Bool, true, false}
 use mathlib.Core.List.{List, [], _∷_}
 use mathlib.Core.Logic.{⊎-elim}
-use mathlib.Core.Path.{_≡_, refl, ap, _∙_}
+use mathlib.Core.Path.{_≡_, refl, ap}
 use lib.Dec.{eqb}
-use lib.ListN.{length, getD, take, drop, drop-of-length-le, length-drop}
-use lib.Seq.{drop-cons, getD-drop}
+use lib.ListN.{length, getD, take, drop, drop-of-length-le}
+use lib.Seq.{drop-cons}
 use native.Mathlib.Numerals.{add-one}
 use native.Mathlib.Omega.{arith}
-use Rattle.basics.specs.Lists.{any, firstWhere}
-use Rattle.basics.proofs.LawsChoice.{holds-or-not, or-neither}
+use Rattle.basics.specs.Lists.{firstWhere}
+use Rattle.basics.proofs.LawsChoice.{holds-or-not}
 use Rattle.rules.specs.CommandLines.{lineFeed}
 use Rattle.replay.specs.Pieces.{Cut, cut, inFront}
 
@@ -31,43 +31,6 @@ module _ (s : List ℕ) (i : ℕ) where
   pub found-nowhere : length s ≤ i → i + firstWhere isLineFeed (drop i s) ≡ i
   unfolding firstWhere
   found-nowhere l = rw (drop-of-length-le s l) (omega arith)
-
--- ── A place that was guessed ──
-
--- no line feed among the first k bytes, and one behind them
-guessed : (s : List ℕ) (k : ℕ) → k < length s → any isLineFeed (take k s) ≡ false → isLineFeed (getD s k 0) ≡ true → firstWhere isLineFeed s ≡ k
-unfolding any firstWhere
-guessed [] k l n t = let z : ⊥ = omega arith in absurd z
-guessed (c ∷ s) zero l n t = rw t
-guessed (c ∷ s) (suc k) l n t =
-    let both = or-neither (isLineFeed c) (any isLineFeed (take k s)) n in
-    rw (both .0) (ap suc (guessed s k (omega arith) (both .1) t))
-
-pub guessed-at : (s : List ℕ) (from end : ℕ) → from ≤ end → end < length s → any isLineFeed (take (end - from) (drop from s)) ≡ false → isLineFeed (getD s end 0) ≡ true
-    → end ≡ from + firstWhere isLineFeed (drop from s)
-guessed-at s from end f l n t =
-    let k : from + (end - from) ≡ end = omega arith in
-    let there : getD (drop from s) (end - from) 0 ≡ getD s end 0 = getD-drop from s (end - from) 0 ∙ rw k in
-    let long : length (drop from s) ≡ length s - from = length-drop from s in
-    let e : firstWhere isLineFeed (drop from s) ≡ end - from = guessed (drop from s) (end - from) (omega (arith, long)) n (ap isLineFeed there ∙ t) in
-    omega (arith, e)
-
--- one turn of a loop that looks at every byte
-pub any-turn : (s : List ℕ) (i : ℕ) (found : Bool) → i < length s → (found || isLineFeed (getD s i 0) || any isLineFeed (drop (i + 1) s)) ≡ (found || any isLineFeed (drop i s))
-unfolding any
-any-turn s i found l = rw (drop-cons s i 0 l, add-one i) (or-together found (isLineFeed (getD s i 0)) (any isLineFeed (drop (suc i) s)))
-  where
-    or-together : (a b c : Bool) → (a || b || c) ≡ (a || (b || c))
-    or-together true b c = refl
-    or-together false b c = refl
-
-pub any-end : (s : List ℕ) (i : ℕ) (found : Bool) → length s ≤ i → found ≡ (found || any isLineFeed (drop i s))
-unfolding any
-any-end s i found l = rw (drop-of-length-le s l) (or-false found)
-  where
-    or-false : (a : Bool) → a ≡ (a || false)
-    or-false true = refl
-    or-false false = refl
 
 -- ── The first line ──
 

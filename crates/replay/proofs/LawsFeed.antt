@@ -5,7 +5,7 @@ use mathlib.Core.Bool.{true}
 use mathlib.Core.List.{List, [], _∷_, _++_, append-assoc, append-nil}
 use mathlib.Core.Path.{_≡_, refl, sym, ap, _∙_}
 use lib.ListN.{length, take, drop, length-append, length-drop}
-use lib.Seq.{take-at, drop-drop, length-take-le}
+use lib.Seq.{take-at, take-all, drop-drop, length-take-le}
 use native.Mathlib.Omega.{arith}
 use borrow.Author.Tests.{lt-ltb, le-ltb}
 use Rattle.basics.specs.Bytes.{onto}
@@ -15,6 +15,7 @@ use Rattle.commands.specs.Commands.{Stands}
 use Rattle.rows.specs.Table.{tableOf}
 use Rattle.rows.proofs.LawsTable.{length-side, side-tableOf, holds-tableOf}
 use Rattle.rules.specs.Book.{Book, sound}
+use Rattle.rules.specs.CommandLines.{commandIn}
 use Rattle.rules.specs.Day.{printed}
 use Rattle.rules.specs.Refusals.{leastRoom}
 use Rattle.rules.specs.Step.{Answer, answerTo}
@@ -23,7 +24,9 @@ use Rattle.soundness.proofs.LawsSound.{sound-is}
 use Rattle.tables.specs.declared.Head.{Head}
 use Rattle.tables.specs.Tables.{bookOn, headOf}
 use Rattle.replay.specs.declared.Fed.{Fed}
-use Rattle.replay.specs.Feed.{Worked, nothingOf, behind, worked, fedBy}
+use Rattle.replay.specs.declared.Line.{Line}
+use Rattle.replay.specs.Lines.{firstLine}
+use Rattle.replay.specs.Feed.{answerFor, Worked, nothingOf, behind, worked, fedBy}
 use Rattle.replay.specs.Pieces.{Cut, cut}
 use Rattle.replay.proofs.LawsCut.{isLineFeed, cut-line, cut-none}
 
@@ -91,12 +94,20 @@ module _ (input out₀ : List ℕ) (b₀ : Book) (t u : List (List ℕ)) (out : 
   pub ends-full : length out - len < leastRoom → Ends
   ends-full l = ends (no-room (cut (drop at input) .whole) (length out₀ - len) (bookOn h t u) (omega (arith, f .long)))
 
-  pub ends-empty : length input ≤ at + firstWhere isLineFeed (drop at input) → Ends
+  ends-empty : length input ≤ at + firstWhere isLineFeed (drop at input) → Ends
   unfolding worked
   ends-empty l =
       let short : length (drop at input) ≡ length input - at = length-drop at input in
       let m : length (drop at input) ≤ firstWhere isLineFeed (drop at input) = omega (arith, short) in
       ends (rw (cut-none (drop at input) m))
+
+  rest-is : take (length input - at) (drop at input) ≡ drop at input
+  rest-is = take-all (length input - at) (drop at input) (omega (arith, length-drop at input))
+
+  pub ends-found : (l : Line) → l ≡ firstLine (take (length input - at) (drop at input)) → length input - at ≤ l .digits → Ends
+  ends-found l found none =
+      let d : l .digits ≡ firstWhere isLineFeed (drop at input) = ap (λ (x : Line). x .digits) found ∙ rw rest-is in
+      ends-empty (omega (arith, d, none, f .within))
 
   -- so the header, the tables and the output are those of all that is worked
   pub left-end : Ends
@@ -199,3 +210,30 @@ module _ (input out₀ : List ℕ) (b₀ : Book) (t u : List (List ℕ)) (out : 
           where
             joined : List ℕ → Book → ℕ → Worked
             joined p b k = record { book = b; length = k; printed = p }
+
+  -- the same of a line that was found together with what it reads as
+  module _ (room : leastRoom ≤ length out - len) (l : Line) (found : l ≡ firstLine (take (length input - at) (drop at input)))
+      (isLine : l .digits < length input - at) where
+    place-is : at + l .digits ≡ at + firstWhere isLineFeed (drop at input)
+    place-is = ap (λ (x : Line). at + x .digits) found ∙ rw rest-is
+
+    line-read : answerFor (bookOn h t u) (l .reading) ≡ answerTo (bookOn h t u) (take (at + l .digits + 1 - at) (drop at input))
+    unfolding answerTo
+    line-read =
+        let k : at + l .digits + 1 - at ≡ suc (l .digits) = omega arith in
+        let d : l .digits ≡ firstWhere isLineFeed (drop at input) = ap (λ (x : Line). x .digits) found ∙ rw rest-is in
+        let r : l .reading ≡ commandIn (take (suc (firstWhere isLineFeed (drop at input))) (drop at input)) =
+        ap (λ (x : Line). x .reading) found ∙ rw rest-is in
+        rw (k, r, d)
+
+    pub feeding-line : (h′ : Head) (t′ u′ : List (List ℕ)) (n : ℕ) (part : List ℕ)
+        → h′ ≡ headOf (answerFor (bookOn h t u) (l .reading) .book) → n ≡ length (printed (answerFor (bookOn h t u) (l .reading)))
+        → t′ ≡ tableOf (answerFor (bookOn h t u) (l .reading) .book .buys) → u′ ≡ tableOf (answerFor (bookOn h t u) (l .reading) .book .sells)
+        → part ≡ onto (printed (answerFor (bookOn h t u) (l .reading))) (take (length out - len) (drop len out))
+        → length (take len out ++ (part ++ drop (length out - len) (drop len out))) ≡ length out
+        → Feeding input out₀ b₀ t′ u′ (take len out ++ (part ++ drop (length out - len) (drop len out))) h′ (at + (l .digits + 1)) (len + n)
+    feeding-line h′ t′ u′ n part headIs lengthIs buysIs sellsIs partIs same =
+        let next-at : at + (l .digits + 1) ≡ at + l .digits + 1 = omega arith in
+        rw next-at
+        (feeding-turn room (at + l .digits) place-is (omega (arith, isLine)) (take (at + l .digits + 1 - at) (drop at input)) refl h′ t′ u′ n part
+        (rw line-read at headIs) (rw line-read at lengthIs) (rw line-read at buysIs) (rw line-read at sellsIs) (rw line-read at partIs) same)

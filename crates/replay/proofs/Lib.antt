@@ -2,5 +2,6 @@ pub mod LawsLines
 pub mod LawsPieces
 pub mod LawsCut
 pub mod LawsFeed
+pub mod LawsFirst
 pub mod LawsPrinted
 pub mod Determined

@@ -1,13 +1,15 @@
 -- The whole lines of an input worked one after the other, as long as the output has room for the lines of a command.
 use Prim.Native.Nat.{ℕ, _+_, _-_}
+use mathlib.Core.Bool.{true}
 use mathlib.Core.List.{List, [], _∷_, _++_}
 use lib.Dec.{ltb}
 use lib.ListN.{length}
 use Rattle.basics.specs.Choice.{if_then_else_}
+use Rattle.rules.specs.declared.Reading.{Reading}
 use Rattle.rules.specs.Book.{Book}
 use Rattle.rules.specs.Day.{printed}
-use Rattle.rules.specs.Refusals.{leastRoom}
-use Rattle.rules.specs.Step.{Answer, answerTo}
+use Rattle.rules.specs.Refusals.{leastRoom, refusals, firstOf}
+use Rattle.rules.specs.Step.{Answer, answer, answerTo}
 use Rattle.tables.specs.Tables.{headOf}
 use Rattle.replay.specs.declared.Fed.{Fed}
 use Rattle.replay.specs.declared.Printed.{Printed}
@@ -30,6 +32,10 @@ worked room b [] = nothingOf b
 worked room b (l ∷ ls) =
     if ltb room leastRoom then nothingOf b
     else behind l (printed (answerTo b l)) (worked (room - length (printed (answerTo b l))) (answerTo b l .book) ls)
+
+-- the answer of a sound book, with room for its lines, to what a line reads as
+abbrev pub answerFor : Book → Reading → Answer
+answerFor b r = answer (firstOf (refusals leastRoom true b r)) r b
 
 -- the same in a header and numbers
 abbrev pub printedStep : Answer → Printed

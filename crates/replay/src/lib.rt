@@ -9,18 +9,18 @@ use tables::Head;
 ghost use mathlib.Core.Path.{_≡_};
 ghost use Prim.Native.Nat.{_+_, _≤_, min};
 ghost use lib.Dec.{eqb};
-ghost use lib.ListN.{length, drop};
+ghost use lib.ListN.{length};
 ghost use Rattle.basics.specs.Bytes.{onto};
-ghost use Rattle.basics.specs.Lists.{any, firstWhere, moved};
+ghost use Rattle.basics.specs.Lists.{firstWhere, moved};
 ghost use Rattle.commands.specs.Commands.{Stands};
 ghost use Rattle.rows.specs.Table.{tableOf};
 ghost use Rattle.rules.specs.Book.{fresh};
 ghost use Rattle.rules.specs.CommandLines.{lineFeed};
 ghost use Rattle.rules.specs.Day.{printed};
 ghost use Rattle.rules.specs.Refusals.{leastRoom};
-ghost use Rattle.rules.specs.Step.{answerTo};
 ghost use Rattle.tables.specs.Tables.{bookOn, headOf};
-ghost use Rattle.replay.specs.Feed.{worked, printedStep, fedBy};
+ghost use Rattle.replay.specs.Feed.{worked, answerFor, printedStep, fedBy};
+ghost use Rattle.replay.specs.Lines.{digitsAfter, firstLine, otherLine};
 ghost use Rattle.replay.specs.Pieces.{cut, partKept};
 
 // What a line leaves: the header, and the length of what is printed of it.
@@ -54,21 +54,88 @@ pub fn begin() -> Head
     }
 }
 
-// One line: its event lines, or the line of its refusal.
+// ── A line ──
+
+// The first line of some bytes: how many stand before its line feed, and what it reads as.
+pub struct Line {
+    pub digits: usize,
+    pub reading: Reading,
+}
+
+// How many digits a command has whose second digit is `c`.
+fn digits_after(c: u8) -> usize
+    ensures { λ r. ⌜ r ≡ digitsAfter c ⌝ }
+{
+    match c {
+        49 => 40,
+        50 => 26,
+        51 => 34,
+        52 => 18,
+        _ => 0,
+    }
+}
+
+// The place of the first line feed, or the length where there is none.
+fn scan_line(s: &[u8]) -> usize
+    ensures { λ r. ⌜ r ≡ firstWhere (λ c. eqb c lineFeed) (now (s .entry)) ⌝ }
+{
+    let mut i = 0;
+    while i < s.len() {
+        if s[i] == 10 {
+            return i;
+        }
+        i += 1;
+    }
+    i
+}
+
+// The first line, where it is no command.
+fn other_line(s: &[u8]) -> Line
+    ensures { λ r. ⌜ r ≡ otherLine (now (s .entry)) ⌝ }
+{
+    let n = scan_line(s);
+    Line {
+        digits: n,
+        reading: Reading::Bad,
+    }
+}
+
+// Most lines are commands: the bytes of one are read first, and where they are one, no other byte of them is a line feed. Only a
+// line that is none is looked through for its end.
+fn first_line(s: &[u8]) -> Line
+    ensures { λ r. ⌜ r ≡ firstLine (now (s .entry)) ⌝ }
+{
+    if s.len() < 2 {
+        return other_line(s);
+    }
+    let n = digits_after(s[1]);
+    if s.len() <= n {
+        return other_line(s);
+    }
+    let Reading::Is(c) = reader::read_command(&s[0..n + 1]) else {
+        return other_line(s);
+    };
+    Line {
+        digits: n,
+        reading: Reading::Is(c),
+    }
+}
+
+// What is printed of a line that reads so: its event lines, or the line of its refusal.
 fn print_line(
     h: Head,
-    line: &[u8],
+    reading: Reading,
     buys: &mut [[u32; 4]; PLACES],
     sells: &mut [[u32; 4]; PLACES],
     out: &mut [u8],
 ) -> Printed
     requires { ⌜ Stands h (now buys) (now sells) × (leastRoom ≤ length (now out)) ⌝ }
-    ensures { λ r. ⌜ r ≡ printedStep (answerTo (bookOn h (now (buys .entry)) (now (sells .entry))) (now (line .entry))) ⌝ }
-    ensures { λ _. ⌜ now (buys .exit) ≡ tableOf (answerTo (bookOn h (now (buys .entry)) (now (sells .entry))) (now (line .entry)) .book .buys) ⌝ }
-    ensures { λ _. ⌜ now (sells .exit) ≡ tableOf (answerTo (bookOn h (now (buys .entry)) (now (sells .entry))) (now (line .entry)) .book .sells) ⌝ }
-    ensures { λ _. ⌜ now (out .exit) ≡ onto (printed (answerTo (bookOn h (now (buys .entry)) (now (sells .entry))) (now (line .entry)))) (now (out .entry)) ⌝ }
+    ensures { λ r. ⌜ r ≡ printedStep (answerFor (bookOn h (now (buys .entry)) (now (sells .entry))) reading) ⌝ }
+    ensures { λ _. ⌜ now (buys .exit) ≡ tableOf (answerFor (bookOn h (now (buys .entry)) (now (sells .entry))) reading .book .buys) ⌝ }
+    ensures { λ _. ⌜ now (sells .exit) ≡ tableOf (answerFor (bookOn h (now (buys .entry)) (now (sells .entry))) reading .book .sells) ⌝ }
+    ensures { λ _. ⌜ now (out .exit) ≡ onto (printed (answerFor (bookOn h (now (buys .entry)) (now (sells .entry))) reading)) (now (out .entry)) ⌝ }
 {
-    let Reading::Is(c) = reader::read_command(line) else {
+    let Reading::Is(c) = reading else {
         let length = events::write_refusal(out, 3);
         return Printed {
             head: h,
@@ -90,65 +157,7 @@ fn print_line(
     }
 }
 
-// Whether a line feed stands among some bytes. Every byte is looked at, so that it compiles to steps of many bytes.
-fn has_line_feed(bytes: &[u8]) -> bool
-    ensures { λ r. ⌜ r ≡ any (λ c. eqb c lineFeed) (now (bytes .entry)) ⌝ }
-{
-    let mut found = false;
-    let mut i = 0;
-    while i < bytes.len() {
-        found = found | (bytes[i] == 10);
-        i += 1;
-    }
-    found
-}
-
-// Where the line that begins at place `from` would end, if it were a command of the kind that its second digit says.
-fn guess_end(input: &[u8], from: usize) -> usize
-    requires { ⌜ from ≤ length (now input) ⌝ }
-    ensures { λ r. ⌜ from ≤ r ⌝ }
-{
-    if input.len() - from < 41 {
-        return from;
-    }
-    match input[from + 1] {
-        49 => from + 40,
-        50 => from + 26,
-        51 => from + 34,
-        52 => from + 18,
-        _ => from,
-    }
-}
-
-// The same place found byte by byte.
-fn scan_line(input: &[u8], from: usize) -> usize
-    requires { ⌜ from ≤ length (now input) ⌝ }
-    ensures { λ r. ⌜ r ≡ from + firstWhere (λ c. eqb c lineFeed) (drop from (now (input .entry))) ⌝ }
-{
-    let mut i = from;
-    while i < input.len() {
-        if input[i] == 10 {
-            return i;
-        }
-        i += 1;
-    }
-    i
-}
-
-// The place of the first line feed from place `from` on, or the length of the input where there is none. Most lines are commands,
-// so the end of one is tried first.
-fn line_end(input: &[u8], from: usize) -> usize
-    requires { ⌜ from ≤ length (now input) ⌝ }
-    ensures { λ r. ⌜ r ≡ from + firstWhere (λ c. eqb c lineFeed) (drop from (now (input .entry))) ⌝ }
-{
-    let end = guess_end(input, from);
-    if end < input.len() {
-        if (input[end] == 10) & !has_line_feed(&input[from..end]) {
-            return end;
-        }
-    }
-    scan_line(input, from)
-}
+// ── A piece of input ──
 
 // Works the whole lines of an input, until none is left or the output has no room for another.
 pub fn feed(
@@ -173,14 +182,15 @@ pub fn feed(
         if out.len() - length < 4096 {
             break;
         }
-        let end = line_end(input, at);
-        if input.len() <= end {
+        let line = first_line(&input[at..]);
+        if input.len() - at <= line.digits {
             break;
         }
-        let p = print_line(head, &input[at..end + 1], buys, sells, &mut out[length..]);
+        let reading = line.reading;
+        let p = print_line(head, reading, buys, sells, &mut out[length..]);
         head = p.head;
         length += p.length;
-        at = end + 1;
+        at += line.digits + 1;
     }
     Fed {
         head: head,

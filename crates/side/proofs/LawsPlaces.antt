@@ -10,7 +10,7 @@ use native.Mathlib.Omega.{arith}
 use borrow.Author.Tests.{eqb-true, le-ltb}
 use Rattle.basics.specs.Choice.{if_then_else_}
 use Rattle.basics.specs.Lists.{firstWhere}
-use Rattle.basics.proofs.LawsChoice.{holds-or-not}
+use Rattle.basics.proofs.LawsChoice.{holds-or-not, or-neither}
 use Rattle.basics.proofs.LawsLists.{ahead-none, ahead-cons}
 use Rattle.rows.specs.Table.{orderOf}
 use Rattle.rules.specs.declared.Resting.{Resting}
@@ -44,6 +44,25 @@ module _ (n : ℕ) (t : List (List ℕ)) (i : ℕ) (whole : n ≤ length t) wher
         → i + firstWhere test (ahead n t i) ≡ i + 1 + firstWhere test (ahead n t (i + 1))
     unfolding firstWhere
     where-next l o e p = rw (ahead-next l o e, p) (omega arith)
+
+-- a turn that passes four orders
+pub where-four : (n : ℕ) (t : List (List ℕ)) (i : ℕ) → n ≤ length t → i + 4 ≤ n → (test : Resting → Bool)
+    → (((test (orderOf (getD t i [])) || test (orderOf (getD t (i + 1) []))) || test (orderOf (getD t (i + 2) []))) || test (orderOf (getD t (i + 3) []))) ≡ false
+    → i + firstWhere test (ahead n t i) ≡ i + 4 + firstWhere test (ahead n t (i + 4))
+where-four n t i whole l test none =
+    let abc = or-neither _ _ none in
+    let ab = or-neither _ _ (abc .0) in
+    let a = or-neither _ _ (ab .0) in
+    let two : i + 1 + 1 ≡ i + 2 = omega arith in
+    let three : i + 2 + 1 ≡ i + 3 = omega arith in
+    let four : i + 3 + 1 ≡ i + 4 = omega arith in
+    where-next n t i whole test (omega arith) _ refl (a .0)
+    ∙ where-next n t (i + 1) whole test (omega arith) _ refl (a .1)
+    ∙ ap (λ (j : ℕ). j + firstWhere test (ahead n t j)) two
+    ∙ where-next n t (i + 2) whole test (omega arith) _ refl (ab .1)
+    ∙ ap (λ (j : ℕ). j + firstWhere test (ahead n t j)) three
+    ∙ where-next n t (i + 3) whole test (omega arith) _ refl (abc .1)
+    ∙ ap (λ (j : ℕ). j + firstWhere test (ahead n t j)) four
 
 -- ── Rank by values ──
 

@@ -5,14 +5,46 @@ use kinds::Shares;
 use rows::PLACES;
 use rules::Resting;
 ghost use mathlib.Core.Bool.{not};
+ghost use mathlib.Core.List.{[]};
 ghost use mathlib.Core.Path.{_≡_};
+ghost use Prim.Native.Nat.{_+_, _≤_, _<_};
+ghost use lib.ListN.{getD, drop};
 ghost use Rattle.basics.specs.Lists.{firstWhere};
-ghost use Rattle.rows.specs.Table.{side, Holds};
-ghost use Rattle.rules.specs.Book.{ranksBefore};
+ghost use Rattle.rows.specs.Table.{side, orderOf, Holds};
+ghost use Rattle.rules.specs.Book.{placesASide, ranksBefore};
 ghost use Rattle.rules.specs.Working.{beyond, isNumber};
 ghost use Rattle.side.specs.Walk.{isWithin, stopOf};
 
 // ── Places ──
+
+// Whether the order at a place has a number.
+fn is_at(t: &[[u32; 4]; PLACES], i: usize, number: Number) -> bool
+    requires { ⌜ i < placesASide ⌝ }
+    ensures { λ r. ⌜ r ≡ isNumber number (orderOf (getD (now (t .entry)) i [])) ⌝ }
+{
+    let o = rows::row(t, i);
+    o.number.0 == number.0
+}
+
+// A place before which no order has a number. Four orders are passed at a time, since most are others.
+fn pass_others(t: &[[u32; 4]; PLACES], n: usize, number: Number) -> usize
+    requires { ⌜ Holds n (now t) ⌝ }
+    ensures { λ r. ⌜ (r ≤ n) × (r + firstWhere (isNumber number) (drop r (side n (now (t .entry)))) ≡ firstWhere (isNumber number) (side n (now (t .entry)))) ⌝ }
+{
+    rows::whole(t);
+    let mut i = 0;
+    while i + 4 <= n {
+        if is_at(t, i, number)
+            | is_at(t, i + 1, number)
+            | is_at(t, i + 2, number)
+            | is_at(t, i + 3, number)
+        {
+            return i;
+        }
+        i += 4;
+    }
+    i
+}
 
 // The place of the order of a number, or `n` where none has it.
 pub fn find(t: &[[u32; 4]; PLACES], n: usize, number: Number) -> usize
@@ -20,10 +52,9 @@ pub fn find(t: &[[u32; 4]; PLACES], n: usize, number: Number) -> usize
     ensures { λ r. ⌜ r ≡ firstWhere (isNumber number) (side n (now (t .entry))) ⌝ }
 {
     rows::whole(t);
-    let mut i = 0;
+    let mut i = pass_others(t, n, number);
     while i < n {
-        let o = rows::row(t, i);
-        if o.number.0 == number.0 {
+        if is_at(t, i, number) {
             return i;
         }
         i += 1;

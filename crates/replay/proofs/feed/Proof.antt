@@ -1,13 +1,14 @@
 -- `replay::feed` meets its contract. The loop's invariant (`Feeding`): what is worked so far, and what is worked of the rest, are
 -- together what is worked of the whole input. Assumes nothing.
 use Prim.Native.Nat.{_+_, _-_, _≤_, _<_}
-use mathlib.Core.Path.{refl, ap}
-use lib.ListN.{length}
+use mathlib.Core.List.{_++_}
+use mathlib.Core.Path.{ap}
+use lib.ListN.{length, take, drop}
 use native.Mathlib.Omega.{arith}
 use borrow.Author.Needs.{needs}
 use denote.Ref.{now}
 use Rattle.tables.specs.Tables.{bookOn}
-use Rattle.replay.proofs.LawsFeed.{Feeding, feeding-start, feeding-turn, ends-full, ends-empty, left-end}
+use Rattle.replay.proofs.LawsFeed.{Feeding, feeding-start, feeding-line, ends-full, ends-found, left-end}
 use Rattle.replay.proofs.feed.Statement.{statement}
 use Rattle.replay.proofs.feed.Tie as tie
 
@@ -25,11 +26,20 @@ loop-holds c =
 sub-loop : tie.Need-sub-loop Inv-loop μ-loop
 sub-loop c = search needs
 
-line-end-requires : tie.Need-line-end-requires Inv-loop μ-loop
-line-end-requires c κs = search needs
+sub-first-line : tie.Need-sub-first-line Inv-loop μ-loop
+sub-first-line c = search needs
 
-add-print-line : tie.Need-add-print-line Inv-loop μ-loop
-add-print-line c = search needs
+part-first-line-start : tie.Need-part-first-line-start Inv-loop μ-loop
+part-first-line-start c = search needs
+
+part-first-line-end : tie.Need-part-first-line-end Inv-loop μ-loop
+part-first-line-end c = search needs
+
+first-line-requires : tie.Need-first-line-requires Inv-loop μ-loop
+first-line-requires c κs = search needs
+
+sub-if1 : tie.Need-sub-if1 Inv-loop μ-loop
+sub-if1 c = search needs
 
 sub-print-line : tie.Need-sub-print-line Inv-loop μ-loop
 sub-print-line c = search needs
@@ -39,15 +49,6 @@ part-print-line-start c = search needs
 
 part-print-line-end : tie.Need-part-print-line-end Inv-loop μ-loop
 part-print-line-end c = search needs
-
-sub-print-line-2 : tie.Need-sub-print-line-2 Inv-loop μ-loop
-sub-print-line-2 c = search needs
-
-part-print-line-start-2 : tie.Need-part-print-line-start-2 Inv-loop μ-loop
-part-print-line-start-2 c = search needs
-
-part-print-line-end-2 : tie.Need-part-print-line-end-2 Inv-loop μ-loop
-part-print-line-end-2 c = search needs
 
 print-line-requires : tie.Need-print-line-requires Inv-loop μ-loop
 print-line-requires c κs = search needs
@@ -60,33 +61,46 @@ input-fits : (c : tie.After-slice-known Inv-loop μ-loop) → length (now (c .be
 input-fits c = search needs
 
 -- what holds after a turn
-turned : tie.Need-loop-again Inv-loop μ-loop
-turned c =
-    let a = c .before .before .before .before .before .before .before .before .before .before .before .before .before .before .before .args in
-    let l = c .before .before .before .before .before .before .before .before .before .before .before .before .loop in
-    let end = c .before .before .before .before .before .before .before .before .before .before .line-end in
+abbrev Turned : tie.After-struct-known2 Inv-loop μ-loop → Type 0
+Turned c =
+    let a = c .before .before .before .before .before .before .before .before .before .before .before .before .before .before .before .before .args in
+    let l = c .before .before .before .before .before .before .before .before .before .before .before .before .before .loop in
     let x = c .before .before .before .before .print-line in
-    feeding-turn (now (a .input)) (now (a .out)) (bookOn (a .h) (now (a .buys)) (now (a .sells))) (l .buys) (l .sells) (l .out) (l .head) (l .at) (l .length) (l .inv)
-    (c .before .before .before .before .before .before .before .before .before .before .before .loop-test .left) (end .result) (end .ensures) (omega (arith, c .before .before .before .before .before .before .before .before .before .if1 .left)) _ refl
+    Feeding (now (a .input)) (now (a .out)) (bookOn (a .h) (now (a .buys)) (now (a .sells))) (x .last .1 .1 .0) (x .last .1 .1 .1 .0)
+    (take (l .length) (l .out) ++ (x .last .1 .1 .1 .1 .0 ++ drop (length (l .out) - l .length) (drop (l .length) (l .out)))) (x .result .head)
+    (l .at + (c .before .before .before .before .before .before .before .before .before .before .first-line .result .digits + 1)) (l .length + x .result .length)
+
+turned : (c : tie.After-struct-known2 Inv-loop μ-loop) → Turned c
+turned c =
+    let a = c .before .before .before .before .before .before .before .before .before .before .before .before .before .before .before .before .args in
+    let l = c .before .before .before .before .before .before .before .before .before .before .before .before .before .loop in
+    let x = c .before .before .before .before .print-line in
+    feeding-line (now (a .input)) (now (a .out)) (bookOn (a .h) (now (a .buys)) (now (a .sells))) (l .buys) (l .sells) (l .out) (l .head) (l .at) (l .length) (l .inv)
+    (c .before .before .before .before .before .before .before .before .before .before .before .before .loop-test .left) (c .before .before .before .before .before .before .before .before .before .before .first-line .result) (c .before .before .before .before .before .before .before .before .before .before .first-line .ensures) (omega (arith, c .before .before .before .before .before .before .before .before .if1 .left))
     (x .result .head) (x .last .1 .1 .0) (x .last .1 .1 .1 .0) (x .result .length) (x .last .1 .1 .1 .1 .0)
     (ap (λ r. r .head) (x .ensures .0)) (ap (λ r. r .length) (x .ensures .0)) (x .ensures .1 .0) (x .ensures .1 .1 .0) (x .ensures .1 .1 .1) (search needs)
 
 add-length : tie.Need-add-length Inv-loop μ-loop
 add-length c =
-    let a = c .before .before .before .before .before .before .before .before .before .before .before .before .before .before .before .args in
-    let fit : c .before .before .before .before .before .before .before .before .before .before .before .before .loop .length + c .before .before .before .before .print-line .result .length ≤ length (now (a .out)) = turned c .fits in
-    omega (arith, fit, out-fits (c .before .before .before .before .before .before .before .before .before .before .before .before .before))
+    let a = c .before .before .before .before .before .before .before .before .before .before .before .before .before .before .before .before .args in
+    let fit : c .before .before .before .before .before .before .before .before .before .before .before .before .before .loop .length + c .before .before .before .before .print-line .result .length ≤ length (now (a .out)) = turned c .fits in
+    omega (arith, fit, out-fits (c .before .before .before .before .before .before .before .before .before .before .before .before .before .before))
 
 add-at : tie.Need-add-at Inv-loop μ-loop
 add-at c =
     let isLine = c .before .before .before .before .before .before .before .before .before .if1 .left in
-    omega (arith, isLine, input-fits (c .before .before .before .before .before .before .before .before .before .before .before .before .before))
+    omega (arith, isLine, input-fits (c .before .before .before .before .before .before .before .before .before .before .before .before .before .before .before))
+
+add-at-2 : tie.Need-add-at-2 Inv-loop μ-loop
+add-at-2 c =
+    let isLine = c .before .before .before .before .before .before .before .before .before .if1 .left in
+    omega (arith, isLine, input-fits (c .before .before .before .before .before .before .before .before .before .before .before .before .before .before .before))
 
 loop-less : tie.Need-loop-less Inv-loop μ-loop
 loop-less c = search needs
 
 loop-again : tie.Need-loop-again Inv-loop μ-loop
-loop-again c = turned c
+loop-again c = turned (c .before)
 
 same-length : tie.Need-same-length Inv-loop μ-loop
 same-length c = search needs
@@ -105,12 +119,11 @@ same-length-2 c = search needs
 
 returns-2 : tie.Need-returns-2 Inv-loop μ-loop
 returns-2 c =
-    let a = c .before .before .before .before .before .before .args in
-    let l = c .before .before .before .loop in
+    let a = c .before .before .before .before .before .before .before .before .args in
+    let l = c .before .before .before .before .before .loop in
     let f = l .inv in
-    let end = c .before .line-end in
     let k = left-end (now (a .input)) (now (a .out)) (bookOn (a .h) (now (a .buys)) (now (a .sells))) (l .buys) (l .sells) (l .out) (l .head) (l .at) (l .length) f
-    (ends-empty (now (a .input)) (now (a .out)) (bookOn (a .h) (now (a .buys)) (now (a .sells))) (l .buys) (l .sells) (l .out) (l .head) (l .at) (l .length) f (omega (arith, end .ensures, c .if1 .taken))) in
+    (ends-found (now (a .input)) (now (a .out)) (bookOn (a .h) (now (a .buys)) (now (a .sells))) (l .buys) (l .sells) (l .out) (l .head) (l .at) (l .length) f (c .before .before .first-line .result) (c .before .before .first-line .ensures) (omega (arith, c .if1 .taken))) in
     (k .0, (k .1 .0, (k .1 .1 .0, (k .1 .1 .1, ((f .within, f .fits), f .stands)))))
 
 pub feed-spec : {M : Type 1} → statement M
@@ -121,17 +134,18 @@ feed-spec =
     μ-loop
     loop-holds
     sub-loop
-    line-end-requires
-    add-print-line
+    sub-first-line
+    part-first-line-start
+    part-first-line-end
+    first-line-requires
+    sub-if1
     sub-print-line
     part-print-line-start
     part-print-line-end
-    sub-print-line-2
-    part-print-line-start-2
-    part-print-line-end-2
     print-line-requires
     add-length
     add-at
+    add-at-2
     loop-less
     loop-again
     same-length

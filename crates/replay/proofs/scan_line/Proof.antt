@@ -1,6 +1,6 @@
 -- `replay::scan_line` meets its contract. The loop passes bytes that are no line feed. Assumes nothing.
 use Prim.Native.Nat.{_+_, _-_, _≤_}
-use mathlib.Core.Path.{_≡_, refl, sym, _∙_}
+use mathlib.Core.Path.{_≡_, sym, _∙_}
 use lib.ListN.{length, drop}
 use native.Mathlib.Omega.{arith}
 use borrow.Author.Needs.{needs}
@@ -12,13 +12,13 @@ use Rattle.replay.proofs.scan_line.Statement.{statement}
 use Rattle.replay.proofs.scan_line.Tie as tie
 
 abbrev Inv-loop : tie.InvT-loop
-Inv-loop input from i₀ i = (i ≤ length input) × (i + firstWhere isLineFeed (drop i input) ≡ from + firstWhere isLineFeed (drop from input))
+Inv-loop s i₀ i = (i ≤ length s) × (i + firstWhere isLineFeed (drop i s) ≡ firstWhere isLineFeed s)
 
 abbrev μ-loop : tie.MeasureT-loop
-μ-loop input from i₀ i = length input - i
+μ-loop s i₀ i = length s - i
 
 loop-holds : tie.Need-loop-holds Inv-loop μ-loop
-loop-holds c = (search needs, refl)
+loop-holds c = (search needs, omega arith)
 
 shared-slice-read-if1 : tie.Need-shared-slice-read-if1 Inv-loop μ-loop
 shared-slice-read-if1 c = search needs
@@ -27,7 +27,7 @@ returns : tie.Need-returns Inv-loop μ-loop
 returns c =
     let l = c .before .before .before .loop in
     let a = c .before .before .before .before .args in
-    sym (found-here (now (a .input)) (l .i) (omega arith) (eq-eqb _ _ (c .if1 .taken))) ∙ l .inv .1
+    sym (found-here (now (a .s)) (l .i) (omega arith) (eq-eqb _ _ (c .if1 .taken))) ∙ l .inv .1
 
 add-i : tie.Need-add-i Inv-loop μ-loop
 add-i c = search needs
@@ -39,13 +39,13 @@ loop-again : tie.Need-loop-again Inv-loop μ-loop
 loop-again c =
     let l = c .before .before .before .loop in
     let a = c .before .before .before .before .args in
-    (omega arith, sym (found-later (now (a .input)) (l .i) (omega arith) (ne-eqb _ _ (c .if1 .left))) ∙ l .inv .1)
+    (omega arith, sym (found-later (now (a .s)) (l .i) (omega arith) (ne-eqb _ _ (c .if1 .left))) ∙ l .inv .1)
 
 returns-2 : tie.Need-returns-2 Inv-loop μ-loop
 returns-2 c =
     let l = c .before .loop in
     let a = c .before .before .args in
-    sym (found-nowhere (now (a .input)) (l .i) (omega arith)) ∙ l .inv .1
+    sym (found-nowhere (now (a .s)) (l .i) (omega arith)) ∙ l .inv .1
 
 pub scan-line-spec : {M : Type 1} → statement M
 scan-line-spec =
