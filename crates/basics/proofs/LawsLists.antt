@@ -212,3 +212,7 @@ module _ {A B : Type 0} (f : A → B) where
 pub all-alike : {A : Type 0} {P Q : A → Type 0} → ((x : A) → P x → Q x) → {s : List A} → All P s → All Q s
 all-alike f none = none
 all-alike f (also {x = x} p a) = also (f x p) (all-alike f a)
+
+pub all-both : {A : Type 0} {P : A → Type 0} {s u : List A} → All P s → All P u → All P (s ++ u)
+all-both none b = b
+all-both (also p a) b = also p (all-both a b)

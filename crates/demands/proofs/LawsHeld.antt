@@ -1,19 +1,17 @@
 -- Demand 3, the sums of one command: what executing, cancelling and resting do to the shares that a side holds of an order.
 -- Assumes nothing.
 use Prim.Native.Nat.{ℕ, _+_, _-_, _≤_, min}
-use mathlib.Core.Bool.{Bool, true, false, not, _&&_, _||_, true≢false}
+use mathlib.Core.Bool.{Bool, true, false, not, true≢false}
 use mathlib.Core.List.{List, [], _∷_, _++_}
 use mathlib.Core.Logic.{_≢_, ⊎-elim}
 use mathlib.Core.Path.{_≡_, refl, sym, ap, _∙_}
-use lib.Dec.{eqb, ltb}
+use lib.Dec.{eqb}
 use native.Mathlib.Omega.{arith}
 use borrow.Author.Tests.{eq-eqb, ne-eqb, eqb-true}
-use Rattle.basics.specs.Choice.{if_then_else_}
 use Rattle.basics.specs.Lists.{total}
 use Rattle.basics.proofs.LawsChoice.{holds-or-not}
-use Rattle.kinds.specs.declared.Cents.{Cents}
 use Rattle.kinds.specs.declared.Number.{Number}
-use Rattle.kinds.specs.Kinds.{priceInRange, shares}
+use Rattle.kinds.specs.Kinds.{shares}
 use Rattle.rules.specs.declared.Away.{Away}
 use Rattle.rules.specs.declared.Ending.{Ending}
 use Rattle.rules.specs.declared.Ending.the-variants.{Filled, Rests, Cancels}
@@ -21,11 +19,12 @@ use Rattle.rules.specs.declared.Event.{Event}
 use Rattle.rules.specs.declared.Order.{Order}
 use Rattle.rules.specs.declared.Resting.{Resting}
 use Rattle.rules.specs.Book.{ranksBefore}
-use Rattle.rules.specs.Instructions.{ioc, fok, iso, displayed, cancelBack, postOnly, has}
-use Rattle.rules.specs.Working.{buying, beyond, lockingPrice, absent, mayTouch, nothing, walk, smaller, walked, takings, remainder, executions, after, adjusted, oneCentLessAggressive, seeks, equalsOrPasses, unlessPostOnlyMeets, endingWith, ending, lastLine, insert, withRemainder, kept, cancels}
+use Rattle.rules.specs.Instructions.{ioc, fok, displayed, postOnly, has}
+use Rattle.rules.specs.Working.{buying, mayTouch, nothing, walk, smaller, walked, takings, remainder, executions, after, endingWith, ending, lastLine, insert, withRemainder, kept, cancels}
 use Rattle.demands.specs.ShareOut.{Each, empty, with}
-use Rattle.demands.specs.Sums.{countedIf, executedIn, cancelledIn, restsOn}
-use Rattle.demands.proofs.LawsWalked.{nothing-total, walk-at-most}
+use Rattle.demands.proofs.LawsEndings.{chosen, sought-is}
+use Rattle.demands.specs.Told.{countedIf, executedIn, cancelledIn, restsOn}
+use Rattle.demands.proofs.LawsWalked.{nothing-total, taken, walk-at-most}
 
 -- ── What is counted under a number ──
 
@@ -86,7 +85,7 @@ walk-no-more may left (h ∷ s) =
     (λ (t : may h ≡ false). rw t (nothing-no-more (h ∷ s)))
     (holds-or-not (may h))
 
--- what holds of no takings and of those of a walk holds of an order's
+-- what holds of no takings and of those of a walk holds of what an order would take
 walks : (P : List ℕ → Type 0) (o : Order) (away : Away) (s : List Resting) → P (nothing s)
     → P (walk (λ (h : Resting). mayTouch o away (h .price)) smaller (o .shares .0) s) → P (walked o away s)
 unfolding walked
@@ -96,23 +95,20 @@ walks P o away s p q =
     (λ (t : has (o .word) postOnly ≡ false). rw t q)
     (holds-or-not (has (o .word) postOnly))
 
-taken : (P : List ℕ → Type 0) (o : Order) (away : Away) (s : List Resting) → P (nothing s)
-    → P (walk (λ (h : Resting). mayTouch o away (h .price)) smaller (o .shares .0) s) → P (takings o away s)
-unfolding takings
-taken P o away s p q =
-    ⊎-elim
-    (λ (t : (has (o .word) fok && ltb (total (walked o away s)) (o .shares .0)) ≡ true). rw t p)
-    (λ (t : (has (o .word) fok && ltb (total (walked o away s)) (o .shares .0)) ≡ false). rw t (walks P o away s p q))
-    (holds-or-not (has (o .word) fok && ltb (total (walked o away s)) (o .shares .0)))
-
 pub takings-no-more : (o : Order) (away : Away) (s : List Resting) → Each NoMore s (takings o away s)
 takings-no-more o away s =
-    taken (Each NoMore s) o away s (nothing-no-more s) (walk-no-more (λ (h : Resting). mayTouch o away (h .price)) (o .shares .0) s)
+    taken (Each NoMore s) o away s (nothing-no-more s)
+    (walks (Each NoMore s) o away s (nothing-no-more s) (walk-no-more (λ (h : Resting). mayTouch o away (h .price)) (o .shares .0) s))
 
 pub takings-at-most : (o : Order) (away : Away) (s : List Resting) → total (takings o away s) ≤ o .shares .0
 takings-at-most o away s =
-    taken (λ (ts : List ℕ). total ts ≤ o .shares .0) o away s (omega (arith, nothing-total s))
-    (walk-at-most (λ (h : Resting). mayTouch o away (h .price)) (o .shares .0) s)
+    taken AtMost o away s none (walks AtMost o away s none (walk-at-most (λ (h : Resting). mayTouch o away (h .price)) (o .shares .0) s))
+  where
+    AtMost : List ℕ → Type 0
+    AtMost ts = total ts ≤ o .shares .0
+
+    none : AtMost (nothing s)
+    none = omega (arith, nothing-total s)
 
 -- what executions say of n, as the incoming order and as a resting one, with what the side still holds of it
 pub executions-sum : (n m : Number) {s : List Resting} {ts : List ℕ} → Each NoMore s ts
@@ -213,27 +209,8 @@ isFilled Filled = true
 isFilled (Rests price) = false
 isFilled (Cancels reason) = false
 
-by-choice : (t : Bool) (e f : Ending) → isFilled e ≡ false → isFilled f ≡ false → isFilled (if t then e else f) ≡ false
-by-choice true e f p q = p
-by-choice false e f p q = q
-
-adjusted-unfilled : (o : Order) (price : Cents) → isFilled (adjusted o price) ≡ false
-adjusted-unfilled o price = by-choice (has (o .word) cancelBack) _ _ refl (by-choice (priceInRange price) _ _ refl refl)
-
-seeks-unfilled : (o : Order) (away : Away) → isFilled (seeks o away) ≡ false
-unfolding seeks
-seeks-unfilled o away =
-    let locking = lockingPrice (buying o) away in
-    let wouldCross = beyond (buying o) locking (o .price) in
-    let wouldLock = eqb (o .price .0) (locking .0) in
-    by-choice (has (o .word) iso || absent locking) _ _ refl
-    (by-choice (has (o .word) displayed && (wouldLock || wouldCross)) _ _ (adjusted-unfilled o (oneCentLessAggressive (buying o) locking))
-    (by-choice (not (has (o .word) displayed) && wouldCross) _ _ (adjusted-unfilled o locking) refl))
-
-unless-unfilled : (o : Order) (s : List Resting) (e : Ending) → isFilled e ≡ false → isFilled (unlessPostOnlyMeets o s e) ≡ false
-unless-unfilled o s Filled p = p
-unless-unfilled o s (Rests price) p = by-choice (has (o .word) postOnly && equalsOrPasses (buying o) price s) _ _ refl refl
-unless-unfilled o s (Cancels reason) p = refl
+abbrev Unfilled : Ending → Type 0
+Unfilled e = isFilled e ≡ false
 
 with-unfilled : (left : ℕ) (o : Order) (away : Away) (s : List Resting) → Leaves left (endingWith left o away s)
 unfolding endingWith
@@ -241,8 +218,8 @@ with-unfilled left o away s f =
     ⊎-elim
     (λ (t : eqb left 0 ≡ true). eqb-true left 0 t)
     (λ (t : eqb left 0 ≡ false).
-    let u : isFilled (endingWith left o away s) ≡ false =
-    rw t (by-choice (has (o .word) fok) _ _ refl (by-choice (has (o .word) ioc) _ _ refl (unless-unfilled o s (seeks o away) (seeks-unfilled o away)))) in
+    let u : Unfilled (endingWith left o away s) =
+    rw t (chosen Unfilled (has (o .word) fok) refl (chosen Unfilled (has (o .word) ioc) refl (sought-is Unfilled (λ price. refl) refl refl refl o away s))) in
     absurd (true≢false (sym (ap isFilled f) ∙ u)))
     (holds-or-not (eqb left 0))
 

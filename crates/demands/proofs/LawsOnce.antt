@@ -1,17 +1,17 @@
 -- Demand 1: a refusal hands back the same record and writes no byte; the day with its refused commands struck out ends in the same
 -- book and gives the same lines; and each command number acts at most once. Assumes nothing.
-use Prim.Native.Nat.{ℕ, _+_, _≤_, _<_}
+use Prim.Native.Nat.{ℕ, zero, suc, _+_, _≤_, _<_}
 use mathlib.Core.Bool.{Bool, true, false, not}
 use mathlib.Core.List.{List, [], _∷_, _++_}
-use mathlib.Core.Logic.{_≢_, ⊎-elim}
+use mathlib.Core.Logic.{_≢_, _⊎_, ⊎-elim}
 use mathlib.Core.Path.{_≡_, refl, sym, ap, subst}
 use lib.Dec.{eqb, leb, ltb}
 use lib.ListN.{length}
 use native.Mathlib.Omega.{arith}
-use borrow.Author.Tests.{eqb-true, ne-eqb, le-leb}
+use borrow.Author.Tests.{eqb-true, eqb-false, ne-eqb, le-leb}
 use Rattle.basics.specs.Bytes.{onto}
 use Rattle.basics.specs.Lists.{any, distinct}
-use Rattle.basics.proofs.LawsChoice.{holds-or-not}
+use Rattle.basics.proofs.LawsChoice.{holds-or-not, by-test}
 use Rattle.kinds.specs.declared.Number.{Number}
 use Rattle.rules.specs.declared.Body.{Body}
 use Rattle.rules.specs.declared.Body.the-variants as body
@@ -27,7 +27,8 @@ use Rattle.rules.specs.Refusals.{Refusal, _givenWhen_, leastRoom, firstOf, unti
 use Rattle.rules.specs.Step.{doneBy, answer, answerTo, step, stepOn}
 use Rattle.rules.specs.Working.{accept, cancel, quote, close, does}
 use Rattle.soundness.proofs.LawsAccepted.{accepted}
-use Rattle.demands.specs.Once.{acts, struckOut, eventLinesOf, numberIn, actingNumbers, numbersFrom}
+use Rattle.demands.proofs.LawsRoom.{done-long, fit-for}
+use Rattle.demands.specs.Once.{EventLines, Refused, acts, struckOut, eventLinesOf, numberIn, actingNumbers, numbersFrom}
 
 -- ── Any bytes, any record, any output ──
 
@@ -77,6 +78,35 @@ unfolding step stepOn refusals
 refusal-numbers r line out =
     up-to-eleven 1 (ltb (length out) leastRoom) _ (omega arith)
     (up-to-eleven 2 (not (recordSound r)) _ (omega arith) (line-numbers (bookIn r) (commandIn line)))
+
+-- every call ends with event lines or with one numbered refusal
+pub lines-or-refusal : (r : BookRecord) (line out : List ℕ) → EventLines out (step r line out) ⊎ Refused r out (step r line out)
+unfolding step stepOn answer
+lines-or-refusal r line out =
+    by-test (eqb (step r line out .refusal) 0)
+    (λ (t : eqb (step r line out .refusal) 0 ≡ true).
+    let none : step r line out .refusal ≡ 0 = eqb-true (step r line out .refusal) 0 t in
+    let facts = fit-for (length out) r (commandIn line) none in
+    record {
+      accepted = none;
+      events = doneBy (commandIn line) (bookIn r) .events;
+      fit = omega (arith, facts .0, done-long (bookIn r) (commandIn line) (facts .1));
+      long = rw t refl;
+      written = rw t refl;
+    })
+    (λ (t : eqb (step r line out .refusal) 0 ≡ false).
+    let some : step r line out .refusal ≢ 0 = eqb-false (step r line out .refusal) 0 t in
+    let same = refusal-touches-nothing r line out some in
+    record {
+      numbered = (nonzero (step r line out .refusal) some, refusal-numbers r line out);
+      noLine = same .2;
+      sameBook = same .0;
+      noByte = same .1;
+    })
+  where
+    nonzero : (k : ℕ) → k ≢ 0 → 1 ≤ k
+    nonzero zero n = absurd (n refl)
+    nonzero (suc k) n = omega arith
 
 -- ── One line of a day ──
 

@@ -22,7 +22,7 @@ use Rattle.rules.specs.Instructions.{fok, iso, market, postOnly, has}
 use Rattle.rules.specs.Working.{buying, beyond, lockingPrice, absent, mayTouch, nothing, walk, smaller, walked, takings}
 use Rattle.soundness.proofs.LawsRank.{ranked-first, rank-price}
 use Rattle.demands.specs.ShareOut.{Given, Each, empty, with, Fair, LawfulGiving, given, Lawful, Fills}
-use Rattle.demands.proofs.LawsWalked.{nothing-total, none-there, couldGive, available, walk-at-most, walk-rank, walk-total}
+use Rattle.demands.proofs.LawsWalked.{nothing-total, none-there, taken, couldGive, available, walk-at-most, walk-rank, walk-total}
 
 -- each taking beside its resting order's price
 unfoldable pub pricedAt : List Resting → List ℕ → List Given
@@ -253,19 +253,10 @@ module _ (o : Order) (away : Away) (opposite : List Resting) (isSide : o .side �
 
   -- ── Every order ──
 
-  -- what an order takes is nothing, or what the walk gives
-  taken : (P : List ℕ → Type 0) → P (nothing opposite) → P (walked o away opposite) → P (takings o away opposite)
-  unfolding takings
-  taken P p q =
-      ⊎-elim
-      (λ (t : (has (o .word) fok && ltb (total (walked o away opposite)) (o .shares .0)) ≡ true). rw t p)
-      (λ (t : (has (o .word) fok && ltb (total (walked o away opposite)) (o .shares .0)) ≡ false). rw t q)
-      (holds-or-not (has (o .word) fok && ltb (total (walked o away opposite)) (o .shares .0)))
-
   -- what is executed is lawful
   pub takings-lawful : Lawful o away opposite (pricedAt opposite (takings o away opposite))
   takings-lawful =
-      taken (λ (ts : List ℕ). Lawful o away opposite (pricedAt opposite ts))
+      taken (λ (ts : List ℕ). Lawful o away opposite (pricedAt opposite ts)) o away opposite
       (record { each = nothing-each opposite; inAll = omega (arith, nothing-given opposite) })
       walked-lawful
 
@@ -278,7 +269,7 @@ module _ (o : Order) (away : Away) (opposite : List Resting) (isSide : o .side �
   pub takings-rank : (i j : ℕ) → i < j → j < length opposite → 0 < getD (takings o away opposite) j 0 → Fair o away (getD opposite i unused .price)
       → getD (takings o away opposite) i 0 ≡ getD opposite i unused .shares .0
   takings-rank i j l k p f =
-      taken (λ (ts : List ℕ). 0 < getD ts j 0 → getD ts i 0 ≡ getD opposite i unused .shares .0)
+      taken (λ (ts : List ℕ). 0 < getD ts j 0 → getD ts i 0 ≡ getD opposite i unused .shares .0) o away opposite
       (λ (q : 0 < getD (nothing opposite) j 0). absurd (none-there opposite j q))
       (rw walked-is (walk-rank (mayTake o away) (o .shares .0) opposite i j l))
       p
@@ -286,4 +277,4 @@ module _ (o : Order) (away : Away) (opposite : List Resting) (isSide : o .side �
   -- what is executed in all is what that share-out gives
   pub takings-given : given (pricedAt opposite (takings o away opposite)) ≡ total (takings o away opposite)
   takings-given =
-      taken (λ (ts : List ℕ). given (pricedAt opposite ts) ≡ total ts) (nothing-given opposite ∙ sym (nothing-total opposite)) walked-given
+      taken (λ (ts : List ℕ). given (pricedAt opposite ts) ≡ total ts) o away opposite (nothing-given opposite ∙ sym (nothing-total opposite)) walked-given

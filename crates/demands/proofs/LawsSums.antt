@@ -29,7 +29,8 @@ use Rattle.soundness.proofs.LawsKept.{answer-sound, fresh-sound}
 use Rattle.soundness.proofs.LawsSides.{InRange, sides-of}
 use Rattle.soundness.proofs.LawsSound.{sound-is}
 use Rattle.demands.specs.Once.{acts, eventLinesOf, numberIn}
-use Rattle.demands.specs.Sums.{eventsOf, countedIf, executedIn, cancelledIn, restsOn, restingOf, Enters, now, later}
+use Rattle.demands.specs.Run.{eventsOf, Enters, now, later}
+use Rattle.demands.specs.Told.{countedIf, executedIn, cancelledIn, restsOn, restingOf}
 use Rattle.demands.proofs.LawsHeld.{counted-same, counted-other, counted-split, executed-append, cancelled-append, takings-no-more, takings-at-most, executions-sum, executions-cancel-none, cancels-sum, cancels-all, cancels-execute-none, ending-sum, ending-leaves}
 use Rattle.demands.proofs.LawsOnce.{refused-book, refused-events, next-acts, answer-rises}
 
@@ -181,7 +182,7 @@ settled n b (line ∷ lines) s l =
     (holds-or-not (acts b line))
 
 -- an order that enters has a number above the last
-enters-above : {b : Book} {lines : List (List ℕ)} {stood : Book} {c : Command} {o : Order} → Enters b lines stood c o → b .last .0 < c .number .0
+enters-above : {b : Book} {lines : List (List ℕ)} {stood : Book} {entry : List ℕ} {c : Command} {o : Order} → Enters b lines stood entry c o → b .last .0 < c .number .0
 enters-above (now {b = b} {l = line} {c = c} t e f) = omega (arith, next-number b line t c e)
 enters-above (later {b = b} {l = line} r) = omega (arith, answer-rises b line, enters-above r)
 
@@ -201,7 +202,7 @@ above-rests-none n b s l =
 entered-order : (n : Number) (c : Command) (o : Order) → n .0 ≡ c .number .0 → c .body ≡ body.Order o → enteredUnder n c ≡ o .shares .0
 entered-order n c o e f = rw f (counted-same n (c .number) (o .shares .0) e)
 
-conserved-from : {b : Book} {lines : List (List ℕ)} {stood : Book} {c : Command} {o : Order} → sound b ≡ true → Enters b lines stood c o
+conserved-from : {b : Book} {lines : List (List ℕ)} {stood : Book} {entry : List ℕ} {c : Command} {o : Order} → sound b ≡ true → Enters b lines stood entry c o
     → o .shares .0 ≡ goneIn (c .number) (eventsOf b lines) + restingOf (c .number) (bookAfter b lines)
 unfolding eventsOf bookAfter
 conserved-from s (now {b = b} {l = line} {ls = lines} {c = c} {o = o} t e f) =
@@ -235,15 +236,15 @@ conserved-from s (later {b = b} {l = line} {ls = lines} {stood = stood} {c = c} 
     (holds-or-not (acts b line))
 
 -- over any run from a fresh book, for each accepted order: shares entered = executed + cancelled + resting
-pub conserved : (lines : List (List ℕ)) (stood : Book) (c : Command) (o : Order) → Enters fresh lines stood c o
+pub conserved : (lines : List (List ℕ)) (stood : Book) (entry : List ℕ) (c : Command) (o : Order) → Enters fresh lines stood entry c o
     → o .shares .0
     ≡ executedIn (c .number) (eventsOf fresh lines) + cancelledIn (c .number) (eventsOf fresh lines) + restingOf (c .number) (bookAfter fresh lines)
-conserved lines stood c o r = conserved-from fresh-sound r
+conserved lines stood entry c o r = conserved-from fresh-sound r
 
-stood-from : {b : Book} {lines : List (List ℕ)} {stood : Book} {c : Command} {o : Order} → sound b ≡ true → Enters b lines stood c o → sound stood ≡ true
+stood-from : {b : Book} {lines : List (List ℕ)} {stood : Book} {entry : List ℕ} {c : Command} {o : Order} → sound b ≡ true → Enters b lines stood entry c o → sound stood ≡ true
 stood-from s (now t e f) = s
 stood-from s (later {b = b} {l = line} r) = stood-from (answer-sound b line s) r
 
 -- the book that an order meets in a run is sound
-pub stood-sound : (lines : List (List ℕ)) (stood : Book) (c : Command) (o : Order) → Enters fresh lines stood c o → sound stood ≡ true
-stood-sound lines stood c o r = stood-from fresh-sound r
+pub stood-sound : (lines : List (List ℕ)) (stood : Book) (entry : List ℕ) (c : Command) (o : Order) → Enters fresh lines stood entry c o → sound stood ≡ true
+stood-sound lines stood entry c o r = stood-from fresh-sound r

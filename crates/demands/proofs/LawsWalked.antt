@@ -1,18 +1,22 @@
 -- What a walk takes from resting orders, with any test of which may be touched: no more than is wanted, in rank order, and, where none
 -- behind one that may not be touched may be, as much as is wanted or all that the orders could give. Assumes nothing.
 use Prim.Native.Nat.{ℕ, zero, suc, _+_, _-_, _≤_, _<_, min}
-use mathlib.Core.Bool.{Bool, true, false}
+use mathlib.Core.Bool.{Bool, true, false, _&&_}
 use mathlib.Core.List.{List, [], _∷_}
 use mathlib.Core.Logic.{⊎-elim}
 use mathlib.Core.Path.{_≡_, refl}
+use lib.Dec.{ltb}
 use lib.ListN.{getD}
 use native.Mathlib.Omega.{arith}
 use Rattle.basics.specs.Choice.{if_then_else_}
 use Rattle.basics.specs.Lists.{total, All, none, also}
 use Rattle.basics.proofs.LawsChoice.{holds-or-not}
+use Rattle.rules.specs.declared.Away.{Away}
+use Rattle.rules.specs.declared.Order.{Order}
 use Rattle.rules.specs.declared.Resting.{Resting}
 use Rattle.rules.specs.Book.{inRankOrder, unused}
-use Rattle.rules.specs.Working.{nothing, walk, smaller}
+use Rattle.rules.specs.Instructions.{fok, has}
+use Rattle.rules.specs.Working.{nothing, walk, smaller, walked, takings}
 use Rattle.soundness.proofs.LawsRank.{ranked-rest}
 
 -- ── Nothing from anyone ──
@@ -103,3 +107,14 @@ module _ (may : Resting → Bool) (buy : Bool)
       (λ (t : may h ≡ true). rw t (omega (arith, walk-total (left - min left (h .shares .0)) s (ranked-rest buy h s r))))
       (λ (t : may h ≡ false). rw t (omega (arith, nothing-total (h ∷ s), none-available may (ends h s r t))))
       (holds-or-not (may h))
+
+-- ── An order ──
+
+-- an order takes nothing, or what the walk gives
+pub taken : (P : List ℕ → Type 0) (o : Order) (away : Away) (s : List Resting) → P (nothing s) → P (walked o away s) → P (takings o away s)
+unfolding takings
+taken P o away s p q =
+    ⊎-elim
+    (λ (t : (has (o .word) fok && ltb (total (walked o away s)) (o .shares .0)) ≡ true). rw t p)
+    (λ (t : (has (o .word) fok && ltb (total (walked o away s)) (o .shares .0)) ≡ false). rw t q)
+    (holds-or-not (has (o .word) fok && ltb (total (walked o away s)) (o .shares .0)))

@@ -1,5 +1,11 @@
+pub mod LawsRoom
 pub mod LawsOnce
 pub mod LawsWalked
 pub mod LawsShareOut
+pub mod LawsEndings
 pub mod LawsHeld
 pub mod LawsSums
+pub mod LawsExecutes
+pub mod LawsEventLines
+pub mod LawsTold
+pub mod LawsRun

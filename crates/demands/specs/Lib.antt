@@ -1,3 +1,5 @@
 pub mod Once
+pub mod Run
+pub mod Told
 pub mod ShareOut
-pub mod Sums
+pub mod Executes

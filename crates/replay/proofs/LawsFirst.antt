@@ -1,18 +1,17 @@
 -- The first line of some bytes, where it is read before its line feed is looked for: the bytes of a command hold no line feed but
 -- their last, and how many they are is told by the second of them. Assumes nothing.
-use Prim.Native.Nat.{ℕ, zero, suc, _+_, _*_, _/_, _%_, _≤_, _<_}
+use Prim.Native.Nat.{ℕ, zero, suc, _+_, _≤_, _<_}
 use mathlib.Core.Bool.{true, false, true≢false}
 use mathlib.Core.List.{List, [], _∷_, _++_, append-assoc}
 use mathlib.Core.Logic.{⊎-elim}
 use mathlib.Core.Path.{_≡_, refl, sym, ap, _∙_}
-use lib.Dec.{ltb}
 use lib.ListN.{length, getD, take, drop, length-append, take-append-drop}
 use lib.Seq.{length-take-le, take-all}
 use native.Mathlib.Omega.{arith}
-use borrow.Author.Tests.{ne-eqb}
 use Rattle.basics.specs.Lists.{none, also, firstWhere}
+use Rattle.basics.proofs.LawsLists.{all-both}
 use Rattle.basics.proofs.LawsChoice.{holds-or-not, lt-or-le}
-use Rattle.digits.specs.Digits.{digitOf, digits}
+use Rattle.digits.specs.Digits.{digits}
 use Rattle.rules.specs.declared.Body.{Body}
 use Rattle.rules.specs.declared.Body.the-variants.{Order, Cancel, Quote, Close}
 use Rattle.rules.specs.declared.Command.{Command}
@@ -20,31 +19,12 @@ use Rattle.rules.specs.declared.Reading.{Reading}
 use Rattle.rules.specs.declared.Reading.the-variants as reading
 use Rattle.rules.specs.CommandLines.{lineFeed, headerForm, kindOf, formOf, numbersOf, digitsIn, written, lineOf, commandIn}
 use Rattle.rules.proofs.LawsLines.{commandIn-is}
+use Rattle.rules.proofs.LawsUnended.{Unended, written-unended}
 use Rattle.rules.proofs.LawsWriting.{length-lineOf}
 use Rattle.replay.specs.declared.Line.{Line}
 use Rattle.replay.specs.Lines.{toLineFeed, firstLine, otherLine, digitsAfter}
 use Rattle.replay.proofs.LawsCut.{isLineFeed}
-use Rattle.replay.proofs.LawsLines.{Unended, unended-both, unended-bad}
-
--- ── Digits hold no line feed ──
-
-digit-no-feed : (n : ℕ) → isLineFeed (digitOf n) ≡ false
-digit-no-feed n =
-    ⊎-elim
-    (λ (t : ltb n 10 ≡ true). rw t (ne-eqb (48 + n) 10 (λ (e : 48 + n ≡ 10). omega (arith, e))))
-    (λ (t : ltb n 10 ≡ false). rw t (ne-eqb (87 + n) 10 (λ (e : 87 + n ≡ 10). omega (arith, e))))
-    (holds-or-not (ltb n 10))
-
-digits-no-feed : (k x : ℕ) → Unended (digits k x)
-unfolding digits
-digits-no-feed zero x = none
-digits-no-feed (suc k) x = unended-both (digits-no-feed k (x / 16)) (also (digit-no-feed (x % 16)) none)
-
-written-no-feed : (ws ns : List ℕ) → Unended (written ws ns)
-unfolding written
-written-no-feed [] ns = none
-written-no-feed (w ∷ ws) [] = none
-written-no-feed (w ∷ ws) (n ∷ ns) = unended-both (digits-no-feed (2 * w) n) (written-no-feed ws ns)
+use Rattle.replay.proofs.LawsLines.{unended-bad}
 
 -- ── The line feed of a command ──
 
@@ -70,7 +50,7 @@ command-feed s n c l is =
     let long : suc n ≡ length (inside c) + 1 =
     sym (length-take-le (suc n) s (omega arith)) ∙ ap length line ∙ length-append (inside c) (lineFeed ∷ []) in
     let unended : Unended (inside c) =
-    unended-both (written-no-feed headerForm (kindOf (c .body) ∷ c .number .0 ∷ c .time ∷ [])) (written-no-feed (formOf (c .body)) (numbersOf (c .body))) in
+    all-both (written-unended headerForm (kindOf (c .body) ∷ c .number .0 ∷ c .time ∷ [])) (written-unended (formOf (c .body)) (numbersOf (c .body))) in
     ap toLineFeed whole ∙ first-feed (inside c) (drop (suc n) s) unended ∙ omega (arith, long)
 
 pub first-command : (s : List ℕ) (n : ℕ) (c : Command) → n < length s → commandIn (take (suc n) s) ≡ reading.Is c

@@ -4,10 +4,9 @@ use Prim.Native.Nat.{ℕ, zero, suc, _≤_}
 use mathlib.Core.Bool.{false, true≢false}
 use mathlib.Core.List.{List, [], _∷_, _++_}
 use mathlib.Core.Path.{_≡_, refl, ap}
-use lib.Dec.{eqb}
 use lib.ListN.{length, take}
 use native.Mathlib.Omega.{arith}
-use Rattle.basics.specs.Lists.{All, none, also}
+use Rattle.basics.specs.Lists.{none, also}
 use Rattle.rules.specs.declared.Command.{Command}
 use Rattle.rules.specs.declared.Reading.{Reading}
 use Rattle.rules.specs.declared.Reading.the-variants as reading
@@ -18,16 +17,10 @@ use Rattle.rules.specs.EventLines.{refusalLine}
 use Rattle.rules.specs.Refusals.{firstOf, lineRefusals, refusals}
 use Rattle.rules.specs.Step.{answer, answerTo}
 use Rattle.rules.proofs.LawsLines.{commandIn-is}
+use Rattle.rules.proofs.LawsUnended.{Unended}
 use Rattle.rules.proofs.LawsWriting.{length-lineOf, formOf-short}
 
 -- ── Bytes with no line feed ──
-
-abbrev pub Unended : List ℕ → Type 0
-Unended s = All (λ (c : ℕ). eqb c lineFeed ≡ false) s
-
-pub unended-both : {s u : List ℕ} → Unended s → Unended u → Unended (s ++ u)
-unended-both none b = b
-unended-both (also e a) b = also e (unended-both a b)
 
 pub unended-take : (k : ℕ) {s : List ℕ} → Unended s → Unended (take k s)
 unended-take zero a = none

@@ -10,6 +10,7 @@ use lib.ListN.{length, take, length-append}
 use lib.Seq.{take-all, length-take-le}
 use native.Mathlib.Omega.{arith}
 use Rattle.basics.specs.Lists.{none, also}
+use Rattle.basics.proofs.LawsLists.{all-both}
 use Rattle.basics.proofs.LawsChoice.{holds-or-not, lt-or-le}
 use Rattle.rules.specs.Book.{Book, fresh}
 use Rattle.rules.specs.CommandLines.{lineFeed}
@@ -17,7 +18,8 @@ use Rattle.rules.specs.Day.{joined, linesIn, bookAfter, printed, printedOf, out
 use Rattle.rules.specs.EventLines.{refusalLine}
 use Rattle.rules.specs.Step.{answerTo}
 use Rattle.replay.specs.Pieces.{Cut, inFront, cut, partKept, begun, printedAtEnd, printedOfPieces, allOf}
-use Rattle.replay.proofs.LawsLines.{Unended, unended-both, unended-take, long-bad, unended-bad, printedOf-bad, bookAfter-bad}
+use Rattle.rules.proofs.LawsUnended.{Unended}
+use Rattle.replay.proofs.LawsLines.{unended-take, long-bad, unended-bad, printedOf-bad, bookAfter-bad}
 
 -- ── Lines in front of lines ──
 
@@ -125,7 +127,7 @@ unfolding partInFront
 long-agreeing {p} {q} a c h k [] {part} z = record {
   prints = λ (b : Book). refl;
   books = λ (b : Book). refl;
-  parts = record { first = unended-both a z; second = unended-both c z; either = inr (longer p part h, longer q part k) };
+  parts = record { first = all-both a z; second = all-both c z; either = inr (longer p part h, longer q part k) };
 }
 long-agreeing {p} {q} a c h k (l ∷ ls) z =
     let firstBad = long-bad (p ++ l) (longer p l h) in

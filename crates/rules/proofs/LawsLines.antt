@@ -27,14 +27,14 @@ use Rattle.rules.specs.CommandLines.{Fitting, empty, fits, Fits, Numbers
 use Rattle.rules.proofs.LawsWriting.{Paired, pair, length-written, header-paired}
 use Rattle.rules.proofs.LawsWriting as writing
 
-fitting-paired : {ws ns : List ℕ} → Fitting ws ns → Paired ws ns
+pub fitting-paired : {ws ns : List ℕ} → Fitting ws ns → Paired ws ns
 fitting-paired empty = writing.none
 fitting-paired (fits w n l f) = pair w n (fitting-paired f)
 
 -- ── Numbers of a form: written, then read ──
 
 -- behind any digits p and before any bytes t
-numbersFrom-written : {ws ns : List ℕ} → Fitting ws ns → (p t : List ℕ) (at : ℕ) → length p ≡ at → numbersFrom at ws (p ++ (written ws ns ++ t)) ≡ are ns
+pub numbersFrom-written : {ws ns : List ℕ} → Fitting ws ns → (p t : List ℕ) (at : ℕ) → length p ≡ at → numbersFrom at ws (p ++ (written ws ns ++ t)) ≡ are ns
 unfolding numbersFrom written
 numbersFrom-written empty p t at e = refl
 numbersFrom-written (fits {ws = ws} {ns = ns} w n l f) p t at e =

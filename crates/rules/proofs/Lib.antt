@@ -1,4 +1,5 @@
 pub mod LawsWriting
 pub mod LawsLines
+pub mod LawsUnended
 pub mod LawsEvents
 pub mod Examples

@@ -131,7 +131,7 @@ orders-places : (s : List Resting) → ordersIn (placesOf s) ≡ s
 unfolding placesOf
 orders-places s = take-append-seam s (replicate (placesASide - length s) unused)
 
-book-record : (b : Book) → bookIn (recordOf b) ≡ b
+pub book-record : (b : Book) → bookIn (recordOf b) ≡ b
 unfolding bookIn recordOf
 book-record b = rw (orders-places (b .buys), orders-places (b .sells))
 
@@ -147,7 +147,7 @@ places-sound s l =
     let all : length (s ++ unusedPlaces) ≡ placesASide = simp (length-append, length-replicate) (omega arith) in
     rw (le-leb (length s) placesASide l, eq-eqb (length (s ++ unusedPlaces)) placesASide all, drop-append-seam s unusedPlaces) (every-unused (placesASide - length s))
 
-record-sound : (b : Book) → sound b ≡ true → recordSound (recordOf b) ≡ true
+pub record-sound : (b : Book) → sound b ≡ true → recordSound (recordOf b) ≡ true
 unfolding recordSound recordOf
 record-sound b s =
     let facts = sound-is b s in

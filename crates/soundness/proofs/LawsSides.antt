@@ -8,7 +8,7 @@ use lib.Dec.{eqb, leb}
 use lib.ListN.{length}
 use native.Mathlib.Omega.{arith}
 use borrow.Author.Tests.{le-leb, leb-true, ne-eqb}
-use Rattle.basics.proofs.LawsLists.{all-alike}
+use Rattle.basics.proofs.LawsLists.{all-alike, all-both}
 use Rattle.basics.specs.Choice.{if_then_else_}
 use Rattle.basics.specs.Lists.{every, any, distinct, All, none, also}
 use Rattle.basics.proofs.LawsChoice.{and-left, and-right}
@@ -64,10 +64,6 @@ ranges-second last [] [] e = none
 ranges-second last [] (h ∷ u) e =
     also (range-is last h (and-left (restingInRange last h) (every (restingInRange last) u) e)) (ranges-second last [] u (and-right (restingInRange last h) (every (restingInRange last) u) e))
 ranges-second last (h ∷ s) u e = ranges-second last s u (and-right (restingInRange last h) (every (restingInRange last) (s ++ u)) e)
-
-all-both : {P : Resting → Type 0} {s u : List Resting} → All P s → All P u → All P (s ++ u)
-all-both none b = b
-all-both (also p a) b = also p (all-both a b)
 
 ranges-every : (last : Number) {s : List Resting} → All (InRange last) s → every (restingInRange last) s ≡ true
 unfolding every

@@ -1,0 +1,232 @@
+-- What the program prints, read back line by line, tells the very events of the book, since every field of an event fits its
+-- width; and the lines of refusals tell none. Assumes nothing.
+use Prim.Native.Nat.{ℕ, _^_, _≤_, _<_}
+use mathlib.Core.Bool.{Bool, true, false, not, _&&_, _||_}
+use mathlib.Core.List.{List, [], _∷_, _++_, append-nil}
+use mathlib.Core.Logic.{⊎-elim}
+use mathlib.Core.Path.{_≡_, refl, sym, ap, _∙_}
+use lib.Dec.{eqb, leb}
+use native.Mathlib.Omega.{arith}
+use borrow.Author.Tests.{leb-true}
+use Rattle.basics.specs.Choice.{if_then_else_}
+use Rattle.basics.specs.Lists.{All, none, also}
+use Rattle.basics.proofs.LawsChoice.{holds-or-not, and-right}
+use Rattle.basics.proofs.LawsLists.{all-alike, all-both}
+use Rattle.kinds.specs.declared.Cents.{Cents}
+use Rattle.kinds.specs.declared.Number.{Number}
+use Rattle.kinds.specs.Kinds.{priceInRange}
+use Rattle.rules.specs.declared.Away.{Away}
+use Rattle.rules.specs.declared.Body.{Body}
+use Rattle.rules.specs.declared.Body.the-variants as body
+use Rattle.rules.specs.declared.Ending.{Ending}
+use Rattle.rules.specs.declared.Ending.the-variants.{Filled, Rests, Cancels}
+use Rattle.rules.specs.declared.Event.{Event}
+use Rattle.rules.specs.declared.Order.{Order}
+use Rattle.rules.specs.declared.Reading.{Reading}
+use Rattle.rules.specs.declared.Reading.the-variants as reading
+use Rattle.rules.specs.declared.Resting.{Resting}
+use Rattle.rules.specs.Book.{Book, sound}
+use Rattle.rules.specs.CommandLines.{Fitting, empty, fits, headerForm, orderForm, numbersOf, formOf, commandIn}
+use Rattle.rules.specs.Day.{linesIn, printed, printedOf}
+use Rattle.rules.specs.EventLines.{byCommand, atClose}
+use Rattle.rules.specs.Instructions.{ioc, fok, iso, displayed, cancelBack, postOnly, has}
+use Rattle.rules.specs.Step.{doneBy, answer, answerTo}
+use Rattle.rules.specs.Working.{buying, beyond, lockingPrice, absent, oppositeSide, remainder, executions, adjusted, oneCentLessAggressive, seeks, equalsOrPasses, unlessPostOnlyMeets, endingWith, ending, lastLine, accept, cancels, isNumber, cancel, quote, close, does}
+use Rattle.rules.proofs.LawsLines.{commandIn-is}
+use Rattle.soundness.proofs.LawsKept.{answer-sound}
+use Rattle.soundness.proofs.LawsSides.{InRange, sides-of}
+use Rattle.soundness.proofs.LawsSound.{sound-is}
+use Rattle.demands.specs.Once.{acts, numberIn}
+use Rattle.demands.specs.Run.{eventsOf}
+use Rattle.demands.specs.ShareOut.{Each, empty, with}
+use Rattle.demands.specs.Told.{eventsOn, eventsIn}
+use Rattle.demands.proofs.LawsEventLines.{FitsEvent, events-read, refusal-read}
+use Rattle.demands.proofs.LawsHeld.{NoMore, takings-no-more}
+use Rattle.demands.proofs.LawsOnce.{refused-book, refused-events, next-acts}
+
+-- ── Resting orders ──
+
+-- the fields of a resting order fit in four bytes
+record Small (h : Resting) : Type 0 where
+  number : h .number .0 < 2 ^ 32
+  price : h .price .0 < 2 ^ 32
+  shares : h .shares .0 < 2 ^ 32
+
+-- a price in range does
+price-small : (p : Cents) → priceInRange p ≡ true → p .0 < 2 ^ 32
+price-small p e =
+    let most : p .0 ≤ 200000 = leb-true (p .0) 200000 (and-right (leb 100 (p .0)) (leb (p .0) 200000) e) in
+    omega arith
+
+-- so every resting order of a sound book is small, if its last number has four bytes
+all-small : {last : Number} → last .0 < 2 ^ 32 → {s : List Resting} → All (InRange last) s → All Small s
+all-small l a = all-alike (λ h r. record { number = omega (arith, l, r .upToLast); price = price-small (h .price) (r .priced); shares = omega (arith, r .atMost) }) a
+
+-- ── Executions and cancels ──
+
+-- each execution is of a resting order, at its price, and none gives more than it holds
+executions-fit : (n : Number) → n .0 < 2 ^ 32 → {s : List Resting} {ts : List ℕ} → All Small s → Each NoMore s ts → All FitsEvent (executions n s ts)
+unfolding executions
+executions-fit n l none empty = none
+executions-fit n l (also {x = h} r a) (with {y = t} m e) =
+    ⊎-elim
+    (λ (z : eqb t 0 ≡ true). rw z (executions-fit n l a e))
+    (λ (z : eqb t 0 ≡ false).
+    rw z (also (fits 1 0x11 (omega arith) (fits 4 (n .0) l (fits 4 (h .number .0) (r .number) (fits 4 (h .price .0) (r .price) (fits 4 t (omega (arith, r .shares)) empty))))) (executions-fit n l a e)))
+    (holds-or-not (eqb t 0))
+
+-- each cancel is of a resting order with all of its shares
+cancels-fit : (reason : ℕ) → reason < 2 ^ 8 → (gone : Resting → Bool) {s : List Resting} → All Small s → All FitsEvent (cancels reason gone s)
+unfolding cancels
+cancels-fit reason l gone none = none
+cancels-fit reason l gone (also {x = h} r a) =
+    ⊎-elim
+    (λ (t : gone h ≡ true).
+    rw t (also (fits 1 0x13 (omega arith) (fits 4 (h .number .0) (r .number) (fits 4 (h .shares .0) (r .shares) (fits 1 reason l empty)))) (cancels-fit reason l gone a)))
+    (λ (t : gone h ≡ false). rw t (cancels-fit reason l gone a))
+    (holds-or-not (gone h))
+
+-- ── The ending of an order ──
+
+-- the price at which it rests fits in four bytes, the reason for which it is cancelled in one
+data FitsEnding : Ending → Type 0 where
+  filled : FitsEnding Filled
+  rests : (p : Cents) → p .0 < 2 ^ 32 → FitsEnding (Rests p)
+  cancelled : (reason : ℕ) → reason < 2 ^ 8 → FitsEnding (Cancels reason)
+
+-- both ways of a choice fit, so what is chosen does
+by-choice : (t : Bool) {d e : Ending} → FitsEnding d → FitsEnding e → FitsEnding (if t then d else e)
+by-choice true f g = f
+by-choice false f g = g
+
+-- an adjusted price is in range, or the order is cancelled
+adjusted-fits : (o : Order) (price : Cents) → FitsEnding (adjusted o price)
+adjusted-fits o price = by-choice (has (o .word) cancelBack) (cancelled 4 (omega arith)) (tested (priceInRange price) refl)
+  where
+    tested : (t : Bool) → priceInRange price ≡ t → FitsEnding (if t then Rests price else Cancels 5)
+    tested true e = rests price (price-small price e)
+    tested false e = cancelled 5 (omega arith)
+
+-- a remainder seeks its own limit or an adjusted price
+seeks-fits : (o : Order) (away : Away) → o .price .0 < 2 ^ 32 → FitsEnding (seeks o away)
+unfolding seeks
+seeks-fits o away l =
+    let locking = lockingPrice (buying o) away in
+    let wouldCross = beyond (buying o) locking (o .price) in
+    let wouldLock = eqb (o .price .0) (locking .0) in
+    by-choice (has (o .word) iso || absent locking) (rests (o .price) l)
+    (by-choice (has (o .word) displayed && (wouldLock || wouldCross)) (adjusted-fits o (oneCentLessAggressive (buying o) locking))
+    (by-choice (not (has (o .word) displayed) && wouldCross) (adjusted-fits o locking) (rests (o .price) l)))
+
+-- step 5 changes no price
+unless-fits : (o : Order) (s : List Resting) {e : Ending} → FitsEnding e → FitsEnding (unlessPostOnlyMeets o s e)
+unless-fits o s filled = filled
+unless-fits o s (rests p l) = by-choice (has (o .word) postOnly && equalsOrPasses (buying o) p s) (cancelled 6 (omega arith)) (rests p l)
+unless-fits o s (cancelled reason l) = cancelled reason l
+
+-- so the price at which an order rests is its limit or one in range, and the reasons are 2 to 6
+ending-fits : (o : Order) (away : Away) (s : List Resting) → o .price .0 < 2 ^ 32 → FitsEnding (ending o away s)
+unfolding ending endingWith
+ending-fits o away s l =
+    by-choice (eqb (remainder o away s) 0) filled
+    (by-choice (has (o .word) fok) (cancelled 3 (omega arith))
+    (by-choice (has (o .word) ioc) (cancelled 2 (omega arith)) (unless-fits o s (seeks-fits o away l))))
+
+-- the last line of an order, of what is left of it
+last-line-fits : (n : Number) (left : ℕ) → n .0 < 2 ^ 32 → left < 2 ^ 32 → {e : Ending} → FitsEnding e → All FitsEvent (lastLine n left e)
+last-line-fits n left l m filled = none
+last-line-fits n left l m (rests p k) = also (fits 1 0x12 (omega arith) (fits 4 (n .0) l (fits 4 (p .0) k (fits 4 left m empty)))) none
+last-line-fits n left l m (cancelled reason k) = also (fits 1 0x13 (omega arith) (fits 4 (n .0) l (fits 4 left m (fits 1 reason k empty)))) none
+
+-- ── An accepted command ──
+
+module _ (b : Book) (s : sound b ≡ true) (l : b .last .0 < 2 ^ 32) (n : Number) (m : n .0 < 2 ^ 32) (time : ℕ) where
+  -- the resting orders of both sides are small
+  opposite-small : (buy : Bool) → All Small (oppositeSide buy b)
+  opposite-small buy = all-small l (sides-of buy b (sound-is b s) .oppositeInRange)
+
+  -- no more is left of an order than it has
+  accept-fits : (o : Order) → o .price .0 < 2 ^ 32 → o .shares .0 < 2 ^ 32 → All FitsEvent (accept n time o b .events)
+  unfolding accept remainder
+  accept-fits o p q =
+      let opposite = oppositeSide (buying o) b in
+      all-both (executions-fit n m (opposite-small (buying o)) (takings-no-more o (b .away) opposite))
+      (last-line-fits n (remainder o (b .away) opposite) m (omega (arith, q)) (ending-fits o (b .away) opposite p))
+
+  -- cancels on both sides
+  all-cancels-fit : (reason : ℕ) → reason < 2 ^ 8 → (gone : Resting → Bool) → All FitsEvent (cancels reason gone (b .buys) ++ cancels reason gone (b .sells))
+  all-cancels-fit reason k gone = all-both (cancels-fit reason k gone (opposite-small false)) (cancels-fit reason k gone (opposite-small true))
+
+  -- an order that was read has a price and shares of four bytes
+  order-fits : (o : Order) → Fitting orderForm (numbersOf (body.Order o)) → All FitsEvent (accept n time o b .events)
+  order-fits o (fits w side i (fits x word j (fits y price p (fits z size q empty)))) = accept-fits o p q
+
+  -- whatever a command that was read does, its events fit
+  does-fits : (c : Body) → Fitting (formOf c) (numbersOf c) → All FitsEvent (does n time c b .events)
+  unfolding does cancel quote close
+  does-fits (body.Order o) f = order-fits o f
+  does-fits (body.Cancel of) f = all-cancels-fit byCommand (omega arith) (isNumber of)
+  does-fits (body.Quote away) f = none
+  does-fits body.Close f = all-cancels-fit atClose (omega arith) (λ h. true)
+
+-- ── One line ──
+
+-- the second field of a header has four bytes
+header-number : {kind n time : ℕ} → Fitting headerForm (kind ∷ n ∷ time ∷ []) → n < 2 ^ 32
+header-number (fits w kind i (fits x n l (fits y time k empty))) = l
+
+-- so the number of a command that was read does
+number-fits : (line : List ℕ) → numberIn (commandIn line) < 2 ^ 32
+number-fits line = by-reading (commandIn line) refl
+  where
+    by-reading : (r : Reading) → commandIn line ≡ r → numberIn r < 2 ^ 32
+    by-reading reading.Bad e = omega arith
+    by-reading (reading.Is c) e = header-number (commandIn-is line c e .fits-are .header)
+
+-- and the last number keeps to four bytes
+pub last-fits : (b : Book) (line : List ℕ) → b .last .0 < 2 ^ 32 → answerTo b line .book .last .0 < 2 ^ 32
+last-fits b line l =
+    ⊎-elim
+    (λ (t : acts b line ≡ true). let next = next-acts b line t in omega (arith, next .0, next .1, number-fits line))
+    (λ (t : acts b line ≡ false). rw (refused-book b line t) l)
+    (holds-or-not (acts b line))
+
+module _ (b : Book) (line : List ℕ) (s : sound b ≡ true) (l : b .last .0 < 2 ^ 32) where
+  -- what is done by a line that was read
+  done-fits : (r : Reading) → commandIn line ≡ r → All FitsEvent (doneBy r b .events)
+  unfolding doneBy
+  done-fits reading.Bad e = none
+  done-fits (reading.Is c) e =
+      let f = commandIn-is line c e .fits-are in
+      does-fits b s l (c .number) (header-number (f .header)) (c .time) (c .body) (f .body)
+
+  -- a line that acts gives events that fit
+  acting-fits : acts b line ≡ true → All FitsEvent (answerTo b line .events)
+  unfolding answerTo answer
+  acting-fits t = rw t (done-fits (commandIn line) refl)
+
+  -- what is printed of a line tells its events, and then what follows is read
+  line-read : (rest : List ℕ) → eventsIn (printed (answerTo b line) ++ rest) ≡ answerTo b line .events ++ eventsIn rest
+  unfolding printed
+  line-read rest =
+      ⊎-elim
+      (λ (t : acts b line ≡ true). rw t (events-read rest (acting-fits t)))
+      (λ (t : acts b line ≡ false). rw (t, refused-events b line t) (refusal-read (answerTo b line .refusal) rest))
+      (holds-or-not (acts b line))
+
+-- what is printed of a line tells its events
+pub line-told : (b : Book) (line : List ℕ) → sound b ≡ true → b .last .0 < 2 ^ 32 → eventsIn (printed (answerTo b line)) ≡ answerTo b line .events
+unfolding linesIn eventsOn
+line-told b line s l =
+    sym (ap eventsIn (append-nil (printed (answerTo b line)))) ∙ line-read b line s l [] ∙ append-nil (answerTo b line .events)
+
+-- ── A run of lines ──
+
+-- what is printed of a run tells its events
+pub run-told : (b : Book) (lines : List (List ℕ)) → sound b ≡ true → b .last .0 < 2 ^ 32 → eventsIn (printedOf b lines) ≡ eventsOf b lines
+unfolding printedOf eventsOf linesIn eventsOn
+run-told b [] s l = refl
+run-told b (line ∷ lines) s l =
+    let book = answerTo b line .book in
+    line-read b line s l (printedOf book lines)
+    ∙ ap (λ (es : List Event). answerTo b line .events ++ es) (run-told book lines (answer-sound b line s) (last-fits b line l))

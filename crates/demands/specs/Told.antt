@@ -1,0 +1,122 @@
+-- What the program's own lines tell, read back from their bytes: the events of an output, and from them what each order executed,
+-- gave and had cancelled. The three demands are said of these, so that a reader need not believe anything of the book's inside.
+use Prim.Native.Nat.{ℕ, _+_}
+use mathlib.Core.Bool.{Bool, false, _&&_}
+use mathlib.Core.List.{List, [], _∷_, _++_}
+use lib.Dec.{eqb}
+use lib.ListN.{getD}
+use Rattle.basics.specs.Choice.{if_then_else_}
+use Rattle.basics.specs.Lists.{any}
+use Rattle.kinds.specs.Kinds.{cents, shares, number}
+use Rattle.kinds.specs.declared.Cents.{Cents}
+use Rattle.kinds.specs.declared.Number.{Number}
+use Rattle.rules.specs.declared.Event.{Event}
+use Rattle.rules.specs.declared.Event.the-variants.{Executed, Rested, Cancelled}
+use Rattle.rules.specs.declared.Resting.{Resting}
+use Rattle.rules.specs.Book.{Book}
+use Rattle.rules.specs.CommandLines.{Numbers, are, none, numbersFrom, digitsIn, isEnded}
+use Rattle.rules.specs.Day.{linesIn}
+use Rattle.rules.specs.EventLines.{fokKilled}
+
+-- ── Reading event lines ──
+
+-- "`11` execution (incoming number, resting number, price, shares); `12` rested (number, price, shares); `13` cancelled (number,
+-- shares, reason in 1 byte)": the widths of each line's fields in bytes, the kind first
+abbrev pub executedForm : List ℕ
+executedForm = 1 ∷ 4 ∷ 4 ∷ 4 ∷ 4 ∷ []
+
+abbrev pub restedForm : List ℕ
+restedForm = 1 ∷ 4 ∷ 4 ∷ 4 ∷ []
+
+abbrev pub cancelledForm : List ℕ
+cancelledForm = 1 ∷ 4 ∷ 4 ∷ 1 ∷ []
+
+-- the event of a kind that the numbers of its form make; none where they are of another kind, or where a field is no number
+abbrev pub ofKind : ℕ → (List ℕ → Event) → Numbers → List Event
+ofKind kind make (are ns) = if eqb (getD ns 0 0) kind then make ns ∷ [] else []
+ofKind kind make none = []
+
+abbrev pub executedOf : List ℕ → Event
+executedOf ns = Executed (number (getD ns 1 0)) (number (getD ns 2 0)) (cents (getD ns 3 0)) (shares (getD ns 4 0))
+
+abbrev pub restedOf : List ℕ → Event
+restedOf ns = Rested (number (getD ns 1 0)) (cents (getD ns 2 0)) (shares (getD ns 3 0))
+
+abbrev pub cancelledOf : List ℕ → Event
+cancelledOf ns = Cancelled (number (getD ns 1 0)) (shares (getD ns 2 0)) (getD ns 3 0)
+
+-- the event that a line is, by its length; none where it is no event line, as that of a refusal
+unfoldable pub eventIn : List ℕ → List Event
+eventIn line =
+    if isEnded (digitsIn executedForm) line then ofKind 0x11 executedOf (numbersFrom 0 executedForm line)
+    else if isEnded (digitsIn restedForm) line then ofKind 0x12 restedOf (numbersFrom 0 restedForm line)
+    else if isEnded (digitsIn cancelledForm) line then ofKind 0x13 cancelledOf (numbersFrom 0 cancelledForm line)
+    else []
+
+unfoldable pub eventsOn : List (List ℕ) → List Event
+eventsOn [] = []
+eventsOn (l ∷ ls) = eventIn l ++ eventsOn ls
+
+-- the events that an output tells, line by line
+abbrev pub eventsIn : List ℕ → List Event
+eventsIn bytes = eventsOn (linesIn bytes)
+
+-- ── Shares, summed from events ──
+
+-- k where the two numbers are one, else nothing
+abbrev pub countedIf : Number → Number → ℕ → ℕ
+countedIf n m k = if eqb (n .0) (m .0) then k else 0
+
+-- the shares of order n that an event executes, in either of the two roles that an order plays, incoming and resting
+abbrev pub executedBy : Number → Event → ℕ
+executedBy n (Executed incoming resting price shares) = countedIf n incoming (shares .0) + countedIf n resting (shares .0)
+executedBy n (Rested m price shares) = 0
+executedBy n (Cancelled m shares reason) = 0
+
+-- those that it gives as the resting one
+abbrev pub givenBy : Number → Event → ℕ
+givenBy n (Executed incoming resting price shares) = countedIf n resting (shares .0)
+givenBy n (Rested m price shares) = 0
+givenBy n (Cancelled m shares reason) = 0
+
+abbrev pub cancelledBy : Number → Event → ℕ
+cancelledBy n (Executed incoming resting price shares) = 0
+cancelledBy n (Rested m price shares) = 0
+cancelledBy n (Cancelled m shares reason) = countedIf n m (shares .0)
+
+unfoldable pub executedIn : Number → List Event → ℕ
+executedIn n [] = 0
+executedIn n (e ∷ es) = executedBy n e + executedIn n es
+
+unfoldable pub givenIn : Number → List Event → ℕ
+givenIn n [] = 0
+givenIn n (e ∷ es) = givenBy n e + givenIn n es
+
+unfoldable pub cancelledIn : Number → List Event → ℕ
+cancelledIn n [] = 0
+cancelledIn n (e ∷ es) = cancelledBy n e + cancelledIn n es
+
+-- the prices at which the order of a number gives
+unfoldable pub pricesIn : Number → List Event → List Cents
+pricesIn n [] = []
+pricesIn n (Executed incoming resting price shares ∷ es) = if eqb (n .0) (resting .0) then price ∷ pricesIn n es else pricesIn n es
+pricesIn n (Rested m price shares ∷ es) = pricesIn n es
+pricesIn n (Cancelled m shares reason ∷ es) = pricesIn n es
+
+-- the line that kills a Fill-or-Kill: "the whole order is cancelled, reason 3"
+abbrev pub kills : Number → Event → Bool
+kills n (Executed incoming resting price shares) = false
+kills n (Rested m price shares) = false
+kills n (Cancelled m shares reason) = eqb (n .0) (m .0) && eqb reason fokKilled
+
+abbrev pub isKilled : Number → List Event → Bool
+isKilled n es = any (kills n) es
+
+-- ── Shares still resting ──
+
+unfoldable pub restsOn : Number → List Resting → ℕ
+restsOn n [] = 0
+restsOn n (h ∷ s) = countedIf n (h .number) (h .shares .0) + restsOn n s
+
+abbrev pub restingOf : Number → Book → ℕ
+restingOf n b = restsOn n (b .buys) + restsOn n (b .sells)

@@ -1,0 +1,129 @@
+-- The front door: what the customer asked for (00-demands), sentence by sentence, each a statement and a citation of its proof. To
+-- believe these a reader needs the definitions that they name: 01 itself in `rules/specs`, the customer's words in `demands/specs`,
+-- and nothing of the machinery. Assumes nothing.
+use Prim.Native.Nat.{ℕ, _+_, _≤_}
+use mathlib.Core.Bool.{true, false}
+use mathlib.Core.List.{List, [], _∷_, _++_}
+use mathlib.Core.Logic.{_⊎_}
+use mathlib.Core.Path.{_≡_}
+use denote.Ref.{now}
+use lib.ListN.{length}
+use Rattle.basics.specs.Bytes.{onto}
+use Rattle.basics.specs.Lists.{distinct}
+use Rattle.rules.specs.declared.Command.{Command}
+use Rattle.rules.specs.declared.Order.{Order}
+use Rattle.rules.specs.declared.Reading.the-variants as reading
+use Rattle.rules.specs.Book.{Book, BookRecord, fresh, sound, recordOf}
+use Rattle.rules.specs.CommandLines.{commandIn, lineOf, Fits}
+use Rattle.rules.specs.Day.{printed, bookAfter, printedOf, output}
+use Rattle.rules.specs.EventLines.{eventLines}
+use Rattle.rules.specs.Instructions.{has, postOnly}
+use Rattle.rules.specs.Refusals.{leastRoom}
+use Rattle.rules.specs.Step.{answerTo, step}
+use Rattle.rules.specs.Working.{does}
+use Rattle.rules.proofs.LawsLines.{IsLine, commandIn-lineOf, commandIn-is, lineOf-once}
+use Rattle.soundness.proofs.LawsKept.{fresh-sound, after-sound}
+use Rattle.demands.specs.Once.{EventLines, Refused, acts, struckOut, eventLinesOf, actingNumbers}
+use Rattle.demands.specs.Run.{Enters}
+use Rattle.demands.specs.Told.{eventsIn, executedIn, cancelledIn, restingOf}
+use Rattle.demands.specs.Executes.{Executes}
+use Rattle.demands.proofs.LawsOnce.{lines-or-refusal, each-once, struck-out-book, struck-out-lines, repeat-refused}
+use Rattle.demands.proofs.LawsRun.{call-answers, accepted-does, run-executes, run-conserved}
+use Rattle.book.specs.declared.Reply.{Reply}
+use Rattle.book.specs.Record.{recordIn, replyOf}
+use Rattle.book.proofs.Book.answer.Reads as answer
+use Rattle.book.proofs.Determined.{answer-determined}
+use Rattle.replay.specs.Pieces.{begun, allOf, printedOfPieces}
+use Rattle.replay.proofs.LawsPieces.{cut-anywhere}
+
+-- ── Demand 1 ──
+
+-- "Any bytes may arrive as a command, and any book record may be lent with them. The call ends with event lines or with one numbered
+-- refusal from document 01. A refusal hands back the same book and writes no byte."
+pub any-call : (r : BookRecord) (line out : List ℕ) → EventLines out (step r line out) ⊎ Refused r out (step r line out)
+any-call = lines-or-refusal
+
+-- a day is a run of such calls: on the record of a sound book, with room for the lines of a command, a call is a line of it
+pub a-day-of-calls : (b : Book) (line out : List ℕ) → sound b ≡ true → leastRoom ≤ length out
+    → (step (recordOf b) line out .refusal ≡ answerTo b line .refusal) × (step (recordOf b) line out .book ≡ recordOf (answerTo b line .book))
+    × (step (recordOf b) line out .out ≡ onto (eventLines (answerTo b line .events)) out)
+a-day-of-calls = call-answers
+
+-- "In one day from a fresh book each command number acts at most once"
+pub each-number-once : (lines : List (List ℕ)) → distinct (actingNumbers fresh lines) ≡ true
+each-number-once lines = each-once fresh lines
+
+-- the repeat at three in the morning: once a line has acted, a line with its number is refused, whatever came between them,
+-- whatever its time
+pub acts-once : (earlier between : List (List ℕ)) (line again : List ℕ) (c d : Command) → acts (bookAfter fresh earlier) line ≡ true
+    → commandIn line ≡ reading.Is c → commandIn again ≡ reading.Is d → d .number ≡ c .number
+    → answerTo (bookAfter fresh (earlier ++ (line ∷ between))) again
+    ≡ record { refusal = 4; book = bookAfter fresh (earlier ++ (line ∷ between)); events = [] }
+acts-once = repeat-refused fresh
+
+-- "and that day with its refused commands struck out ends with the same book"
+pub struck-out-ends : (lines : List (List ℕ)) → bookAfter fresh (struckOut fresh lines) ≡ bookAfter fresh lines
+struck-out-ends = struck-out-book fresh
+
+-- "and the same event lines"
+pub struck-out-tells : (lines : List (List ℕ)) → eventLinesOf fresh (struckOut fresh lines) ≡ eventLinesOf fresh lines
+struck-out-tells = struck-out-lines fresh
+
+-- ── Demand 2 ──
+
+-- "Every accepted command does what the EDGA rules, as condensed in document 01, say": `does` of `rules/specs/Working`
+pub does-what-01-says : (b : Book) (line : List ℕ) (c : Command) → commandIn line ≡ reading.Is c → acts b line ≡ true
+    → (answerTo b line .book ≡ does (c .number) (c .time) (c .body) b .book)
+    × (answerTo b line .events ≡ does (c .number) (c .time) (c .body) b .events)
+does-what-01-says = accepted-does
+
+-- the book of a day is always sound
+pub sound-all-day : (lines : List (List ℕ)) → sound (bookAfter fresh lines) ≡ true
+sound-all-day lines = after-sound fresh lines fresh-sound
+
+-- "Command lines are read and written, each command having one line": what is written of a command is read as that command ..
+pub one-line-a-command : (c : Command) → Fits c → commandIn (lineOf c) ≡ reading.Is c
+one-line-a-command = commandIn-lineOf
+
+-- "and each well-formed line one command": .. and whatever is read as a command is the line that is written of it
+pub one-command-a-line : (line : List ℕ) (c : Command) → commandIn line ≡ reading.Is c → IsLine line c
+one-command-a-line = commandIn-is
+
+-- and no two commands share a line
+pub no-shared-line : (c d : Command) → Fits c → Fits d → lineOf c ≡ lineOf d → c ≡ d
+no-shared-line = lineOf-once
+
+-- ── Demand 3 ──
+
+-- "Take any run of commands from a fresh book, and in it any accepted order that isn't Post Only. .. A Fill-or-Kill is killed exactly
+-- if no lawful share-out totals its size, and then executes nothing. Every other such order executes the greatest lawful total, and
+-- no resting order gives a share while a better-ranked one that could lawfully give keeps one.": said of the lines that the order
+-- itself prints, read back from their bytes
+pub executes-the-greatest : (lines : List (List ℕ)) (stood : Book) (line : List ℕ) (c : Command) (o : Order)
+    → Enters fresh lines stood line c o → has (o .word) postOnly ≡ false → Executes stood c o (eventsIn (printed (answerTo stood line)))
+executes-the-greatest = run-executes
+
+-- "For each accepted order, shares entered equal shares executed plus cancelled, both summed from the event lines, plus those still
+-- resting.": from all that the day prints, read back from its bytes
+pub no-share-lost : (lines : List (List ℕ)) (stood : Book) (line : List ℕ) (c : Command) (o : Order) → Enters fresh lines stood line c o
+    → o .shares .0
+    ≡ executedIn (c .number) (eventsIn (printedOf fresh lines)) + cancelledIn (c .number) (eventsIn (printedOf fresh lines))
+    + restingOf (c .number) (bookAfter fresh lines)
+no-share-lost = run-conserved
+
+-- ── The code ──
+
+-- whatever the entry `Book::answer` returns, for any book, line and output, is the step that demand 1 speaks of
+pub the-entry : (κs : _) (a : _) (r : Reply) (s : _) → answer.Post κs a r s
+    → (r ≡ replyOf (step (recordIn (a .0)) (now (a .1 .0)) (now (a .1 .1 .0))))
+    × (now (s .1 .1 .0) ≡ step (recordIn (a .0)) (now (a .1 .0)) (now (a .1 .1 .0)) .out)
+the-entry κs a r s p = p
+
+-- so any two results of it are one
+pub one-result : (κs : _) (a : _) (r r′ : Reply) (s s′ : _) → answer.Post κs a r s → answer.Post κs a r′ s′
+    → (r ≡ r′) × (now (s .1 .1 .0) ≡ now (s′ .1 .1 .0))
+one-result = answer-determined
+
+-- and what the program's step on pieces of input prints is what 01 says of the whole input, however it is cut
+pub however-cut : (pieces : List (List ℕ)) → printedOfPieces begun pieces ≡ output (allOf pieces)
+however-cut = cut-anywhere

@@ -1,0 +1,102 @@
+-- A night worth looking at: it trades, it is refused, a line is sent again with a newer time, two Fill-or-Kills are killed, one of
+-- them by the away price alone, and the close cancels what is left.
+use Prim.Native.Nat.{ℕ, _+_}
+use mathlib.Core.List.{List, [], _∷_}
+use Rattle.kinds.specs.Kinds.{cents, shares, number}
+use Rattle.rules.specs.declared.Body.{Body}
+use Rattle.rules.specs.declared.Body.the-variants as body
+use Rattle.rules.specs.declared.Command.{Command}
+use Rattle.rules.specs.declared.Event.{Event}
+use Rattle.rules.specs.declared.Event.the-variants.{Executed, Rested, Cancelled}
+use Rattle.rules.specs.declared.Order.{Order}
+use Rattle.rules.specs.Book.{opening}
+use Rattle.rules.specs.CommandLines.{lineOf}
+use Rattle.rules.specs.Instructions.{ioc, fok, day, displayed, nonDisplayed, priceAdjust}
+
+-- ── The commands ──
+
+-- command n, so many milliseconds after the opening
+abbrev command : ℕ → ℕ → Body → Command
+command n after b = record { number = number n; time = opening + after; body = b }
+
+abbrev order : ℕ → ℕ → ℕ → ℕ → Order
+order side word count price = record { side = side; word = word; price = cents price; shares = shares count }
+
+abbrev quote : ℕ → ℕ → Body
+quote bid offer = body.Quote (record { bid = cents bid; offer = cents offer })
+
+-- the orders that the promises are read at below
+abbrev pub killed : Order
+killed = order 0 (fok + displayed + priceAdjust) 300 1005
+
+abbrev pub greedy : Order
+greedy = order 0 (ioc + displayed + priceAdjust) 250 1005
+
+abbrev pub resting : Order
+resting = order 0 (day + displayed + priceAdjust) 150 1002
+
+abbrev pub theKilled : Command
+theKilled = command 5 40 (body.Order killed)
+
+abbrev pub theGreedy : Command
+theGreedy = command 6 50 (body.Order greedy)
+
+abbrev pub theResting : Command
+theResting = command 8 70 (body.Order resting)
+
+-- ── The lines, as they arrive ──
+
+abbrev pub sells100 : List ℕ
+sells100 = lineOf (command 1 0 (body.Order (order 1 (day + displayed + priceAdjust) 100 1002)))
+
+abbrev pub sells200 : List ℕ
+sells200 = lineOf (command 2 10 (body.Order (order 1 (day + nonDisplayed + priceAdjust) 200 1001)))
+
+-- the repeat at three in the morning: the same command, with a newer time
+abbrev pub sentAgain : List ℕ
+sentAgain = lineOf (command 2 15 (body.Order (order 1 (day + nonDisplayed + priceAdjust) 200 1001)))
+
+-- 400 shares where 300 rest
+abbrev pub asksTooMuch : List ℕ
+asksTooMuch = lineOf (command 3 20 (body.Order (order 0 (fok + displayed + priceAdjust) 400 1005)))
+
+abbrev pub quotes : List ℕ
+quotes = lineOf (command 4 30 (quote 0 1001))
+
+abbrev pub unquotes : List ℕ
+unquotes = lineOf (command 7 60 (quote 0 0))
+
+-- no command at all: an empty line
+abbrev pub noise : List ℕ
+noise = 10 ∷ []
+
+-- a number is left out
+abbrev pub ahead : List ℕ
+ahead = lineOf (command 10 80 body.Close)
+
+abbrev pub closes : List ℕ
+closes = lineOf (command 9 90 body.Close)
+
+abbrev pub night : List (List ℕ)
+night =
+    sells100 ∷ sells200 ∷ sentAgain ∷ asksTooMuch ∷ quotes ∷ lineOf theKilled ∷ lineOf theGreedy ∷ unquotes ∷ lineOf theResting ∷ noise ∷ ahead ∷ closes ∷ []
+
+-- the same without the three that are refused
+abbrev pub nightStruckOut : List (List ℕ)
+nightStruckOut =
+    sells100 ∷ sells200 ∷ asksTooMuch ∷ quotes ∷ lineOf theKilled ∷ lineOf theGreedy ∷ unquotes ∷ lineOf theResting ∷ closes ∷ []
+
+-- ── What it tells ──
+
+abbrev pub nightEvents : List Event
+nightEvents =
+    Rested (number 1) (cents 1002) (shares 100)
+    ∷ Rested (number 2) (cents 1001) (shares 200)
+    ∷ Cancelled (number 3) (shares 400) 3
+    ∷ Cancelled (number 5) (shares 300) 3
+    ∷ Executed (number 6) (number 2) (cents 1001) (shares 200)
+    ∷ Cancelled (number 6) (shares 50) 2
+    ∷ Executed (number 8) (number 1) (cents 1002) (shares 100)
+    ∷ Rested (number 8) (cents 1002) (shares 50)
+    ∷ Cancelled (number 8) (shares 50) 7
+    ∷ []
