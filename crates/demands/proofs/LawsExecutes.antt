@@ -43,9 +43,9 @@ use Rattle.soundness.proofs.LawsThinned.{thinned-none, thinned-same}
 use Rattle.demands.specs.Executes.{OneOf, first, later, Tells, Between, Executes}
 use Rattle.demands.specs.Once.{acts}
 use Rattle.demands.specs.ShareOut.{Given, Each, empty, with, Fair, given, Lawful, Fills}
-use Rattle.demands.specs.Told.{executedIn, givenIn, pricesIn, isKilled}
+use Rattle.demands.specs.Told.{executedIn, givenIn, cancelledIn, pricesIn, isKilled}
 use Rattle.demands.proofs.LawsEndings.{chosen, sought-is}
-use Rattle.demands.proofs.LawsHeld.{counted-same, counted-other, executed-append, NoMore, takings-no-more}
+use Rattle.demands.proofs.LawsHeld.{counted-same, counted-other, executed-append, cancelled-append, executions-cancel-none, NoMore, takings-no-more}
 use Rattle.demands.proofs.LawsShareOut.{pricedAt, killed-nothing, filled-whole, takings-lawful, takings-greatest, takings-rank, takings-given}
 
 -- ── Executions are between the incoming order and the side ──
@@ -53,7 +53,7 @@ use Rattle.demands.proofs.LawsShareOut.{pricedAt, killed-nothing, fille
 -- a longer side has it too
 between-more : (n : Number) (h : Resting) (s : List Resting) (e : Event) → Between n s e → Between n (h ∷ s) e
 unfolding any
-between-more n h s (Executed incoming resting price shares) b = (b .0, rw (b .1) (or-true (isNumber resting h)))
+between-more n h s (Executed incoming resting price shares) b = (b .0, rw (b .1) (or-true (isNumber resting h)), b .2)
   where
     or-true : (t : Bool) → (t || true) ≡ true
     or-true true = refl
@@ -70,9 +70,13 @@ executions-between n (h ∷ s) (t ∷ ts) =
     ⊎-elim
     (λ (z : eqb t 0 ≡ true). rw z others)
     (λ (z : eqb t 0 ≡ false).
-    let own : Between n (h ∷ s) (Executed n (h .number) (h .price) (shares t)) = (refl, rw (eq-eqb (h .number .0) (h .number .0) refl) refl) in
+    let own : Between n (h ∷ s) (Executed n (h .number) (h .price) (shares t)) = (refl, rw (eq-eqb (h .number .0) (h .number .0) refl) refl, some t (eqb-false t 0 z)) in
     rw z (also own others))
     (holds-or-not (eqb t 0))
+  where
+    some : (t : ℕ) → t ≢ 0 → 1 ≤ t
+    some zero n = absurd (n refl)
+    some (suc t) n = omega arith
 
 last-between : (n : Number) (s : List Resting) (left : ℕ) (e : Ending) → All (Between n s) (lastLine n left e)
 last-between n s left Filled = none
@@ -242,6 +246,13 @@ last-kills m left (Cancels reason) =
     (λ (t : eqb reason fokKilled ≡ false). rw (eq-eqb (m .0) (m .0) refl, t) refl)
     (holds-or-not (eqb reason fokKilled))
 
+-- .. and then cancels what is left
+kill-cancels : (m : Number) (left : ℕ) (e : Ending) → isKill e ≡ true → cancelledIn m (lastLine m left e) ≡ left
+unfolding cancelledIn
+kill-cancels m left Filled k = absurd (true≢false (sym k))
+kill-cancels m left (Rests price) k = absurd (true≢false (sym k))
+kill-cancels m left (Cancels reason) k = omega (arith, counted-same m m left refl)
+
 -- executions kill nobody
 executions-kill-none : (n m : Number) (s : List Resting) (ts : List ℕ) (fs : List Event) → isKilled n (executions m s ts ++ fs) ≡ isKilled n fs
 unfolding executions any
@@ -381,6 +392,21 @@ module _ (m : Number) (o : Order) (away : Away) (s : List Resting) (w : Works m 
   killed-none : isKilled m (linesOf m o away s) ≡ true → total (takings o away s) ≡ 0
   killed-none k = killed-nothing o away s (w .isSide) (w .notPostOnly) (w .ranked) (killed-fok k) (killed-only k)
 
+  -- .. so the whole of it is cancelled
+  killed-whole : isKilled m (linesOf m o away s) ≡ true → cancelledIn m (linesOf m o away s) ≡ o .shares .0
+  unfolding remainder
+  killed-whole k =
+      let left = remainder o away s in
+      let kill : isKill (ending o away s) ≡ true =
+      sym (last-kills m left (ending o away s)) ∙ sym (executions-kill-none m m s (takings o away s) (lastLine m left (ending o away s))) ∙ k in
+      omega (
+        arith,
+        cancelled-append m (executions m s (takings o away s)) (lastLine m left (ending o away s)),
+        executions-cancel-none m m s (takings o away s),
+        kill-cancels m left (ending o away s) kill,
+        killed-none k,
+      )
+
   -- one that no lawful share-out totals keeps all that was entered, and is killed
   killed-if : has (o .word) fok ≡ true → (Fills o away s → ⊥) → isKilled m (linesOf m o away s) ≡ true
   unfolding remainder
@@ -482,6 +508,7 @@ lines-are b c o w =
       killedOnly = killed-only n o away s w;
       killedIf = killed-if n o away s w;
       killedNothing = λ k. lines-execute n o away s w ∙ killed-none n o away s w k;
+      killedWhole = killed-whole n o away s w;
       onlyFok = killed-fok n o away s w;
       greatest = λ l gs lawful. omega (arith, lines-execute n o away s w, lives-greatest n o away s w l gs lawful);
       inRank = lines-rank n o away s w;

@@ -1,24 +1,24 @@
--- Demand 1: a refusal hands back the same record and writes no byte; the day with its refused commands struck out ends in the same
--- book and gives the same lines; and each command number acts at most once. Assumes nothing.
-use Prim.Native.Nat.{ℕ, zero, suc, _+_, _≤_, _<_}
+-- Demand 1: a refusal hands back the same record and writes no byte; each command number acts at most once in a day; and the day with
+-- its refused commands struck out ends with the same book and the same event lines. Assumes nothing.
+use Prim.Native.Nat.{ℕ, zero, suc, _+_, _≤_}
 use mathlib.Core.Bool.{Bool, true, false, not}
 use mathlib.Core.List.{List, [], _∷_, _++_}
 use mathlib.Core.Logic.{_≢_, _⊎_, ⊎-elim}
-use mathlib.Core.Path.{_≡_, refl, sym, ap, subst}
+use mathlib.Core.Path.{_≡_, refl, sym, ap, _∙_, subst}
 use lib.Dec.{eqb, leb, ltb}
 use lib.ListN.{length}
 use native.Mathlib.Omega.{arith}
 use borrow.Author.Tests.{eqb-true, eqb-false, ne-eqb, le-leb}
 use Rattle.basics.specs.Bytes.{onto}
-use Rattle.basics.specs.Lists.{any, distinct}
-use Rattle.basics.proofs.LawsChoice.{holds-or-not, by-test}
+use Rattle.basics.specs.Lists.{distinct}
+use Rattle.basics.proofs.LawsChoice.{holds-or-not, by-test, and-left, and-right}
 use Rattle.kinds.specs.declared.Number.{Number}
 use Rattle.rules.specs.declared.Body.{Body}
 use Rattle.rules.specs.declared.Body.the-variants as body
 use Rattle.rules.specs.declared.Command.{Command}
 use Rattle.rules.specs.declared.Reading.{Reading}
 use Rattle.rules.specs.declared.Reading.the-variants as reading
-use Rattle.rules.specs.Book.{Book, BookRecord, bookIn, recordSound}
+use Rattle.rules.specs.Book.{Book, BookRecord, bookIn, recordOf, recordSound}
 use Rattle.rules.specs.CommandLines.{commandIn}
 use Rattle.rules.specs.Day.{printed, bookAfter, printedOf}
 use Rattle.rules.specs.EventLines.{eventLines}
@@ -28,7 +28,8 @@ use Rattle.rules.specs.Step.{doneBy, answer, answerTo, step, stepOn}
 use Rattle.rules.specs.Working.{accept, cancel, quote, close, does}
 use Rattle.soundness.proofs.LawsAccepted.{accepted}
 use Rattle.demands.proofs.LawsRoom.{done-long, fit-for}
-use Rattle.demands.specs.Once.{EventLines, Refused, acts, struckOut, eventLinesOf, numberIn, actingNumbers, numbersFrom}
+use Rattle.demands.proofs.LawsRuns.{Keeps, struck-out-end, struck-out-lines, struck-out-acts, each-once}
+use Rattle.demands.specs.Once.{EventLines, Refused, endOf, eventLinesOf, actingNumbers, struckOut, noneRefused, numberIn, acts, byLine, Call, returned, byCall}
 
 -- ── Any bytes, any record, any output ──
 
@@ -141,82 +142,91 @@ unfolding answerTo answer refusals firstOf
 next-acts b line e =
     rw e (next-done b (commandIn line) (eqb-true (firstOf (lineRefusals b (commandIn line))) 0 e))
 
--- ── The refused commands struck out ──
+-- ── A day of lines ──
 
--- the day with its refused commands struck out ends in the same book
-pub struck-out-book : (b : Book) (lines : List (List ℕ)) → bookAfter b (struckOut b lines) ≡ bookAfter b lines
-unfolding bookAfter struckOut
-struck-out-book b [] = refl
-struck-out-book b (l ∷ ls) =
-    ⊎-elim
-    (λ (t : acts b l ≡ true). rw t (struck-out-book (answerTo b l .book) ls))
-    (λ (t : acts b l ≡ false). rw (t, refused-book b l t) (struck-out-book b ls))
-    (holds-or-not (acts b l))
+-- lines keep to what `LawsRuns` asks of a kind
+by-line-keeps : Keeps byLine (λ (b : Book). b .last .0)
+unfolding eventLines
+by-line-keeps = record {
+  sameBook = refused-book;
+  noLine = λ b line t. rw (refused-events b line t) refl;
+  next = next-acts;
+}
 
--- .. and gives the same lines
-pub struck-out-lines : (b : Book) (lines : List (List ℕ)) → eventLinesOf b (struckOut b lines) ≡ eventLinesOf b lines
-unfolding eventLinesOf struckOut eventLines
-struck-out-lines b [] = refl
-struck-out-lines b (l ∷ ls) =
-    ⊎-elim
-    (λ (t : acts b l ≡ true). rw (t, struck-out-lines (answerTo b l .book) ls) refl)
-    (λ (t : acts b l ≡ false). rw (t, refused-book b l t, refused-events b l t) (struck-out-lines b ls))
-    (holds-or-not (acts b l))
+-- a run of lines ends with the book after it
+end-is : (b : Book) (lines : List (List ℕ)) → endOf byLine b lines ≡ bookAfter b lines
+unfolding endOf bookAfter
+end-is b [] = refl
+end-is b (l ∷ ls) = end-is (answerTo b l .book) ls
 
--- .. which are all that is printed of it
-pub struck-out-prints : (b : Book) (lines : List (List ℕ)) → printedOf b (struckOut b lines) ≡ eventLinesOf b lines
-unfolding printedOf printed eventLinesOf struckOut eventLines
-struck-out-prints b [] = refl
-struck-out-prints b (l ∷ ls) =
-    ⊎-elim
-    (λ (t : acts b l ≡ true). rw (t, struck-out-prints (answerTo b l .book) ls) (rw t refl))
-    (λ (t : acts b l ≡ false). rw (t, refused-book b l t, refused-events b l t) (struck-out-prints b ls))
-    (holds-or-not (acts b l))
+-- where no line is refused, all that is printed is event lines
+prints-events : (b : Book) (lines : List (List ℕ)) → noneRefused byLine b lines ≡ true → printedOf b lines ≡ eventLinesOf byLine b lines
+unfolding printedOf printed eventLinesOf noneRefused
+prints-events b [] t = refl
+prints-events b (l ∷ ls) t =
+    let first = and-left (acts b l) (noneRefused byLine (answerTo b l .book) ls) t in
+    let rest = prints-events (answerTo b l .book) ls (and-right (acts b l) (noneRefused byLine (answerTo b l .book) ls) t) in
+    rw (first, rest) refl
+
+-- each command number acts at most once
+pub lines-once : (b : Book) (lines : List (List ℕ)) → distinct (actingNumbers byLine b lines) ≡ true
+lines-once = each-once by-line-keeps
+
+-- the day with its refused commands struck out ends with the same book
+pub lines-end : (b : Book) (lines : List (List ℕ)) → bookAfter b (struckOut byLine b lines) ≡ bookAfter b lines
+lines-end b lines = sym (end-is b (struckOut byLine b lines)) ∙ struck-out-end by-line-keeps b lines ∙ end-is b lines
+
+-- .. and the same event lines
+pub lines-tell : (b : Book) (lines : List (List ℕ)) → eventLinesOf byLine b (struckOut byLine b lines) ≡ eventLinesOf byLine b lines
+lines-tell = struck-out-lines by-line-keeps
+
+-- .. nothing of it is refused
+pub lines-act : (b : Book) (lines : List (List ℕ)) → noneRefused byLine b (struckOut byLine b lines) ≡ true
+lines-act = struck-out-acts by-line-keeps
+
+-- .. so they are all that is printed of it
+pub lines-print : (b : Book) (lines : List (List ℕ)) → printedOf b (struckOut byLine b lines) ≡ eventLinesOf byLine b lines
+lines-print b lines = prints-events b (struckOut byLine b lines) (lines-act b lines) ∙ lines-tell b lines
+
+-- ── A day of calls ──
+
+-- a call that is not refused is a command with the number after the last, and leaves that number
+call-next : (r : BookRecord) (c : Call) → byCall .acts r c ≡ true
+    → (byCall .number c ≡ r .last .0 + 1) × (byCall .book r c .last .0 ≡ r .last .0 + 1)
+unfolding step stepOn answer bookIn recordOf
+call-next r c t =
+    let a = commandIn (c .line) in
+    let none = fit-for (length (c .out)) r a (eqb-true (returned r c .refusal) 0 t) .2 in
+    let next = next-done (bookIn r) a none in
+    (next .0, rw t (next .1))
+
+-- calls keep to what `LawsRuns` asks of a kind
+by-call-keeps : Keeps byCall (λ (r : BookRecord). r .last .0)
+by-call-keeps = record {
+  sameBook = λ r c t. refused r c t .0;
+  noLine = λ r c t. rw (refused r c t .2) refl;
+  next = call-next;
+}
+  where
+    refused : (r : BookRecord) (c : Call) → byCall .acts r c ≡ false
+        → (returned r c .book ≡ r) × (returned r c .out ≡ c .out) × (returned r c .length ≡ 0)
+    refused r c t = refusal-touches-nothing r (c .line) (c .out) (eqb-false (returned r c .refusal) 0 t)
+
+-- each command number acts at most once
+pub calls-once : (r : BookRecord) (calls : List Call) → distinct (actingNumbers byCall r calls) ≡ true
+calls-once = each-once by-call-keeps
+
+-- the day with its refused commands struck out ends with the same record
+pub calls-end : (r : BookRecord) (calls : List Call) → endOf byCall r (struckOut byCall r calls) ≡ endOf byCall r calls
+calls-end = struck-out-end by-call-keeps
+
+-- .. and the same event lines
+pub calls-tell : (r : BookRecord) (calls : List Call) → eventLinesOf byCall r (struckOut byCall r calls) ≡ eventLinesOf byCall r calls
+calls-tell = struck-out-lines by-call-keeps
 
 -- .. and nothing of it is refused
-pub struck-out-acts : (b : Book) (lines : List (List ℕ)) → struckOut b (struckOut b lines) ≡ struckOut b lines
-unfolding struckOut
-struck-out-acts b [] = refl
-struck-out-acts b (l ∷ ls) =
-    ⊎-elim
-    (λ (t : acts b l ≡ true). rw t (rw (t, struck-out-acts (answerTo b l .book) ls) refl))
-    (λ (t : acts b l ≡ false). rw t (struck-out-acts b ls))
-    (holds-or-not (acts b l))
-
--- ── Each command number at most once ──
-
--- the command numbers that act follow one another, from the one after the last
-pub acting-numbers : (b : Book) (lines : List (List ℕ)) → actingNumbers b lines ≡ numbersFrom (b .last .0 + 1) (actingNumbers b lines)
-unfolding actingNumbers numbersFrom
-acting-numbers b [] = refl
-acting-numbers b (l ∷ ls) =
-    ⊎-elim
-    (λ (t : acts b l ≡ true).
-    let next = next-acts b l t in
-    let later = actingNumbers (answerTo b l .book) ls in
-    let rest : later ≡ numbersFrom (b .last .0 + 1 + 1) later =
-    subst (λ (n : ℕ). later ≡ numbersFrom (n + 1) later) (next .1) (acting-numbers (answerTo b l .book) ls) in
-    rw (t, next .0) (ap (λ (s : List ℕ). (b .last .0 + 1) ∷ s) rest))
-    (λ (t : acts b l ≡ false). rw (t, refused-book b l t) (acting-numbers b ls))
-    (holds-or-not (acts b l))
-
--- numbers from one on are all larger than one below it, so they are distinct
-none-below : (n m : ℕ) (s : List ℕ) → n < m → any (eqb n) (numbersFrom m s) ≡ false
-unfolding any numbersFrom
-none-below n m [] l = refl
-none-below n m (x ∷ s) l =
-    let other : n ≡ m → ⊥ = λ (e : n ≡ m). omega (arith, e) in
-    rw (ne-eqb n m other) (none-below n (m + 1) s (omega arith))
-
-distinct-from : (n : ℕ) (s : List ℕ) → distinct (numbersFrom n s) ≡ true
-unfolding distinct numbersFrom
-distinct-from n [] = refl
-distinct-from n (x ∷ s) = rw (none-below n (n + 1) s (omega arith)) (distinct-from (n + 1) s)
-
--- .. so none acts twice
-pub each-once : (b : Book) (lines : List (List ℕ)) → distinct (actingNumbers b lines) ≡ true
-each-once b lines =
-    subst (λ (s : List ℕ). distinct s ≡ true) (sym (acting-numbers b lines)) (distinct-from (b .last .0 + 1) (actingNumbers b lines))
+pub calls-act : (r : BookRecord) (calls : List Call) → noneRefused byCall r (struckOut byCall r calls) ≡ true
+calls-act = struck-out-acts by-call-keeps
 
 -- ── The repeat at three in the morning ──
 

@@ -131,12 +131,15 @@ unfolding doneBy
 done-long b reading.Bad s = omega (arith, none-long)
 done-long b (reading.Is c) s = does-long (c .number) (c .time) (c .body) b s
 
--- the room is there, and the record is sound
+-- the room is there, the record is sound, and none of the other refusals is given
 pub fit-for : (room : ℕ) (r : BookRecord) (a : Reading) → firstOf (refusals room (recordSound r) (bookIn r) a) ≡ 0
-    → (leastRoom ≤ room) × (sound (bookIn r) ≡ true)
+    → (leastRoom ≤ room) × (sound (bookIn r) ≡ true) × (firstOf (lineRefusals (bookIn r) a) ≡ 0)
 unfolding refusals recordSound
 fit-for room r a e =
     let first = none-given 1 (ltb room leastRoom) (2 givenWhen not (recordSound r) ∷ lineRefusals (bookIn r) a) (omega arith) e in
     let second = none-given 2 (not (recordSound r)) (lineRefusals (bookIn r) a) (omega arith) (first .1) in
-    let isSound : recordSound r ≡ true = not-false (recordSound r) (second .0) in
-    (ltb-false room leastRoom (first .0), and-right (placesSound (r .buys) && placesSound (r .sells)) (sound (bookIn r)) isSound)
+    let isSound : recordSound r ≡ true = not-false (recordSound r) (second .0) in (
+      ltb-false room leastRoom (first .0),
+      and-right (placesSound (r .buys) && placesSound (r .sells)) (sound (bookIn r)) isSound,
+      second .1,
+    )

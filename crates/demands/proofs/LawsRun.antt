@@ -25,7 +25,7 @@ use Rattle.rules.specs.Working.{does}
 use Rattle.soundness.proofs.LawsKept.{answer-sound, fresh-sound, book-record, record-sound}
 use Rattle.demands.specs.Executes.{Executes}
 use Rattle.demands.specs.Once.{acts}
-use Rattle.demands.specs.Run.{Enters, now, later}
+use Rattle.demands.specs.Run.{eventsOf, Enters, now, later}
 use Rattle.demands.specs.Told.{eventsIn, executedIn, cancelledIn, restingOf}
 use Rattle.demands.proofs.LawsExecutes.{executes}
 use Rattle.demands.proofs.LawsSums.{conserved}
@@ -36,13 +36,14 @@ use Rattle.demands.proofs.LawsTold.{last-fits, line-told, run-told}
 -- a call on the record of a sound book, with room for the lines of a command, is a line of a day
 pub call-answers : (b : Book) (line out : List ℕ) → sound b ≡ true → leastRoom ≤ length out
     → (step (recordOf b) line out .refusal ≡ answerTo b line .refusal) × (step (recordOf b) line out .book ≡ recordOf (answerTo b line .book))
+    × (step (recordOf b) line out .length ≡ length (eventLines (answerTo b line .events)))
     × (step (recordOf b) line out .out ≡ onto (eventLines (answerTo b line .events)) out)
 unfolding step stepOn answerTo answer refusals firstOf
 call-answers b line out s room =
     let isSound = record-sound b s in
     let book = book-record b in
     let short = le-ltb (length out) leastRoom room in
-    rw (isSound, book, short) (refl, by-refusal (firstOf (lineRefusals b (commandIn line))), refl)
+    rw (isSound, book, short) (refl, by-refusal (firstOf (lineRefusals b (commandIn line))), refl, refl)
   where
     by-refusal : (refusal : ℕ) → (if eqb refusal 0 then recordOf (if eqb refusal 0 then doneBy (commandIn line) b .book else b) else recordOf b)
         ≡ recordOf (if eqb refusal 0 then doneBy (commandIn line) b .book else b)
@@ -77,8 +78,11 @@ pub run-executes : (lines : List (List ℕ)) (stood : Book) (line : List ℕ) (c
     → has (o .word) postOnly ≡ false → Executes stood c o (eventsIn (printed (answerTo stood line)))
 run-executes lines stood line c o r notPostOnly = executes-from fresh-sound fresh-last r notPostOnly
 
+pub run-read : (lines : List (List ℕ)) → eventsIn (printedOf fresh lines) ≡ eventsOf fresh lines
+run-read lines = run-told fresh lines fresh-sound fresh-last
+
 pub run-conserved : (lines : List (List ℕ)) (stood : Book) (line : List ℕ) (c : Command) (o : Order) → Enters fresh lines stood line c o
     → o .shares .0
     ≡ executedIn (c .number) (eventsIn (printedOf fresh lines)) + cancelledIn (c .number) (eventsIn (printedOf fresh lines))
     + restingOf (c .number) (bookAfter fresh lines)
-run-conserved lines stood line c o r = rw (run-told fresh lines fresh-sound fresh-last) (conserved lines stood line c o r)
+run-conserved lines stood line c o r = rw (run-read lines) (conserved lines stood line c o r)

@@ -28,14 +28,14 @@ use Rattle.rules.proofs.LawsEvents.{eventLines-append}
 use Rattle.soundness.proofs.LawsKept.{answer-sound, fresh-sound}
 use Rattle.soundness.proofs.LawsSides.{InRange, sides-of}
 use Rattle.soundness.proofs.LawsSound.{sound-is}
-use Rattle.demands.specs.Once.{acts, eventLinesOf, numberIn}
+use Rattle.demands.specs.Once.{eventLinesOf, numberIn, acts, byLine}
 use Rattle.demands.specs.Run.{eventsOf, Enters, now, later}
 use Rattle.demands.specs.Told.{countedIf, executedIn, cancelledIn, restsOn, restingOf}
 use Rattle.demands.proofs.LawsHeld.{counted-same, counted-other, counted-split, executed-append, cancelled-append, takings-no-more, takings-at-most, executions-sum, executions-cancel-none, cancels-sum, cancels-all, cancels-execute-none, ending-sum, ending-leaves}
 use Rattle.demands.proofs.LawsOnce.{refused-book, refused-events, next-acts, answer-rises}
 
 -- the event lines are the lines of the events
-pub lines-of-events : (b : Book) (lines : List (List ℕ)) → eventLinesOf b lines ≡ eventLines (eventsOf b lines)
+pub lines-of-events : (b : Book) (lines : List (List ℕ)) → eventLinesOf byLine b lines ≡ eventLines (eventsOf b lines)
 unfolding eventLinesOf eventsOf eventLines
 lines-of-events b [] = refl
 lines-of-events b (l ∷ ls) =

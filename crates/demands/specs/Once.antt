@@ -1,12 +1,12 @@
 -- Demand 1, in the customer's words: any bytes, with any book record lent, give event lines or one numbered refusal that hands back
 -- the same book and writes no byte; each command number acts at most once in a day; and the day with its refused commands struck
--- out ends in the same book and gives the same lines. These are the words of that statement; `LawsOnce` has its proofs.
-use Prim.Native.Nat.{ℕ, _+_, _≤_}
-use mathlib.Core.Bool.{Bool}
+-- out ends with the same book and the same event lines. These are the words of that statement; `LawsOnce` has its proofs.
+use Prim.Native.Nat.{ℕ, _≤_}
+use mathlib.Core.Bool.{Bool, true, _&&_}
 use mathlib.Core.List.{List, [], _∷_, _++_}
 use mathlib.Core.Path.{_≡_}
 use lib.Dec.{eqb}
-use lib.ListN.{length}
+use lib.ListN.{length, take}
 use Rattle.basics.specs.Bytes.{onto}
 use Rattle.basics.specs.Choice.{if_then_else_}
 use Rattle.rules.specs.declared.Event.{Event}
@@ -15,7 +15,7 @@ use Rattle.rules.specs.declared.Reading.the-variants as reading
 use Rattle.rules.specs.Book.{Book, BookRecord}
 use Rattle.rules.specs.CommandLines.{commandIn}
 use Rattle.rules.specs.EventLines.{eventLines}
-use Rattle.rules.specs.Step.{Returned, answerTo}
+use Rattle.rules.specs.Step.{Returned, answerTo, step}
 
 -- ── One call ──
 
@@ -34,35 +34,79 @@ pub record Refused (r : BookRecord) (out : List ℕ) (s : Returned) : Type 0 whe
   pub sameBook : s .book ≡ r
   pub noByte : s .out ≡ out
 
+-- ── A run of commands ──
+
+-- how books of a kind B answer commands of a kind C: whether a command acts, that is, is not refused; the book after it; the event
+-- lines that it tells; and its command number
+pub record Answering (B C : Type 0) : Type 0 where
+  pub acts : B → C → Bool
+  pub book : B → C → B
+  pub tells : B → C → List ℕ
+  pub number : C → ℕ
+
+-- the book that a run ends with
+unfoldable pub endOf : {B C : Type 0} → Answering B C → B → List C → B
+endOf a b [] = b
+endOf a b (c ∷ cs) = endOf a (a .book b c) cs
+
+-- the event lines of a run; the line that a refusal is printed as is none
+unfoldable pub eventLinesOf : {B C : Type 0} → Answering B C → B → List C → List ℕ
+eventLinesOf a b [] = []
+eventLinesOf a b (c ∷ cs) = a .tells b c ++ eventLinesOf a (a .book b c) cs
+
+-- the command numbers that act in a run, in their order
+unfoldable pub actingNumbers : {B C : Type 0} → Answering B C → B → List C → List ℕ
+actingNumbers a b [] = []
+actingNumbers a b (c ∷ cs) =
+    if a .acts b c then a .number c ∷ actingNumbers a (a .book b c) cs
+    else actingNumbers a (a .book b c) cs
+
+-- a run with its refused commands struck out
+unfoldable pub struckOut : {B C : Type 0} → Answering B C → B → List C → List C
+struckOut a b [] = []
+struckOut a b (c ∷ cs) =
+    if a .acts b c then c ∷ struckOut a (a .book b c) cs
+    else struckOut a (a .book b c) cs
+
+-- no command of a run is refused
+unfoldable pub noneRefused : {B C : Type 0} → Answering B C → B → List C → Bool
+noneRefused a b [] = true
+noneRefused a b (c ∷ cs) = a .acts b c && noneRefused a (a .book b c) cs
+
 -- ── A day ──
-
--- a line acts on a book: it is not refused
-abbrev pub acts : Book → List ℕ → Bool
-acts b line = eqb (answerTo b line .refusal) 0
-
--- the day with its refused commands struck out
-unfoldable pub struckOut : Book → List (List ℕ) → List (List ℕ)
-struckOut b [] = []
-struckOut b (l ∷ ls) = if acts b l then l ∷ struckOut (answerTo b l .book) ls else struckOut b ls
-
--- the event lines of a day, without the lines of its refusals
-unfoldable pub eventLinesOf : Book → List (List ℕ) → List ℕ
-eventLinesOf b [] = []
-eventLinesOf b (l ∷ ls) = eventLines (answerTo b l .events) ++ eventLinesOf (answerTo b l .book) ls
 
 -- the number of the command that a line is, or 0 where it is none
 abbrev pub numberIn : Reading → ℕ
 numberIn (reading.Is c) = c .number .0
 numberIn reading.Bad = 0
 
--- the command numbers that act in a day, in their order
-unfoldable pub actingNumbers : Book → List (List ℕ) → List ℕ
-actingNumbers b [] = []
-actingNumbers b (l ∷ ls) =
-    if acts b l then numberIn (commandIn l) ∷ actingNumbers (answerTo b l .book) ls
-    else actingNumbers (answerTo b l .book) ls
+-- a line acts on a book: it is not refused
+abbrev pub acts : Book → List ℕ → Bool
+acts b line = eqb (answerTo b line .refusal) 0
 
--- the numbers from n on, one after the other
-unfoldable pub numbersFrom : ℕ → List ℕ → List ℕ
-numbersFrom n [] = []
-numbersFrom n (x ∷ s) = n ∷ numbersFrom (n + 1) s
+-- a day of lines through a book, as the program runs it
+abbrev pub byLine : Answering Book (List ℕ)
+byLine = record {
+  acts = acts;
+  book = λ b line. answerTo b line .book;
+  tells = λ b line. eventLines (answerTo b line .events);
+  number = λ line. numberIn (commandIn line);
+}
+
+-- a call: a line, and the output that is lent with it
+pub record Call : Type 0 where
+  pub line : List ℕ
+  pub out : List ℕ
+
+-- what it returns, on the record that is lent with it
+abbrev pub returned : BookRecord → Call → Returned
+returned r c = step r (c .line) (c .out)
+
+-- a day of calls, each with the record that the one before handed back
+abbrev pub byCall : Answering BookRecord Call
+byCall = record {
+  acts = λ r c. eqb (returned r c .refusal) 0;
+  book = λ r c. returned r c .book;
+  tells = λ r c. take (returned r c .length) (returned r c .out);
+  number = λ c. numberIn (commandIn (c .line));
+}

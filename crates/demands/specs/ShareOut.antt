@@ -6,11 +6,18 @@ use mathlib.Core.Bool.{false}
 use mathlib.Core.List.{List, [], _∷_}
 use mathlib.Core.Logic.{_≢_}
 use mathlib.Core.Path.{_≡_}
+use lib.Dec.{eqb}
+use Rattle.basics.specs.Choice.{if_then_else_}
 use Rattle.kinds.specs.declared.Cents.{Cents}
 use Rattle.rules.specs.declared.Away.{Away}
 use Rattle.rules.specs.declared.Order.{Order}
 use Rattle.rules.specs.declared.Resting.{Resting}
+use Rattle.rules.specs.Book.{Book}
 use Rattle.rules.specs.Instructions.{iso, market, has}
+
+-- "each opposite resting order": a buy (side 0) meets the sells, and a sell the buys
+abbrev pub opposite : Order → Book → List Resting
+opposite o b = if eqb (o .side) 0 then b .sells else b .buys
 
 -- what a resting order gives, and at which price
 pub record Given : Type 0 where
@@ -22,7 +29,7 @@ pub data Each {A B : Type 0} (Holds : A → B → Type 0) : List A → List B �
   empty : Each Holds [] []
   with : {x : A} {y : B} {s : List A} {u : List B} → Holds x y → Each Holds s u → Each Holds (x ∷ s) (y ∷ u)
 
--- "within the incoming limit if there is one, and, unless the order is an ISO, neither buys above the best away offer nor sells
+-- a resting order that is "one that could lawfully give" has a fair price: "within the incoming limit if there is one, and, unless the order is an ISO, neither buys above the best away offer nor sells
 -- below the best away bid": side 0 buys, side 1 sells; an away price of 0 is none
 pub record Fair (o : Order) (away : Away) (price : Cents) : Type 0 where
   pub buysWithinLimit : has (o .word) market ≡ false → o .side ≡ 0 → price .0 ≤ o .price .0

@@ -1,5 +1,5 @@
 -- What the program's own lines tell, read back from their bytes: the events of an output, and from them what each order executed,
--- gave and had cancelled. The three demands are said of these, so that a reader need not believe anything of the book's inside.
+-- gave and had cancelled. Demand 3 is said of these: what an order did is what its lines tell, not what the book's inside did.
 use Prim.Native.Nat.{ℕ, _+_}
 use mathlib.Core.Bool.{Bool, false, _&&_}
 use mathlib.Core.List.{List, [], _∷_, _++_}
@@ -103,7 +103,7 @@ pricesIn n (Executed incoming resting price shares ∷ es) = if eqb (n .0) (rest
 pricesIn n (Rested m price shares ∷ es) = pricesIn n es
 pricesIn n (Cancelled m shares reason ∷ es) = pricesIn n es
 
--- the line that kills a Fill-or-Kill: "the whole order is cancelled, reason 3"
+-- the line that kills a Fill-or-Kill has reason 3; that it cancels "the whole order" is said beside it
 abbrev pub kills : Number → Event → Bool
 kills n (Executed incoming resting price shares) = false
 kills n (Rested m price shares) = false

@@ -6,36 +6,6 @@ ghost use mathlib.Core.Path.{_≡_};
 ghost use Prim.Native.Nat.{_≤_, _<_};
 ghost use lib.ListN.{length};
 
-// Reads to the end of the input, or until the buffer is full; how far bytes then stand.
-fn read_all(input: &mut [u8]) -> usize
-    ensures { λ r. ⌜ r ≤ length (now (input .exit)) ⌝ }
-{
-    let mut end = 0;
-    while end < input.len() {
-        let got = night::read_piece(input, end);
-        if got.end == end {
-            return end;
-        }
-        end = got.end;
-    }
-    end
-}
-
-// The place after the next line feed, or the end.
-fn line_after(days: &[u8], from: usize) -> usize
-    requires { ⌜ from < length (now days) ⌝ }
-    ensures { λ r. ⌜ (from < r) × (r ≤ length (now (days .entry))) ⌝ }
-{
-    let mut i = from;
-    while i < days.len() {
-        i += 1;
-        if days[i - 1] == 10 {
-            return i;
-        }
-    }
-    i
-}
-
 // The place of the next line that begins with `#`, or the end; a line begins at `from`.
 fn day_after(days: &[u8], from: usize) -> usize
     requires { ⌜ from ≤ length (now days) ⌝ }
@@ -46,7 +16,7 @@ fn day_after(days: &[u8], from: usize) -> usize
         if days[i] == b'#' {
             return i;
         }
-        i = line_after(days, i);
+        i = night::line_after(days, i);
     }
     i
 }
@@ -88,7 +58,7 @@ fn run_days(days: &[u8], out: &mut [u8])
 {
     let mut at = 0;
     while at < days.len() {
-        let start = line_after(days, at);
+        let start = night::line_after(days, at);
         let end = day_after(days, start);
         if !io::write_all(STDOUT_FILENO, &days[at..start]) {
             night::fail_writing();
@@ -113,6 +83,6 @@ fn input_room() -> [u8; 1048576]
 fn main() {
     let mut input = input_room();
     let mut out = [0u8; 69632];
-    let end = read_all(&mut input);
+    let end = night::read_all(&mut input);
     run_days(&input[..end], &mut out);
 }

@@ -6,7 +6,7 @@ use rows::PLACES;
 use tables::Head;
 ghost use mathlib.Core.List.{[]};
 ghost use mathlib.Core.Path.{_≡_};
-ghost use Prim.Native.Nat.{_≤_};
+ghost use Prim.Native.Nat.{_≤_, _<_};
 ghost use lib.ListN.{length};
 ghost use Rattle.commands.specs.Commands.{Stands};
 ghost use Rattle.rows.specs.Table.{tableOf};
@@ -168,4 +168,36 @@ pub fn run(
         have = t.have;
         turns -= 1;
     }
+}
+
+// ── A whole input at once, for programs that look at more than lines ──
+
+// Reads to the end of the input, or until the buffer is full; how far bytes then stand.
+pub fn read_all(input: &mut [u8]) -> usize
+    ensures { λ r. ⌜ r ≤ length (now (input .exit)) ⌝ }
+{
+    let mut end = 0;
+    while end < input.len() {
+        let got = read_piece(input, end);
+        if got.end == end {
+            return end;
+        }
+        end = got.end;
+    }
+    end
+}
+
+// The place after the next line feed, or the end.
+pub fn line_after(input: &[u8], from: usize) -> usize
+    requires { ⌜ from < length (now input) ⌝ }
+    ensures { λ r. ⌜ (from < r) × (r ≤ length (now (input .entry))) ⌝ }
+{
+    let mut i = from;
+    while i < input.len() {
+        i += 1;
+        if input[i - 1] == 10 {
+            return i;
+        }
+    }
+    i
 }

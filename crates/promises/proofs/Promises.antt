@@ -21,14 +21,14 @@ use Rattle.rules.specs.Instructions.{has, postOnly}
 use Rattle.rules.specs.Refusals.{leastRoom}
 use Rattle.rules.specs.Step.{answerTo, step}
 use Rattle.rules.specs.Working.{does}
-use Rattle.rules.proofs.LawsLines.{IsLine, commandIn-lineOf, commandIn-is, lineOf-once}
+use Rattle.rules.proofs.LawsLines.{commandIn-lineOf, commandIn-is, lineOf-once}
 use Rattle.soundness.proofs.LawsKept.{fresh-sound, after-sound}
-use Rattle.demands.specs.Once.{EventLines, Refused, acts, struckOut, eventLinesOf, actingNumbers}
-use Rattle.demands.specs.Run.{Enters}
+use Rattle.demands.specs.Once.{EventLines, Refused, endOf, eventLinesOf, actingNumbers, struckOut, noneRefused, acts, byLine, Call, byCall}
+use Rattle.demands.specs.Run.{eventsOf, Enters}
 use Rattle.demands.specs.Told.{eventsIn, executedIn, cancelledIn, restingOf}
 use Rattle.demands.specs.Executes.{Executes}
-use Rattle.demands.proofs.LawsOnce.{lines-or-refusal, each-once, struck-out-book, struck-out-lines, repeat-refused}
-use Rattle.demands.proofs.LawsRun.{call-answers, accepted-does, run-executes, run-conserved}
+use Rattle.demands.proofs.LawsOnce.{lines-or-refusal, lines-once, lines-end, lines-tell, lines-act, lines-print, calls-once, calls-end, calls-tell, calls-act, repeat-refused}
+use Rattle.demands.proofs.LawsRun.{call-answers, accepted-does, run-executes, run-read, run-conserved}
 use Rattle.book.specs.declared.Reply.{Reply}
 use Rattle.book.specs.Record.{recordIn, replyOf}
 use Rattle.book.proofs.Book.answer.Reads as answer
@@ -43,31 +43,52 @@ use Rattle.replay.proofs.LawsPieces.{cut-anywhere}
 pub any-call : (r : BookRecord) (line out : List ℕ) → EventLines out (step r line out) ⊎ Refused r out (step r line out)
 any-call = lines-or-refusal
 
--- a day is a run of such calls: on the record of a sound book, with room for the lines of a command, a call is a line of it
+-- "In one day from a fresh book each command number acts at most once": a day is a run of such calls, each with the record that the
+-- one before handed back and with any output, so that some may be refused for want of room
+pub each-number-once : (calls : List Call) → distinct (actingNumbers byCall (recordOf fresh) calls) ≡ true
+each-number-once = calls-once (recordOf fresh)
+
+-- "and that day with its refused commands struck out ends with the same book"
+pub struck-out-ends : (calls : List Call)
+    → endOf byCall (recordOf fresh) (struckOut byCall (recordOf fresh) calls) ≡ endOf byCall (recordOf fresh) calls
+struck-out-ends = calls-end (recordOf fresh)
+
+-- "and the same event lines"
+pub struck-out-tells : (calls : List Call)
+    → eventLinesOf byCall (recordOf fresh) (struckOut byCall (recordOf fresh) calls) ≡ eventLinesOf byCall (recordOf fresh) calls
+struck-out-tells = calls-tell (recordOf fresh)
+
+-- and nothing of it is refused
+pub struck-out-acts : (calls : List Call) → noneRefused byCall (recordOf fresh) (struckOut byCall (recordOf fresh) calls) ≡ true
+struck-out-acts = calls-act (recordOf fresh)
+
+-- the program's day is a run of lines: on the record of a sound book, with room for the lines of a command, a call is one of them
 pub a-day-of-calls : (b : Book) (line out : List ℕ) → sound b ≡ true → leastRoom ≤ length out
     → (step (recordOf b) line out .refusal ≡ answerTo b line .refusal) × (step (recordOf b) line out .book ≡ recordOf (answerTo b line .book))
+    × (step (recordOf b) line out .length ≡ length (eventLines (answerTo b line .events)))
     × (step (recordOf b) line out .out ≡ onto (eventLines (answerTo b line .events)) out)
 a-day-of-calls = call-answers
 
--- "In one day from a fresh book each command number acts at most once"
-pub each-number-once : (lines : List (List ℕ)) → distinct (actingNumbers fresh lines) ≡ true
-each-number-once lines = each-once fresh lines
+-- of such a day all this holds too: each number acts at most once ..
+pub each-number-once-by-line : (lines : List (List ℕ)) → distinct (actingNumbers byLine fresh lines) ≡ true
+each-number-once-by-line = lines-once fresh
+
+-- .. and with its refused lines struck out it ends with the same book and the same event lines, nothing of it is refused, and those
+-- event lines are all that is printed of it
+pub struck-out-by-line : (lines : List (List ℕ))
+    → (bookAfter fresh (struckOut byLine fresh lines) ≡ bookAfter fresh lines)
+    × (eventLinesOf byLine fresh (struckOut byLine fresh lines) ≡ eventLinesOf byLine fresh lines)
+    × (noneRefused byLine fresh (struckOut byLine fresh lines) ≡ true)
+    × (printedOf fresh (struckOut byLine fresh lines) ≡ eventLinesOf byLine fresh lines)
+struck-out-by-line lines = (lines-end fresh lines, lines-tell fresh lines, lines-act fresh lines, lines-print fresh lines)
 
 -- the repeat at three in the morning: once a line has acted, a line with its number is refused, whatever came between them,
 -- whatever its time
-pub acts-once : (earlier between : List (List ℕ)) (line again : List ℕ) (c d : Command) → acts (bookAfter fresh earlier) line ≡ true
+pub a-repeat-is-refused : (earlier between : List (List ℕ)) (line again : List ℕ) (c d : Command) → acts (bookAfter fresh earlier) line ≡ true
     → commandIn line ≡ reading.Is c → commandIn again ≡ reading.Is d → d .number ≡ c .number
     → answerTo (bookAfter fresh (earlier ++ (line ∷ between))) again
     ≡ record { refusal = 4; book = bookAfter fresh (earlier ++ (line ∷ between)); events = [] }
-acts-once = repeat-refused fresh
-
--- "and that day with its refused commands struck out ends with the same book"
-pub struck-out-ends : (lines : List (List ℕ)) → bookAfter fresh (struckOut fresh lines) ≡ bookAfter fresh lines
-struck-out-ends = struck-out-book fresh
-
--- "and the same event lines"
-pub struck-out-tells : (lines : List (List ℕ)) → eventLinesOf fresh (struckOut fresh lines) ≡ eventLinesOf fresh lines
-struck-out-tells = struck-out-lines fresh
+a-repeat-is-refused = repeat-refused fresh
 
 -- ── Demand 2 ──
 
@@ -86,8 +107,8 @@ pub one-line-a-command : (c : Command) → Fits c → commandIn (lineOf c) ≡ r
 one-line-a-command = commandIn-lineOf
 
 -- "and each well-formed line one command": .. and whatever is read as a command is the line that is written of it
-pub one-command-a-line : (line : List ℕ) (c : Command) → commandIn line ≡ reading.Is c → IsLine line c
-one-command-a-line = commandIn-is
+pub one-command-a-line : (line : List ℕ) (c : Command) → commandIn line ≡ reading.Is c → (line ≡ lineOf c) × Fits c
+one-command-a-line line c is = let read = commandIn-is line c is in (read .line-is, read .fits-are)
 
 -- and no two commands share a line
 pub no-shared-line : (c d : Command) → Fits c → Fits d → lineOf c ≡ lineOf d → c ≡ d
@@ -103,6 +124,10 @@ pub executes-the-greatest : (lines : List (List ℕ)) (stood : Book) (line : Lis
     → Enters fresh lines stood line c o → has (o .word) postOnly ≡ false → Executes stood c o (eventsIn (printed (answerTo stood line)))
 executes-the-greatest = run-executes
 
+-- what is printed is read back whole: nothing that a day tells is lost in the reading, and refusals tell nothing
+pub nothing-unread : (lines : List (List ℕ)) → eventsIn (printedOf fresh lines) ≡ eventsOf fresh lines
+nothing-unread = run-read
+
 -- "For each accepted order, shares entered equal shares executed plus cancelled, both summed from the event lines, plus those still
 -- resting.": from all that the day prints, read back from its bytes
 pub no-share-lost : (lines : List (List ℕ)) (stood : Book) (line : List ℕ) (c : Command) (o : Order) → Enters fresh lines stood line c o
@@ -111,7 +136,7 @@ pub no-share-lost : (lines : List (List ℕ)) (stood : Book) (line : List ℕ) (
     + restingOf (c .number) (bookAfter fresh lines)
 no-share-lost = run-conserved
 
--- ── The code ──
+-- ── The code, and the program's step ──
 
 -- whatever the entry `Book::answer` returns, for any book, line and output, is the step that demand 1 speaks of
 pub the-entry : (κs : _) (a : _) (r : Reply) (s : _) → answer.Post κs a r s
@@ -124,6 +149,7 @@ pub one-result : (κs : _) (a : _) (r r′ : Reply) (s s′ : _) → answer.Post
     → (r ≡ r′) × (now (s .1 .1 .0) ≡ now (s′ .1 .1 .0))
 one-result = answer-determined
 
--- and what the program's step on pieces of input prints is what 01 says of the whole input, however it is cut
+-- and what is printed of the pieces of an input, which the program reads, feeds to `replay::feed` and writes, is what 01 says of the
+-- whole input, however it is cut
 pub however-cut : (pieces : List (List ℕ)) → printedOfPieces begun pieces ≡ output (allOf pieces)
 however-cut = cut-anywhere

@@ -1,5 +1,5 @@
--- The promises are not empty: each is read at a night that trades, is refused, is sent again and is killed (`specs/Night`), and what
--- it says there is computed. Assumes nothing.
+-- The promises are not empty: a night that trades, is refused, is sent again and is killed (`specs/Night`) is computed, and demand 3's
+-- are read at it. Assumes nothing.
 use Prim.Native.Nat.{ℕ, _≤_}
 use mathlib.Core.Bool.{true, false}
 use mathlib.Core.List.{List, [], _∷_}
@@ -19,7 +19,7 @@ use Rattle.rules.specs.Instructions.{lawful}
 use Rattle.rules.specs.Refusals.{firstOf, restsOnFullSide, headerRefusals, bodyRefusals, lineRefusals, refusals}
 use Rattle.rules.specs.Step.{doneBy, answer, answerTo}
 use Rattle.rules.specs.Working.{nothing, walk, walked, takings, remainder, executions, after, seeks, endingWith, ending, insert, accept, kept, cancels, cancel, quote, close, does}
-use Rattle.demands.specs.Once.{struckOut, actingNumbers}
+use Rattle.demands.specs.Once.{actingNumbers, struckOut, byLine}
 use Rattle.demands.specs.Run.{Enters, now, later}
 use Rattle.demands.specs.ShareOut.{Given, given, Lawful, Fills}
 use Rattle.demands.specs.Told.{eventIn, eventsOn, eventsIn, isKilled, executedIn, cancelledIn, restingOf}
@@ -29,11 +29,11 @@ use Rattle.promises.specs.Night.{night, nightStruckOut, nightEvents, kil
 -- ── Demand 1 ──
 
 -- nine of the twelve lines act, each number once; the line sent again, the empty one and the one that leaves out a number do not
-night-acts : actingNumbers fresh night ≡ 1 ∷ 2 ∷ 3 ∷ 4 ∷ 5 ∷ 6 ∷ 7 ∷ 8 ∷ 9 ∷ []
+night-acts : actingNumbers byLine fresh night ≡ 1 ∷ 2 ∷ 3 ∷ 4 ∷ 5 ∷ 6 ∷ 7 ∷ 8 ∷ 9 ∷ []
 unfolding ones onesIn onto every any distinct total digits nibbleOf allDigits numberAfter numberIn ranksBefore inRankOrder apart sound written lineOf numbersFrom orderIn cancelIn quoteIn closeIn bodyIn commandIn lawful firstOf restsOnFullSide headerRefusals bodyRefusals lineRefusals refusals doneBy answer answerTo nothing walk walked takings remainder executions after seeks endingWith ending insert accept kept cancels cancel quote close does actingNumbers
 night-acts = refl
 
-night-struck-out : struckOut fresh night ≡ nightStruckOut
+night-struck-out : struckOut byLine fresh night ≡ nightStruckOut
 unfolding ones onesIn onto every any distinct total digits nibbleOf allDigits numberAfter numberIn ranksBefore inRankOrder apart sound written lineOf numbersFrom orderIn cancelIn quoteIn closeIn bodyIn commandIn lawful firstOf restsOnFullSide headerRefusals bodyRefusals lineRefusals refusals doneBy answer answerTo nothing walk walked takings remainder executions after seeks endingWith ending insert accept kept cancels cancel quote close does struckOut
 night-struck-out = refl
 

@@ -27,7 +27,7 @@ use Rattle.rules.specs.EventLines.{byCommand, iocRemainder, fokKilled, c
 abbrev pub buying : Order → Bool
 buying o = eqb (o .side) 0
 
--- a price is beyond a bound: above it for a buy, below it for a sell. It would rank before the bound.
+-- a price is beyond a bound: above it for a buy, below it for a sell. On the order's own side it would rank before the bound.
 abbrev pub beyond : Bool → Cents → Cents → Bool
 beyond buy bound price = better buy price bound
 
@@ -116,7 +116,7 @@ oneCentLessAggressive buy p = if buy then below p else above p
 
 -- 4. "A Day remainder seeks its price. ISO: its limit. .. Displayed, and it would lock or cross that away price: Price Adjust
 -- takes one cent less aggressive than the Locking Price ..; Non-Displayed, and it would cross (not merely lock): Price
--- Adjust takes the Locking Price itself .. Else its limit."
+-- Adjust takes the Locking Price itself .. Else its limit." An absent away price is neither locked nor crossed.
 unfoldable pub seeks : Order → Away → Ending
 seeks o away =
     let locking = lockingPrice (buying o) away in

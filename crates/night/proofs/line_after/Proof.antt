@@ -1,9 +1,9 @@
--- `examples::line_after` meets its contract: it ends, within the days. Assumes nothing.
+-- `night::line_after` meets its contract: it ends, within the days. Assumes nothing.
 use Prim.Native.Nat.{_-_, _≤_}
 use lib.ListN.{length}
 use borrow.Author.Needs.{needs}
-use Rattle.examples.proofs.line_after.Statement.{statement}
-use Rattle.examples.proofs.line_after.Tie as tie
+use Rattle.night.proofs.line_after.Statement.{statement}
+use Rattle.night.proofs.line_after.Tie as tie
 
 abbrev Inv-loop : tie.InvT-loop
 Inv-loop days from i₀ i = (from ≤ i) × (i ≤ length days)

@@ -1,10 +1,10 @@
--- `examples::read_all` meets its contract: every turn but the last adds bytes. Assumes nothing.
+-- `night::read_all` meets its contract: every turn but the last adds bytes. Assumes nothing.
 use Prim.Native.Nat.{_-_, _≤_}
 use mathlib.Core.Path.{_≡_}
 use lib.ListN.{length}
 use borrow.Author.Needs.{needs}
-use Rattle.examples.proofs.read_all.Statement.{statement}
-use Rattle.examples.proofs.read_all.Tie as tie
+use Rattle.night.proofs.read_all.Statement.{statement}
+use Rattle.night.proofs.read_all.Tie as tie
 
 abbrev Inv-loop : tie.InvT-loop
 Inv-loop input₀ end₀ input end = (end ≤ length input) × (length input ≡ length input₀)

@@ -1,0 +1,136 @@
+-- The three ways of a line to a book of which one side is lent: the table does not fit, the line is refused, or it is accepted; and
+-- what `work`, `answer` and `answer_over` return, by those ways. Assumes nothing.
+use Prim.Native.Nat.{ℕ}
+use mathlib.Core.Bool.{Bool, true, false}
+use mathlib.Core.List.{List, [], _∷_}
+use mathlib.Core.Logic.{_≢_, ⊎-elim}
+use mathlib.Core.Path.{_≡_, refl, _∙_}
+use lib.Dec.{eqb, ltb}
+use lib.ListN.{length}
+use borrow.Author.Tests.{eq-eqb, ne-eqb}
+use Rattle.basics.specs.Lists.{firstWhere}
+use Rattle.basics.proofs.LawsChoice.{holds-or-not}
+use Rattle.rules.specs.declared.Resting.{Resting}
+use Rattle.rules.specs.Book.{BookRecord, placesASide, isUnused}
+use Rattle.rules.specs.Refusals.{_givenWhen_, firstOf, leastRoom}
+use Rattle.rules.specs.Step.{Returned, step}
+use Rattle.book.specs.declared.Book as value
+use Rattle.book.specs.declared.Reply.{Reply}
+use Rattle.book.specs.declared.Side.{Side}
+use Rattle.book.specs.Record.{placesOn, sideWith, recordIn, bookWith, replyOf}
+use Rattle.lent.specs.declared.Worked.{Worked}
+use Rattle.lent.specs.Lent.{Lent, placesIn, noPlaces, isEmpty, sideOf, withSide, fits, lentStep, replyOf as replyIn, workedOf, lendingStep}
+
+module _ (buys : Bool) (r : BookRecord) (table : List Resting) (line out : List ℕ) where
+  abbrev pub whole : Returned
+  whole = step (withSide buys (placesIn table) r) line out
+
+  lent-unfit : isEmpty (sideOf buys r) ≡ false
+      → lentStep buys r table line out
+      ≡ record { refusal = firstOf (1 givenWhen ltb (length out) leastRoom ∷ 2 givenWhen true ∷ []); length = 0; book = r; table = table; out = out }
+  unfolding lentStep fits
+  lent-unfit e =
+      ⊎-elim
+      (λ (t : eqb (length table) placesASide ≡ true). rw (e, t))
+      (λ (t : eqb (length table) placesASide ≡ false). rw (e, t))
+      (holds-or-not (eqb (length table) placesASide))
+
+  lent-short : length table ≢ placesASide
+      → lentStep buys r table line out
+      ≡ record { refusal = firstOf (1 givenWhen ltb (length out) leastRoom ∷ 2 givenWhen true ∷ []); length = 0; book = r; table = table; out = out }
+  unfolding lentStep fits
+  lent-short n = rw (ne-eqb (length table) placesASide n)
+
+  module _ (all : length table ≡ placesASide) (empty : isEmpty (sideOf buys r) ≡ true) where
+    lent-refused : whole .refusal ≢ 0
+        → lentStep buys r table line out ≡ record { refusal = whole .refusal; length = whole .length; book = r; table = table; out = whole .out }
+    unfolding lentStep fits
+    lent-refused n = rw (empty, eq-eqb (length table) placesASide all, ne-eqb (whole .refusal) 0 n)
+
+    lent-accepted : whole .refusal ≡ 0
+        → lentStep buys r table line out
+        ≡ record {
+          refusal = whole .refusal;
+          length = whole .length;
+          book = withSide buys noPlaces (whole .book);
+          table = sideOf buys (whole .book) .places;
+          out = whole .out;
+        }
+    unfolding lentStep fits
+    lent-accepted z = rw (empty, eq-eqb (length table) placesASide all, eq-eqb (whole .refusal) 0 z)
+
+-- ── The same as the code has it ──
+
+-- what `refuse` returns
+abbrev pub refused : value.Book → ℕ → Reply
+refused book room = record { refusal = firstOf (1 givenWhen ltb room leastRoom ∷ 2 givenWhen true ∷ []); length = 0; book = book }
+
+module _ (buys : Bool) (book : value.Book) (table : List Resting) (line out : List ℕ) where
+  abbrev it : Lent
+  it = lentStep buys (recordIn book) table line out
+
+  pub worked-unfit : (side : Side) (reply : Reply) → side ≡ sideWith (sideOf buys (recordIn book)) → isEmpty (placesOn side) ≡ false
+      → reply ≡ refused book (length out)
+      → (record { reply = reply; places = table } ≡ workedOf it) × (out ≡ it .out)
+  worked-unfit side reply sideIs e replyIs =
+      let unfit = lent-unfit buys (recordIn book) table line out (rw sideIs at e) in
+      rw (unfit, replyIs) (refl, refl)
+
+  module _ (all : length table ≡ placesASide) (side : Side) (sideIs : side ≡ sideWith (sideOf buys (recordIn book))) (empty : isEmpty (placesOn side) ≡ true)
+      (used : ℕ) (usedIs : used ≡ firstWhere isUnused table)
+      (whole : value.Book) (wholeIs : whole ≡ bookWith (withSide buys (record { used = used; places = table }) (recordIn book)))
+      (reply : Reply) (replyIs : reply ≡ replyOf (step (recordIn whole) line out)) (out′ : List ℕ) (outIs : out′ ≡ step (recordIn whole) line out .out) where
+    same-step : step (recordIn whole) line out ≡ step (withSide buys (placesIn table) (recordIn book)) line out
+    same-step = rw (wholeIs, usedIs) refl
+
+    is-empty : isEmpty (sideOf buys (recordIn book)) ≡ true
+    is-empty = rw sideIs at empty
+
+    pub worked-refused : reply .refusal ≢ 0
+        → (record { reply = record { refusal = reply .refusal; length = reply .length; book = book }; places = table } ≡ workedOf it) × (out′ ≡ it .out)
+    worked-refused n =
+        let replyWhole = rw same-step at replyIs in
+        let refused = lent-refused buys (recordIn book) table line out all is-empty (rw replyWhole at n) in
+        rw (refused, replyWhole) (refl, rw same-step at outIs)
+
+    pub worked-accepted : reply .refusal ≡ 0 → (left apart none : _) → left ≡ sideWith (sideOf buys (recordIn (reply .book)))
+        → none ≡ sideWith noPlaces → apart ≡ bookWith (withSide buys (placesOn none) (recordIn (reply .book)))
+        → (record { reply = record { refusal = reply .refusal; length = reply .length; book = apart }; places = left .places } ≡ workedOf it) × (out′ ≡ it .out)
+    worked-accepted z left apart none leftIs noneIs apartIs =
+        let replyWhole = rw same-step at replyIs in
+        let accepted = lent-accepted buys (recordIn book) table line out all is-empty (rw replyWhole at z) in
+        rw (accepted, apartIs, noneIs, leftIs, replyWhole) (refl, rw same-step at outIs)
+
+  -- ── The same of the entry: the reply, what is left of the table, and what is left of the room ──
+
+  -- the table is not of 64 records: it is left, and so is the room
+  pub answered-short : length table ≢ placesASide → (r : Reply) → r ≡ refused book (length out) → (r ≡ replyIn it) × (table ≡ it .table) × (out ≡ it .out)
+  answered-short n r rIs = rw (lent-short buys (recordIn book) table line out n, rIs) (refl, refl, refl)
+
+  -- it is: what `work` returns on its records is taken apart
+  pub answered : (places : List Resting) → places ≡ table
+      → (w : Worked) (out′ : List ℕ) → (w ≡ workedOf (lentStep buys (recordIn book) places line out)) × (out′ ≡ lentStep buys (recordIn book) places line out .out)
+      → (left : List Resting) → left ≡ w .places → (table′ : List Resting) → table′ ≡ left → (r : Reply) → r ≡ w .reply
+      → (r ≡ replyIn it) × (table′ ≡ it .table) × (out′ ≡ it .out)
+  answered places placesIs w out′ wIs left leftIs table′ tableIs r rIs = rw (rIs, tableIs, leftIs, wIs .0, wIs .1, placesIs) (refl, refl, refl)
+
+  -- the records by value: what `answer` leaves of the slice they are lent as, beside its reply
+  pub answered-over : (r : Reply) (table′ : List Resting) (out′ : List ℕ) → (r ≡ replyIn it) × (table′ ≡ it .table) × (out′ ≡ it .out)
+      → (w : Worked) → w ≡ record { reply = r; places = table′ }
+      → (w ≡ workedOf it) × (out′ ≡ it .out)
+  answered-over r table′ out′ told w wIs = rw (wIs, told .0, told .1) (refl, told .2)
+
+-- ── A side taken out, lent, and put in again ──
+
+module _ (buys : Bool) (book : value.Book) (line out : List ℕ) (side : Side) (sideIs : side ≡ sideWith (sideOf buys (recordIn book)))
+    (none : Side) (noneIs : none ≡ sideWith noPlaces) (apart : value.Book) (apartIs : apart ≡ bookWith (withSide buys (placesOn none) (recordIn book)))
+    (worked : Worked) (workedIs : worked ≡ workedOf (lentStep buys (recordIn apart) (side .places) line out))
+    (used : ℕ) (usedIs : used ≡ firstWhere isUnused (worked .places))
+    (whole : value.Book) (wholeIs : whole ≡ bookWith (withSide buys (record { used = used; places = worked .places }) (recordIn (worked .reply .book)))) where
+  pub lent-and-back : record { refusal = worked .reply .refusal; length = worked .reply .length; book = whole } ≡ replyOf (lendingStep buys (recordIn book) line out)
+  unfolding lendingStep
+  lent-and-back = rw (wholeIs, usedIs, workedIs, apartIs, noneIs, sideIs) refl
+
+  pub lent-out : (out′ : List ℕ) → out′ ≡ lentStep buys (recordIn apart) (side .places) line out .out → out′ ≡ lendingStep buys (recordIn book) line out .out
+  unfolding lendingStep
+  lent-out out′ e = e ∙ rw (apartIs, noneIs, sideIs) refl

@@ -1,0 +1,5 @@
+pub mod LawsRecords
+pub mod LawsLentStep
+pub mod LawsLent
+pub mod LawsSame
+pub mod Determined

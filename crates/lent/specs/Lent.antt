@@ -1,0 +1,96 @@
+-- One side as a lent table of resting-order records (01, The book): "The table (64 records, else refusal 2) stands for that side and is
+-- left as the core would leave it; a refusal leaves it untouched. The book lent with it has all places of that side zero, else
+-- refusal 2, and comes back so."
+use Prim.Native.Nat.{ℕ}
+use mathlib.Core.Bool.{Bool, true, _&&_}
+use mathlib.Core.List.{List, [], _∷_}
+use mathlib.Core.Path.{_≡_}
+use lib.Dec.{eqb, ltb}
+use lib.ListN.{length, replicate}
+use Rattle.basics.specs.Choice.{if_then_else_}
+use Rattle.basics.specs.Lists.{every, firstWhere}
+use Rattle.rules.specs.declared.Resting.{Resting}
+use Rattle.rules.specs.Book.{Places, BookRecord, placesASide, unused, isUnused}
+use Rattle.rules.specs.Refusals.{_givenWhen_, firstOf, leastRoom}
+use Rattle.rules.specs.Step.{Returned, step}
+use Rattle.book.specs.declared.Reply.{Reply}
+use Rattle.book.specs.Record.{bookWith}
+use Rattle.lent.specs.declared.Worked.{Worked}
+
+-- the table has no count, and 01 does not say which of its records are used: its leading ones that are not all zero
+abbrev pub placesIn : List Resting → Places
+placesIn table = record { used = firstWhere isUnused table; places = table }
+
+-- a side with all places zero
+abbrev pub noPlaces : Places
+noPlaces = record { used = 0; places = replicate placesASide unused }
+
+-- .. and of no count either: a record that tells of orders where all places are zero is none that 01 would lend
+unfoldable pub isEmpty : Places → Bool
+isEmpty p = eqb (p .used) 0 && eqb (length (p .places)) placesASide && every isUnused (p .places)
+
+-- the side that the caller names
+abbrev pub sideOf : Bool → BookRecord → Places
+sideOf buys r = if buys then r .buys else r .sells
+
+abbrev pub withSide : Bool → Places → BookRecord → BookRecord
+withSide buys p r = record {
+  last = r .last;
+  time = r .time;
+  away = r .away;
+  closed = r .closed;
+  buys = if buys then p else r .buys;
+  sells = if buys then r .sells else p;
+}
+
+-- what comes back: as from the core, with the table beside the book
+pub record Lent : Type 0 where
+  pub refusal : ℕ
+  pub length : ℕ
+  pub book : BookRecord
+  pub table : List Resting
+  pub out : List ℕ
+
+-- the table can stand for that side
+unfoldable pub fits : Bool → BookRecord → List Resting → Bool
+fits buys r table = eqb (length table) placesASide && isEmpty (sideOf buys r)
+
+-- what the core leaves, taken apart again: "A refusal leaves it untouched", and so the book
+abbrev pub takenApart : Bool → BookRecord → List Resting → Returned → Lent
+takenApart buys r table s = record {
+  refusal = s .refusal;
+  length = s .length;
+  book = if eqb (s .refusal) 0 then withSide buys noPlaces (s .book) else r;
+  table = if eqb (s .refusal) 0 then sideOf buys (s .book) .places else table;
+  out = s .out;
+}
+
+-- a line, of any kind of command, to a book of which one side is lent as a table: what the core gives on the book with the table put in, taken apart again
+unfoldable pub lentStep : Bool → BookRecord → List Resting → List ℕ → List ℕ → Lent
+lentStep buys r table line out =
+    if fits buys r table then takenApart buys r table (step (withSide buys (placesIn table) r) line out)
+    else record {
+      refusal = firstOf (1 givenWhen ltb (length out) leastRoom ∷ 2 givenWhen true ∷ []);
+      length = 0;
+      book = r;
+      table = table;
+      out = out;
+    }
+
+-- the same as the code hands it back
+abbrev pub replyOf : Lent → Reply
+replyOf l = record { refusal = l .refusal; length = l .length; book = bookWith (l .book) }
+
+abbrev pub workedOf : Lent → Worked
+workedOf l = record { reply = replyOf l; places = l .table }
+
+-- the contract of the entry: the reply, the table and the output that a call leaves
+abbrev pub Answered : Bool → BookRecord → List Resting → List ℕ → List ℕ → Reply → List Resting → List ℕ → Type 0
+Answered buys r table line out reply table′ out′ =
+    (reply ≡ replyOf (lentStep buys r table line out)) × (table′ ≡ lentStep buys r table line out .table) × (out′ ≡ lentStep buys r table line out .out)
+
+-- a line to a whole book by way of the table: one side is taken out and lent, and what comes back is put together
+unfoldable pub lendingStep : Bool → BookRecord → List ℕ → List ℕ → Returned
+lendingStep buys r line out =
+    let l = lentStep buys (withSide buys noPlaces r) (sideOf buys r .places) line out in
+    record { refusal = l .refusal; length = l .length; book = withSide buys (placesIn (l .table)) (l .book); out = l .out }

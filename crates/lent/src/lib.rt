@@ -1,0 +1,292 @@
+// One side as a lent slice of resting-order records (01, The book: "one side as a lent table of resting-order records"), a thin layer
+// over the book by value: the table is put into the book, the book answers, and what it leaves is taken apart again.
+use book::Book;
+use book::Reply;
+use book::Side;
+use rows::PLACES;
+use rules::Resting;
+ghost use mathlib.Core.Bool.{true};
+ghost use mathlib.Core.List.{[], _∷_};
+ghost use mathlib.Core.Path.{_≡_};
+ghost use lib.Dec.{ltb};
+ghost use Prim.Native.Nat.{_<_};
+ghost use lib.ListN.{length, getD, set, replicate};
+ghost use Rattle.basics.specs.Lists.{every, firstWhere};
+ghost use Rattle.book.specs.Record.{recordIn, bookWith, placesOn, sideWith, replyOf};
+ghost use Rattle.rules.specs.Book.{placesASide, unused, isUnused};
+ghost use Rattle.rules.specs.Refusals.{_givenWhen_, firstOf, leastRoom};
+ghost use Rattle.lent.specs.Lent.{noPlaces, isEmpty, sideOf, withSide, lentStep, workedOf, Answered, lendingStep};
+
+// What comes back: the reply, and the records of the table.
+pub struct Worked {
+    pub reply: Reply,
+    pub places: [Resting; PLACES],
+}
+
+// ── The slice taken apart and put together: a function over a slice of structs is proved by hand ──
+
+// The record at a place.
+fn get(s: &[Resting], i: usize) -> Resting
+    requires { ⌜ i < length (now s) ⌝ }
+    ensures { λ r. ⌜ r ≡ getD (now (s .entry)) i unused ⌝ }
+{
+    s[i]
+}
+
+// An array of unused places.
+fn blank() -> [Resting; PLACES]
+    ensures { λ r. ⌜ r ≡ replicate placesASide unused ⌝ }
+{
+    [rows::UNUSED; PLACES]
+}
+
+// The record at a place of an array.
+fn at(a: [Resting; PLACES], i: usize) -> Resting
+    requires { ⌜ i < placesASide ⌝ }
+    ensures { λ r. ⌜ r ≡ getD a i unused ⌝ }
+{
+    a[i]
+}
+
+// An array with one record changed.
+fn with(a: [Resting; PLACES], i: usize, o: Resting) -> [Resting; PLACES]
+    requires { ⌜ i < placesASide ⌝ }
+    ensures { λ r. ⌜ r ≡ set a i o ⌝ }
+{
+    let mut b = a;
+    b[i] = o;
+    b
+}
+
+// All records of a slice of 64, by value.
+fn take(s: &[Resting]) -> [Resting; PLACES]
+    requires { ⌜ length (now s) ≡ placesASide ⌝ }
+    ensures { λ r. ⌜ r ≡ now (s .entry) ⌝ }
+{
+    let mut a = blank();
+    let mut i = 0;
+    while i < PLACES {
+        a = with(a, i, get(s, i));
+        i += 1;
+    }
+    a
+}
+
+// All records of a slice of 64 written over.
+fn give(s: &mut [Resting], a: [Resting; PLACES])
+    requires { ⌜ length (now s) ≡ placesASide ⌝ }
+    ensures { λ _. ⌜ now (s .exit) ≡ a ⌝ }
+{
+    let mut i = 0;
+    while i < PLACES {
+        s[i] = at(a, i);
+        i += 1;
+    }
+}
+
+// ── The book with the table put in ──
+
+fn is_unused(o: Resting) -> bool
+    ensures { λ r. ⌜ r ≡ isUnused o ⌝ }
+{
+    (o.number.0 == 0) & (o.price.0 == 0) & (o.shares.0 == 0) & !o.displayed
+}
+
+// How many leading records are used: the place of the first that is all zero.
+fn used_in(places: [Resting; PLACES]) -> usize
+    ensures { λ r. ⌜ r ≡ firstWhere isUnused places ⌝ }
+    ensures { λ _. ⌜ length places ≡ placesASide ⌝ }
+{
+    let mut i = 0;
+    while i < PLACES {
+        let o = places[i];
+        if is_unused(o) {
+            return i;
+        }
+        i += 1;
+    }
+    i
+}
+
+fn all_unused(places: [Resting; PLACES]) -> bool
+    ensures { λ r. ⌜ r ≡ every isUnused places ⌝ }
+    ensures { λ _. ⌜ length places ≡ placesASide ⌝ }
+{
+    let mut i = 0;
+    while i < PLACES {
+        let o = places[i];
+        if !is_unused(o) {
+            return false;
+        }
+        i += 1;
+    }
+    true
+}
+
+fn is_empty(s: Side) -> bool
+    ensures { λ r. ⌜ r ≡ isEmpty (placesOn s) ⌝ }
+{
+    let places = s.places;
+    (s.used == 0) & all_unused(places)
+}
+
+fn side_of(book: Book, buys: bool) -> Side
+    ensures { λ r. ⌜ r ≡ sideWith (sideOf buys (recordIn book)) ⌝ }
+{
+    if buys { book.buys } else { book.sells }
+}
+
+fn with_side(book: Book, buys: bool, side: Side) -> Book
+    ensures { λ r. ⌜ r ≡ bookWith (withSide buys (placesOn side) (recordIn book)) ⌝ }
+{
+    if buys {
+        return Book { buys: side, ..book };
+    }
+    Book {
+        sells: side,
+        ..book
+    }
+}
+
+fn no_side() -> Side
+    ensures { λ r. ⌜ r ≡ sideWith noPlaces ⌝ }
+{
+    Side {
+        used: 0,
+        places: [rows::UNUSED; PLACES],
+    }
+}
+
+// Refusal 1, or else 2: the table does not fit, or that side of the book is not empty.
+pub fn refuse(book: Book, room: usize) -> Reply
+    ensures { λ r. ⌜ r ≡ record { refusal = firstOf (1 givenWhen ltb room leastRoom ∷ 2 givenWhen true ∷ []); length = 0; book = book } ⌝ }
+{
+    let refusal = if room < 4096 { 1 } else { 2 };
+    Reply {
+        refusal: refusal,
+        length: 0,
+        book: book,
+    }
+}
+
+// A line to a book of which one side is given as the records of a table.
+pub fn work(
+    book: Book,
+    buys: bool,
+    places: [Resting; PLACES],
+    line: &[u8],
+    out: &mut [u8],
+) -> Worked
+    ensures { λ r. ⌜ (r ≡ workedOf (lentStep buys (recordIn book) places (now (line .entry)) (now (out .entry)))) × (now (out .exit) ≡ lentStep buys (recordIn book) places (now (line .entry)) (now (out .entry)) .out) ⌝ }
+{
+    let side = side_of(book, buys);
+    if !is_empty(side) {
+        let reply = refuse(book, out.len());
+        return Worked {
+            reply: reply,
+            places: places,
+        };
+    }
+    let lent = Side {
+        used: used_in(places),
+        places: places,
+    };
+    let whole = with_side(book, buys, lent);
+    let reply = whole.answer(line, out);
+    if reply.refusal != 0 {
+        let refused = Reply {
+            book: book,
+            ..reply
+        };
+        return Worked {
+            reply: refused,
+            places: places,
+        };
+    }
+    let after = reply.book;
+    let left = side_of(after, buys);
+    let rest = left.places;
+    let apart = with_side(after, buys, no_side());
+    let accepted = Reply {
+        book: apart,
+        ..reply
+    };
+    Worked {
+        reply: accepted,
+        places: rest,
+    }
+}
+
+fn reply_of(worked: Worked) -> Reply
+    ensures { λ r. ⌜ r ≡ worked .reply ⌝ }
+{
+    worked.reply
+}
+
+fn places_of(worked: Worked) -> [Resting; PLACES]
+    ensures { λ r. ⌜ r ≡ worked .places ⌝ }
+{
+    worked.places
+}
+
+// ── The entry ──
+
+// A line to a book of which one side is lent as a slice of records: its buys, or else its sells.
+pub fn answer(book: Book, buys: bool, table: &mut [Resting], line: &[u8], out: &mut [u8]) -> Reply
+    ensures { λ r. ⌜ Answered buys (recordIn book) (now (table .entry)) (now (line .entry)) (now (out .entry)) r (now (table .exit)) (now (out .exit)) ⌝ }
+{
+    if table.len() != PLACES {
+        return refuse(book, out.len());
+    }
+    let places = take(table);
+    let worked = work(book, buys, places, line, out);
+    give(table, places_of(worked));
+    reply_of(worked)
+}
+
+fn worked_of(reply: Reply, places: [Resting; PLACES]) -> Worked
+    ensures { λ r. ⌜ r ≡ record { reply = reply; places = places } ⌝ }
+{
+    Worked {
+        reply: reply,
+        places: places,
+    }
+}
+
+// The same for a caller that has the records of that side by value: they are lent as a slice.
+fn answer_over(
+    book: Book,
+    buys: bool,
+    places: [Resting; PLACES],
+    line: &[u8],
+    out: &mut [u8],
+) -> Worked
+    ensures { λ r. ⌜ (r ≡ workedOf (lentStep buys (recordIn book) places (now (line .entry)) (now (out .entry)))) × (now (out .exit) ≡ lentStep buys (recordIn book) places (now (line .entry)) (now (out .entry)) .out) ⌝ }
+{
+    let mut table = places;
+    let reply = answer(book, buys, &mut table, line, out);
+    worked_of(reply, table)
+}
+
+// A line to a whole book by way of the table: one side is taken out and lent, and put in again.
+pub fn answer_lending(book: Book, buys: bool, line: &[u8], out: &mut [u8]) -> Reply
+    ensures { λ r. ⌜ r ≡ replyOf (lendingStep buys (recordIn book) (now (line .entry)) (now (out .entry))) ⌝ }
+    ensures { λ _. ⌜ now (out .exit) ≡ lendingStep buys (recordIn book) (now (line .entry)) (now (out .entry)) .out ⌝ }
+{
+    let side = side_of(book, buys);
+    let places = side.places;
+    let apart = with_side(book, buys, no_side());
+    let worked = answer_over(apart, buys, places, line, out);
+    let left = worked.places;
+    let reply = worked.reply;
+    let rest = reply.book;
+    let again = Side {
+        used: used_in(left),
+        places: left,
+    };
+    let whole = with_side(rest, buys, again);
+    Reply {
+        book: whole,
+        ..reply
+    }
+}
