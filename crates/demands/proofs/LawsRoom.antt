@@ -11,9 +11,7 @@ use native.Mathlib.Omega.{arith}
 use borrow.Author.Tests.{ltb-false, not-false}
 use Rattle.basics.proofs.LawsChoice.{holds-or-not, and-right}
 use Rattle.kinds.specs.Kinds.{shares}
-use Rattle.kinds.specs.declared.Cents.{Cents}
 use Rattle.kinds.specs.declared.Number.{Number}
-use Rattle.kinds.specs.declared.Shares.{Shares}
 use Rattle.rules.specs.declared.Body.{Body}
 use Rattle.rules.specs.declared.Body.the-variants as body
 use Rattle.rules.specs.declared.Ending.{Ending}
@@ -28,8 +26,8 @@ use Rattle.rules.specs.EventLines.{eventLine, eventLines, byCommand, atClose}
 use Rattle.rules.specs.Refusals.{_givenWhen_, leastRoom, firstOf, lineRefusals, refusals}
 use Rattle.rules.specs.Step.{doneBy}
 use Rattle.rules.specs.Working.{takings, remainder, ending, executions, lastLine, isNumber, buying, oppositeSide, cancels, accept, cancel, quote, close, does}
-use Rattle.rules.proofs.LawsEvents.{eventLines-append}
-use Rattle.rules.proofs.LawsWriting.{none, pair, length-line}
+use Rattle.rules.proofs.LawsEvents.{executed-length, rested-length, cancelled-length, eventLines-append}
+use Rattle.rules.proofs.LawsWriting.{none}
 use Rattle.soundness.proofs.LawsAccepted.{none-given}
 use Rattle.soundness.proofs.LawsSound.{sound-is}
 
@@ -43,18 +41,6 @@ none-long : length (eventLines []) ≡ 0
 unfolding eventLines
 none-long = refl
 
-executed-long : (n m : Number) (p : Cents) (k : Shares) → length (eventLine (Executed n m p k)) ≡ 35
-unfolding eventLine
-executed-long n m p k = length-line (pair 1 0x11 (pair 4 (n .0) (pair 4 (m .0) (pair 4 (p .0) (pair 4 (k .0) none)))))
-
-rested-long : (n : Number) (p : Cents) (k : Shares) → length (eventLine (Rested n p k)) ≡ 27
-unfolding eventLine
-rested-long n p k = length-line (pair 1 0x12 (pair 4 (n .0) (pair 4 (p .0) (pair 4 (k .0) none))))
-
-cancelled-long : (n : Number) (k : Shares) (reason : ℕ) → length (eventLine (Cancelled n k reason)) ≡ 21
-unfolding eventLine
-cancelled-long n k reason = length-line (pair 1 0x13 (pair 4 (n .0) (pair 4 (k .0) (pair 1 reason none))))
-
 executions-long : (n : Number) (s : List Resting) (ts : List ℕ) → length (eventLines (executions n s ts)) ≤ 35 * length s
 unfolding executions
 executions-long n [] ts = omega (arith, none-long)
@@ -67,7 +53,7 @@ executions-long n (h ∷ s) (t ∷ ts) =
     (omega (
       arith,
       more-long (Executed n (h .number) (h .price) (shares t)) (executions n s ts),
-      executed-long n (h .number) (h .price) (shares t),
+      executed-length n (h .number) (h .price) (shares t),
       executions-long n s ts,
     )))
     (holds-or-not (eqb t 0))
@@ -82,7 +68,7 @@ cancels-long reason gone (h ∷ s) =
     (omega (
       arith,
       more-long (Cancelled (h .number) (h .shares) reason) (cancels reason gone s),
-      cancelled-long (h .number) (h .shares) reason,
+      cancelled-length (h .number) (h .shares) reason,
       cancels-long reason gone s,
     )))
     (λ (e : gone h ≡ false). rw e (omega (arith, cancels-long reason gone s)))
@@ -90,8 +76,8 @@ cancels-long reason gone (h ∷ s) =
 
 last-long : (n : Number) (left : ℕ) (e : Ending) → length (eventLines (lastLine n left e)) ≤ 27
 last-long n left Filled = omega (arith, none-long)
-last-long n left (Rests price) = omega (arith, none-long, more-long (Rested n price (shares left)) [], rested-long n price (shares left))
-last-long n left (Cancels reason) = omega (arith, none-long, more-long (Cancelled n (shares left) reason) [], cancelled-long n (shares left) reason)
+last-long n left (Rests price) = omega (arith, none-long, more-long (Rested n price (shares left)) [], rested-length n price (shares left))
+last-long n left (Cancels reason) = omega (arith, none-long, more-long (Cancelled n (shares left) reason) [], cancelled-length n (shares left) reason)
 
 -- ── A command ──
 

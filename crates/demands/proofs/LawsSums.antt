@@ -4,7 +4,7 @@ use Prim.Native.Nat.{ℕ, _+_, _≤_, _<_}
 use mathlib.Core.Bool.{true, false}
 use mathlib.Core.List.{List, [], _∷_, _++_}
 use mathlib.Core.Logic.{_≢_, ⊎-elim}
-use mathlib.Core.Path.{_≡_, refl, sym, ap, _∙_, subst}
+use mathlib.Core.Path.{_≡_, refl, _∙_, subst}
 use native.Mathlib.Omega.{arith}
 use Rattle.basics.specs.Lists.{total, All, none, also}
 use Rattle.basics.proofs.LawsChoice.{holds-or-not}
@@ -21,26 +21,17 @@ use Rattle.rules.specs.declared.Resting.{Resting}
 use Rattle.rules.specs.Book.{Book, fresh, sound}
 use Rattle.rules.specs.CommandLines.{commandIn}
 use Rattle.rules.specs.Day.{bookAfter}
-use Rattle.rules.specs.EventLines.{eventLines, byCommand, atClose}
+use Rattle.rules.specs.EventLines.{byCommand, atClose}
 use Rattle.rules.specs.Step.{doneBy, answer, answerTo}
 use Rattle.rules.specs.Working.{buying, takings, remainder, executions, after, ending, lastLine, withRemainder, accept, cancels, isNumber, cancel, quote, close, does}
-use Rattle.rules.proofs.LawsEvents.{eventLines-append}
 use Rattle.soundness.proofs.LawsKept.{answer-sound, fresh-sound}
 use Rattle.soundness.proofs.LawsSides.{InRange, sides-of}
 use Rattle.soundness.proofs.LawsSound.{sound-is}
-use Rattle.demands.specs.Once.{eventLinesOf, numberIn, acts, byLine}
+use Rattle.demands.specs.Once.{numberIn, acts}
 use Rattle.demands.specs.Run.{eventsOf, Enters, now, later}
 use Rattle.demands.specs.Told.{countedIf, executedIn, cancelledIn, restsOn, restingOf}
 use Rattle.demands.proofs.LawsHeld.{counted-same, counted-other, counted-split, executed-append, cancelled-append, takings-no-more, takings-at-most, executions-sum, executions-cancel-none, cancels-sum, cancels-all, cancels-execute-none, ending-sum, ending-leaves}
 use Rattle.demands.proofs.LawsOnce.{refused-book, refused-events, next-acts, answer-rises}
-
--- the event lines are the lines of the events
-pub lines-of-events : (b : Book) (lines : List (List ℕ)) → eventLinesOf byLine b lines ≡ eventLines (eventsOf b lines)
-unfolding eventLinesOf eventsOf eventLines
-lines-of-events b [] = refl
-lines-of-events b (l ∷ ls) =
-    ap (λ (s : List ℕ). eventLines (answerTo b l .events) ++ s) (lines-of-events (answerTo b l .book) ls)
-    ∙ sym (eventLines-append (answerTo b l .events) (eventsOf (answerTo b l .book) ls))
 
 -- ── One command ──
 
@@ -240,11 +231,3 @@ pub conserved : (lines : List (List ℕ)) (stood : Book) (entry : List ℕ) (c :
     → o .shares .0
     ≡ executedIn (c .number) (eventsOf fresh lines) + cancelledIn (c .number) (eventsOf fresh lines) + restingOf (c .number) (bookAfter fresh lines)
 conserved lines stood entry c o r = conserved-from fresh-sound r
-
-stood-from : {b : Book} {lines : List (List ℕ)} {stood : Book} {entry : List ℕ} {c : Command} {o : Order} → sound b ≡ true → Enters b lines stood entry c o → sound stood ≡ true
-stood-from s (now t e f) = s
-stood-from s (later {b = b} {l = line} r) = stood-from (answer-sound b line s) r
-
--- the book that an order meets in a run is sound
-pub stood-sound : (lines : List (List ℕ)) (stood : Book) (entry : List ℕ) (c : Command) (o : Order) → Enters fresh lines stood entry c o → sound stood ≡ true
-stood-sound lines stood entry c o r = stood-from fresh-sound r

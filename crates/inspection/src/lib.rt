@@ -26,12 +26,6 @@ fn in_range(last: Number, o: Resting) -> bool
     (1 <= o.number.0) & (o.number.0 <= last.0) & price.in_range() & shares.in_range()
 }
 
-fn is_unused(o: Resting) -> bool
-    ensures { λ r. ⌜ r ≡ isUnused o ⌝ }
-{
-    (o.number.0 == 0) & (o.price.0 == 0) & (o.shares.0 == 0) & !o.displayed
-}
-
 // ── One side ──
 
 fn all_in_range(t: &[[u32; 4]; PLACES], n: usize, last: Number) -> bool
@@ -57,7 +51,7 @@ fn all_unused(t: &[[u32; 4]; PLACES], n: usize) -> bool
     rows::whole(t);
     let mut i = n;
     while i < PLACES {
-        if !is_unused(rows::row(t, i)) {
+        if !rows::is_unused(rows::row(t, i)) {
             return false;
         }
         i += 1;

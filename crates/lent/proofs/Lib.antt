@@ -1,4 +1,3 @@
-pub mod LawsRecords
 pub mod LawsLentStep
 pub mod LawsLent
 pub mod LawsSame

@@ -86,12 +86,6 @@ fn give(s: &mut [Resting], a: [Resting; PLACES])
 
 // ── The book with the table put in ──
 
-fn is_unused(o: Resting) -> bool
-    ensures { λ r. ⌜ r ≡ isUnused o ⌝ }
-{
-    (o.number.0 == 0) & (o.price.0 == 0) & (o.shares.0 == 0) & !o.displayed
-}
-
 // How many leading records are used: the place of the first that is all zero.
 fn used_in(places: [Resting; PLACES]) -> usize
     ensures { λ r. ⌜ r ≡ firstWhere isUnused places ⌝ }
@@ -100,7 +94,7 @@ fn used_in(places: [Resting; PLACES]) -> usize
     let mut i = 0;
     while i < PLACES {
         let o = places[i];
-        if is_unused(o) {
+        if rows::is_unused(o) {
             return i;
         }
         i += 1;
@@ -115,7 +109,7 @@ fn all_unused(places: [Resting; PLACES]) -> bool
     let mut i = 0;
     while i < PLACES {
         let o = places[i];
-        if !is_unused(o) {
+        if !rows::is_unused(o) {
             return false;
         }
         i += 1;

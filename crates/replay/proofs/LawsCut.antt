@@ -1,13 +1,11 @@
 -- The first line of an input, as a loop finds it, and what is cut behind it. Assumes nothing.
-use Prim.Native.Nat.{ℕ, suc, _+_, _-_, _≤_, _<_}
+use Prim.Native.Nat.{ℕ, suc, _-_, _≤_, _<_}
 use mathlib.Core.Bool.{Bool, true, false}
 use mathlib.Core.List.{List, [], _∷_}
 use mathlib.Core.Logic.{⊎-elim}
 use mathlib.Core.Path.{_≡_, refl, ap}
 use lib.Dec.{eqb}
-use lib.ListN.{length, getD, take, drop, drop-of-length-le}
-use lib.Seq.{drop-cons}
-use native.Mathlib.Numerals.{add-one}
+use lib.ListN.{length, take, drop}
 use native.Mathlib.Omega.{arith}
 use Rattle.basics.specs.Lists.{firstWhere}
 use Rattle.basics.proofs.LawsChoice.{holds-or-not}
@@ -16,21 +14,6 @@ use Rattle.replay.specs.Pieces.{Cut, cut, inFront}
 
 abbrev pub isLineFeed : ℕ → Bool
 isLineFeed c = eqb c lineFeed
-
--- ── One turn of a loop that looks for a line feed ──
-
-module _ (s : List ℕ) (i : ℕ) where
-  pub found-here : i < length s → isLineFeed (getD s i 0) ≡ true → i + firstWhere isLineFeed (drop i s) ≡ i
-  unfolding firstWhere
-  found-here l t = rw (drop-cons s i 0 l, t) (omega arith)
-
-  pub found-later : i < length s → isLineFeed (getD s i 0) ≡ false → i + firstWhere isLineFeed (drop i s) ≡ i + 1 + firstWhere isLineFeed (drop (i + 1) s)
-  unfolding firstWhere
-  found-later l t = rw (drop-cons s i 0 l, t, add-one i) (omega arith)
-
-  pub found-nowhere : length s ≤ i → i + firstWhere isLineFeed (drop i s) ≡ i
-  unfolding firstWhere
-  found-nowhere l = rw (drop-of-length-le s l) (omega arith)
 
 -- ── The first line ──
 

@@ -1,12 +1,12 @@
 -- The first line of some bytes, where it is read before its line feed is looked for: the bytes of a command hold no line feed but
 -- their last, and how many they are is told by the second of them. Assumes nothing.
-use Prim.Native.Nat.{ℕ, zero, suc, _+_, _≤_, _<_}
+use Prim.Native.Nat.{ℕ, suc, _+_, _≤_, _<_}
 use mathlib.Core.Bool.{true, false, true≢false}
 use mathlib.Core.List.{List, [], _∷_, _++_, append-assoc}
 use mathlib.Core.Logic.{⊎-elim}
 use mathlib.Core.Path.{_≡_, refl, sym, ap, _∙_}
 use lib.ListN.{length, getD, take, drop, length-append, take-append-drop}
-use lib.Seq.{length-take-le, take-all}
+use lib.Seq.{getD-take, length-take-le, take-all}
 use native.Mathlib.Omega.{arith}
 use Rattle.basics.specs.Lists.{none, also, firstWhere}
 use Rattle.basics.proofs.LawsLists.{all-both}
@@ -83,12 +83,6 @@ feed-nowhere (c ∷ s) l =
     (λ (t : isLineFeed c ≡ false). let l′ : suc (length s) ≤ suc (toLineFeed s) = rw t at l in also t (feed-nowhere s (omega arith)))
     (holds-or-not (isLineFeed c))
 
-getD-take : (k : ℕ) (s : List ℕ) (i : ℕ) → i < k → getD (take k s) i 0 ≡ getD s i 0
-getD-take zero s i l = let z : ⊥ = omega arith in absurd z
-getD-take (suc k) [] i l = refl
-getD-take (suc k) (c ∷ s) zero l = refl
-getD-take (suc k) (c ∷ s) (suc i) l = getD-take k s i (omega arith)
-
 -- where the first line is a command, its second byte tells its length, and it is not the last of the bytes by itself
 told : (s : List ℕ) (c : Command) → commandIn (take (suc (toLineFeed s)) s) ≡ reading.Is c
     → (toLineFeed s < length s) × (digitsAfter (getD s 1 0) ≡ toLineFeed s) × (1 < length s)
@@ -98,7 +92,7 @@ told s c is =
     ⊎-elim
     (λ (l : e < length s).
     let long : suc e ≡ 19 + digitsIn (formOf (c .body)) = sym (length-take-le (suc e) s (omega arith)) ∙ ap length line ∙ length-lineOf c in
-    let second : getD s 1 0 ≡ getD (lineOf c) 1 0 = sym (getD-take (suc e) s 1 (omega (arith, long))) ∙ ap (λ (x : List ℕ). getD x 1 0) line in
+    let second : getD s 1 0 ≡ getD (lineOf c) 1 0 = sym (getD-take (suc e) s 1 0 (omega (arith, long))) ∙ ap (λ (x : List ℕ). getD x 1 0) line in
     (l, ap digitsAfter second ∙ second-tells c ∙ omega (arith, long), omega (arith, long, l)))
     (λ (l : length s ≤ e).
     let all : take (suc e) s ≡ s = take-all (suc e) s (omega arith) in

@@ -18,7 +18,7 @@ use Rattle.rules.specs.Day.{printed}
 use Rattle.rules.specs.EventLines.{eventLines, refusalLine}
 use Rattle.rules.specs.Refusals.{firstOf, lineRefusals, refusals}
 use Rattle.rules.specs.Step.{Answer, answer}
-use Rattle.rules.proofs.LawsWriting.{none, pair, length-line}
+use Rattle.rules.proofs.LawsEvents.{refusal-length}
 use Rattle.tables.specs.declared.Head.{Head}
 use Rattle.tables.specs.Tables.{bookOn}
 use Rattle.commands.specs.declared.Step.{Step}
@@ -45,10 +45,6 @@ refused-as c b e = rw (ne-eqb _ 0 e)
 
 -- ── What is printed of it ──
 
-length-refusalLine : (k : ℕ) → length (refusalLine k) ≡ 5
-unfolding refusalLine
-length-refusalLine k = length-line (pair 1 0x1f (pair 1 k none))
-
 -- an answer stands, and its lines are printed, in what a line leaves
 abbrev pub Shown : Printed → List (List ℕ) → List (List ℕ) → List ℕ → List ℕ → Answer → Type 0
 Shown r t u out′ out a =
@@ -63,7 +59,7 @@ module _ (h : Head) (t u : List (List ℕ)) (stands : Stands h t u) (r : Reading
       → Shown (leaving h n) t′ u′ out′ out a
   unfolding printed
   shown-refused k n t′ u′ out′ a e some five buys sells wrote =
-      rw (e, ne-eqb k 0 some, length-refusalLine k, five)
+      rw (e, ne-eqb k 0 some, refusal-length k, five)
       (ap (λ (x : Head). leaving x 5) (head-same h t u stands), (buys, (sells, wrote)))
 
   -- refusal 3

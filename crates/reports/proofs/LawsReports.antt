@@ -1,23 +1,20 @@
 -- Laws of a loop that writes one line for each order of a side, over any event and the width of its line. Assumes nothing.
 use Prim.Native.Nat.{ℕ, _+_, _-_, _*_, _<_}
 use mathlib.Core.List.{List, [], _∷_, _++_, map, append-nil}
-use mathlib.Core.Path.{_≡_, refl, sym, ap, _∙_}
+use mathlib.Core.Path.{_≡_, sym, ap, _∙_}
 use lib.ListN.{length, getD, take, drop, length-append}
 use lib.Seq.{take-suc, length-take-le}
 use native.Mathlib.Nat.{mul-suc}
 use native.Mathlib.Numerals.{add-one}
 use native.Mathlib.Omega.{arith}
 use Rattle.basics.specs.Bytes.{onto, ontoFrom}
+use Rattle.basics.proofs.LawsLists.{map-append}
 use Rattle.basics.proofs.LawsBytes.{onto-next, onto-part}
 use Rattle.rules.specs.declared.Event.{Event}
 use Rattle.rules.specs.declared.Resting.{Resting}
 use Rattle.rules.specs.Book.{unused}
 use Rattle.rules.specs.EventLines.{eventLine, eventLines}
 use Rattle.rules.proofs.LawsEvents.{eventLines-append}
-
-map-snoc : (f : Resting → Event) (s : List Resting) (o : Resting) → map f (s ++ (o ∷ [])) ≡ map f s ++ (f o ∷ [])
-map-snoc f [] o = refl
-map-snoc f (h ∷ s) o = ap (λ (l : List Event). f h ∷ l) (map-snoc f s o)
 
 module _ (f : Resting → Event) (width : ℕ) (wide : (h : Resting) → length (eventLine (f h)) ≡ width) where
   pub lines-length : (s : List Resting) → length (eventLines (map f s)) ≡ width * length s
@@ -33,7 +30,7 @@ module _ (f : Resting → Event) (width : ℕ) (wide : (h : Resting) → length 
       let o = getD s i unused in
       ap (λ (k : ℕ). eventLines (map f (take k s))) (add-one i)
       ∙ ap (λ (x : List Resting). eventLines (map f x)) (take-suc s i unused l)
-      ∙ ap eventLines (map-snoc f (take i s) o)
+      ∙ ap eventLines (map-append f (take i s) (o ∷ []))
       ∙ eventLines-append (map f (take i s)) (f o ∷ [])
       ∙ ap (λ (x : List ℕ). eventLines (map f (take i s)) ++ x) (append-nil (eventLine (f o)))
 

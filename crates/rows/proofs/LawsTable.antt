@@ -29,10 +29,6 @@ orders-rows (o ∷ s) = let e = order-row o in let h = orders-rows s in cc
 
 -- ── The table of a side ──
 
-pub length-tableOf : (s : List Resting) → length s ≤ placesASide → length (tableOf s) ≡ placesASide
-unfolding tableOf
-length-tableOf s h = simp (length-append, length-map, length-replicate) (omega arith)
-
 pub side-tableOf : (s : List Resting) → side (length s) (tableOf s) ≡ s
 unfolding tableOf
 side-tableOf s =

@@ -9,7 +9,7 @@ ghost use Prim.Native.Nat.{_≤_, _<_};
 ghost use lib.ListN.{length, getD, set, drop};
 ghost use mathlib.Core.List.{[]};
 ghost use Rattle.basics.specs.Lists.{insertAt, removeAt, moved, zeroed};
-ghost use Rattle.rules.specs.Book.{placesASide, unused};
+ghost use Rattle.rules.specs.Book.{placesASide, unused, isUnused};
 ghost use Rattle.rules.specs.Working.{reducedBy};
 ghost use Rattle.rows.specs.Table.{orderOf, rowOf, noRow, side, tableOf, Holds};
 
@@ -21,6 +21,13 @@ pub const UNUSED: Resting = Resting {
     shares: Shares(0),
     displayed: false,
 };
+
+// Whether a record is that of an unused place.
+pub fn is_unused(o: Resting) -> bool
+    ensures { λ r. ⌜ r ≡ isUnused o ⌝ }
+{
+    (o.number.0 == 0) & (o.price.0 == 0) & (o.shares.0 == 0) & !o.displayed
+}
 
 // ── A row ──
 

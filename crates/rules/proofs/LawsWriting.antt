@@ -18,10 +18,6 @@ pub data Wrote (out : List ℕ) : List ℕ → List ℕ → List ℕ → Type 0 
   nothing : Wrote out [] [] out
   field : {ws ns x y : List ℕ} (w n : ℕ) → Wrote out ws ns x → y ≡ ontoFrom (digitsIn ws) (digits (2 * w) n) x → Wrote out (ws ++ (w ∷ [])) (ns ++ (n ∷ [])) y
 
-digitsIn-append : (vs ws : List ℕ) → digitsIn (vs ++ ws) ≡ digitsIn vs + digitsIn ws
-digitsIn-append [] ws = omega arith
-digitsIn-append (v ∷ vs) ws = omega (arith, digitsIn-append vs ws)
-
 -- as many numbers as fields
 pub data Paired : List ℕ → List ℕ → Type 0 where
   none : Paired [] []

@@ -7,7 +7,7 @@ use mathlib.Core.Path.{_≡_, refl, sym, ap}
 use lib.Dec.{eqb}
 use lib.ListN.{length}
 use borrow.Author.Tests.{ne-eqb, eqb-false, not-true}
-use Rattle.basics.specs.Lists.{every, any, distinct, All, also}
+use Rattle.basics.specs.Lists.{any, distinct, All, also}
 use Rattle.basics.proofs.LawsChoice.{holds-or-not, and-left, and-right, or-neither}
 use Rattle.rules.specs.declared.Resting.{Resting}
 use Rattle.rules.specs.Book.{ranksBefore, inRankOrder}
@@ -45,12 +45,6 @@ added-length (later a) = ap suc (added-length a)
 pub added-all : {P : Resting → Type 0} {x : Resting} → P x → {s r : List Resting} → Added x s r → All P s → All P r
 added-all p here a = also p a
 added-all p (later d) (also q a) = also q (added-all p d a)
-
-pub added-every : (test : Resting → Bool) {x : Resting} → test x ≡ true → {s r : List Resting} → Added x s r → every test s ≡ true → every test r ≡ true
-unfolding every
-added-every test p here e = rw p e
-added-every test p (later {y = y} {s = s} d) e =
-    rw (and-left (test y) (every test s) e) (added-every test p d (and-right (test y) (every test s) e))
 
 -- a number that no order has is not that of the new one either
 not-among-added : (n : ℕ) {x : Resting} → eqb n (x .number .0) ≡ false → {s r : List Resting} → Added x s r

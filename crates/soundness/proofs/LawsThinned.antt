@@ -96,15 +96,6 @@ thinned-ranked buy (keeps {h = h} {s = s} {r = r} left l m a) o =
     (thinned-all {P = λ (y : Resting). ranksBefore buy h y ≡ true} (λ y k lo hi p. sym (same-rank buy h y k) ∙ p) a (ranked-first buy h s o)))
     (thinned-ranked buy a (ranked-rest buy h s o))
 
--- a test that lower shares do not disturb
-pub thinned-every : (test : Resting → Bool) → ((h : Resting) (left : ℕ) → 1 ≤ left → left ≤ h .shares .0 → test h ≡ true → test (withShares left h) ≡ true)
-    → {s r : List Resting} → Thinned s r → every test s ≡ true → every test r ≡ true
-unfolding every
-thinned-every test f empty e = e
-thinned-every test f (away {h = h} {s = s} a) e = thinned-every test f a (and-right (test h) (every test s) e)
-thinned-every test f (keeps {h = h} {s = s} left l m a) e =
-    rw (f h left l m (and-left (test h) (every test s) e)) (thinned-every test f a (and-right (test h) (every test s) e))
-
 -- numbers that stand once stand at most once after
 abbrev numberOf : Resting → ℕ
 numberOf h = h .number .0

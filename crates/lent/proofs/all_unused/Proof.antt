@@ -7,7 +7,7 @@ use borrow.Author.Needs.{needs}
 use borrow.Author.Tests.{not-true, not-false}
 use Rattle.basics.specs.Lists.{every}
 use Rattle.rules.specs.Book.{placesASide, isUnused, unused}
-use Rattle.lent.proofs.LawsRecords.{not-every, every-later, every-end}
+use Rattle.basics.proofs.LawsLoops.{not-every, every-later, every-end}
 use Rattle.lent.proofs.all_unused.Statement.{statement}
 use Rattle.lent.proofs.all_unused.Tie as tie
 

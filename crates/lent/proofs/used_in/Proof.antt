@@ -6,7 +6,7 @@ use native.Mathlib.Omega.{arith}
 use borrow.Author.Needs.{needs}
 use Rattle.basics.specs.Lists.{firstWhere}
 use Rattle.rules.specs.Book.{placesASide, isUnused, unused}
-use Rattle.lent.proofs.LawsRecords.{found-here, found-later, found-nowhere}
+use Rattle.basics.proofs.LawsLoops.{found-here, found-later, found-nowhere}
 use Rattle.lent.proofs.used_in.Statement.{statement}
 use Rattle.lent.proofs.used_in.Tie as tie
 

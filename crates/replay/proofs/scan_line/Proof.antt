@@ -7,7 +7,8 @@ use borrow.Author.Needs.{needs}
 use borrow.Author.Tests.{eq-eqb, ne-eqb}
 use denote.Ref.{now}
 use Rattle.basics.specs.Lists.{firstWhere}
-use Rattle.replay.proofs.LawsCut.{isLineFeed, found-here, found-later, found-nowhere}
+use Rattle.basics.proofs.LawsLoops.{found-here, found-later, found-nowhere}
+use Rattle.replay.proofs.LawsCut.{isLineFeed}
 use Rattle.replay.proofs.scan_line.Statement.{statement}
 use Rattle.replay.proofs.scan_line.Tie as tie
 
@@ -27,7 +28,7 @@ returns : tie.Need-returns Inv-loop μ-loop
 returns c =
     let l = c .before .before .before .loop in
     let a = c .before .before .before .before .args in
-    sym (found-here (now (a .s)) (l .i) (omega arith) (eq-eqb _ _ (c .if1 .taken))) ∙ l .inv .1
+    sym (found-here isLineFeed 0 (now (a .s)) (l .i) (omega arith) (eq-eqb _ _ (c .if1 .taken))) ∙ l .inv .1
 
 add-i : tie.Need-add-i Inv-loop μ-loop
 add-i c = search needs
@@ -39,13 +40,13 @@ loop-again : tie.Need-loop-again Inv-loop μ-loop
 loop-again c =
     let l = c .before .before .before .loop in
     let a = c .before .before .before .before .args in
-    (omega arith, sym (found-later (now (a .s)) (l .i) (omega arith) (ne-eqb _ _ (c .if1 .left))) ∙ l .inv .1)
+    (omega arith, sym (found-later isLineFeed 0 (now (a .s)) (l .i) (omega arith) (ne-eqb _ _ (c .if1 .left))) ∙ l .inv .1)
 
 returns-2 : tie.Need-returns-2 Inv-loop μ-loop
 returns-2 c =
     let l = c .before .loop in
     let a = c .before .before .args in
-    sym (found-nowhere (now (a .s)) (l .i) (omega arith)) ∙ l .inv .1
+    sym (found-nowhere isLineFeed 0 (now (a .s)) (l .i) (omega arith)) ∙ l .inv .1
 
 pub scan-line-spec : {M : Type 1} → statement M
 scan-line-spec =
