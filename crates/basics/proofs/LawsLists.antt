@@ -8,7 +8,7 @@ use lib.Seq.{take-suc, take-append-le, drop-append-le, take-append-seam, drop-ap
 use native.Mathlib.Nat.{add-zero}
 use native.Mathlib.Numerals.{add-one}
 use native.Mathlib.Omega.{arith}
-use Rattle.basics.specs.Lists.{insertAt, removeAt, moved, zeroed, All, none, also}
+use Rattle.basics.specs.Lists.{insertAt, removeAt, moved, zeroed, sumOf, All, none, also}
 
 -- the list after the places from i to n moved one up: place i is still as it was
 abbrev pub shifted : {A : Type 0} → List A → ℕ → ℕ → List A
@@ -216,3 +216,10 @@ all-alike f (also {x = x} p a) = also (f x p) (all-alike f a)
 pub all-both : {A : Type 0} {P : A → Type 0} {s u : List A} → All P s → All P u → All P (s ++ u)
 all-both none b = b
 all-both (also p a) b = also p (all-both a b)
+
+-- ── Sums ──
+
+pub sumOf-append : {A : Type 0} (count : A → ℕ) (s u : List A) → sumOf count (s ++ u) ≡ sumOf count s + sumOf count u
+unfolding sumOf
+sumOf-append count [] u = omega arith
+sumOf-append count (x ∷ s) u = omega (arith, sumOf-append count s u)

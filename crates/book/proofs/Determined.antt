@@ -7,7 +7,6 @@ use Rattle.book.specs.declared.Book.{Book}
 use Rattle.book.specs.declared.Reply.{Reply}
 use Rattle.book.proofs.Book.fresh.Reads as fresh
 use Rattle.book.proofs.Book.is_sound.Reads as is-sound
-use Rattle.book.proofs.Book.obey.Reads as obey
 use Rattle.book.proofs.Book.accept.Reads as accept
 use Rattle.book.proofs.Book.cancel.Reads as cancel
 use Rattle.book.proofs.Book.quote.Reads as quote
@@ -19,10 +18,6 @@ fresh-determined κs a r r′ s s′ p q = p ∙ sym q
 
 pub is-sound-determined : (κs : _) (a : _) (r r′ : Bool) (s s′ : _) → is-sound.Post κs a r s → is-sound.Post κs a r′ s′ → r ≡ r′
 is-sound-determined κs a r r′ s s′ p q = p ∙ sym q
-
-pub obey-determined : (κs : _) (a : _) (r r′ : Reply) (s s′ : _) → obey.Post κs a r s → obey.Post κs a r′ s′
-    → (r ≡ r′) × (now (s .1 .1 .0) ≡ now (s′ .1 .1 .0))
-obey-determined κs a r r′ s s′ p q = (p .0 ∙ sym (q .0), p .1 ∙ sym (q .1))
 
 pub accept-determined : (κs : _) (a : _) (r r′ : Reply) (s s′ : _) → accept.Post κs a r s → accept.Post κs a r′ s′
     → (r ≡ r′) × (now (s .1 .1 .1 .1 .0) ≡ now (s′ .1 .1 .1 .1 .0))

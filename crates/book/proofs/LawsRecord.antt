@@ -17,7 +17,7 @@ use Rattle.rows.specs.Table.{orderOf, rowOf, noRow, side, tableOf, Holds}
 use Rattle.rows.proofs.LawsTable.{orders-rows}
 use Rattle.tables.specs.declared.Head.{Head}
 use Rattle.tables.specs.Tables.{placesIn, recordOn, bookOn, headOf}
-use Rattle.commands.specs.Commands.{Stands}
+use Rattle.tables.specs.Answers.{Stands}
 use Rattle.book.specs.declared.Book as value
 use Rattle.book.specs.Record.{recordIn, headIn}
 

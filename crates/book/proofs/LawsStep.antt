@@ -1,13 +1,13 @@
 -- A step over any record: refusals 1 and 2 come before the line, and where neither is given the answer is that of a sound book.
 -- Assumes nothing.
 use Prim.Native.Nat.{ℕ, _≤_, _<_}
-use mathlib.Core.Bool.{Bool, true, false, not}
-use mathlib.Core.List.{List, [], _∷_}
-use mathlib.Core.Path.{_≡_, refl, sym, ap, _∙_}
-use lib.Dec.{eqb, ltb}
+use mathlib.Core.Bool.{Bool, true}
+use mathlib.Core.List.{List, []}
+use mathlib.Core.Path.{_≡_, sym, ap, _∙_}
+use lib.Dec.{eqb}
 use lib.ListN.{length}
 use native.Mathlib.Omega.{arith}
-use borrow.Author.Tests.{ne-eqb, le-ltb, ltb-false}
+use borrow.Author.Tests.{ne-eqb, le-ltb}
 use Rattle.basics.specs.Bytes.{onto}
 use Rattle.basics.specs.Choice.{if_then_else_}
 use Rattle.basics.proofs.LawsBytes.{onto-none}
@@ -16,33 +16,14 @@ use Rattle.rules.specs.declared.Reading.{Reading}
 use Rattle.rules.specs.declared.Reading.the-variants as reading
 use Rattle.rules.specs.Book.{BookRecord, bookIn, recordOf, recordSound}
 use Rattle.rules.specs.EventLines.{eventLines}
-use Rattle.rules.specs.Refusals.{Refusal, _givenWhen_, firstOf, leastRoom, lineRefusals, refusals}
+use Rattle.rules.specs.Refusals.{firstOf, leastRoom, lastRefusal, lineRefusals, fitRefusals, refusals}
+use Rattle.rules.proofs.LawsRefusals.{first-given, first-passed, fit-numbered, fit-facts}
 use Rattle.rules.specs.Step.{Returned, answer, stepOn}
-use Rattle.commands.specs.Commands.{answerOf}
+use Rattle.tables.specs.Answers.{answerOf}
 
 -- refusals 1 and 2
 abbrev pub unfit : ℕ → Bool → ℕ
-unfit room bookSound = firstOf (1 givenWhen ltb room leastRoom ∷ 2 givenWhen not bookSound ∷ [])
-
-unfit-first : (room bookSound : Bool) (rs : List Refusal) → 0 < firstOf (1 givenWhen room ∷ 2 givenWhen bookSound ∷ [])
-    → firstOf (1 givenWhen room ∷ 2 givenWhen bookSound ∷ rs) ≡ firstOf (1 givenWhen room ∷ 2 givenWhen bookSound ∷ [])
-unfolding firstOf
-unfit-first true bookSound rs l = refl
-unfit-first false true rs l = refl
-unfit-first false false rs l = let z : ⊥ = omega arith in absurd z
-
-fit-next : (room bookSound : Bool) (rs : List Refusal) → firstOf (1 givenWhen room ∷ 2 givenWhen bookSound ∷ []) ≡ 0
-    → firstOf (1 givenWhen room ∷ 2 givenWhen bookSound ∷ rs) ≡ firstOf rs
-unfolding firstOf
-fit-next true bookSound rs e = let z : ⊥ = omega arith in absurd z
-fit-next false true rs e = let z : ⊥ = omega arith in absurd z
-fit-next false false rs e = refl
-
-fit-facts : (room bookSound : Bool) → firstOf (1 givenWhen room ∷ 2 givenWhen not bookSound ∷ []) ≡ 0 → (room ≡ false) × (bookSound ≡ true)
-unfolding firstOf
-fit-facts true bookSound e = let z : ⊥ = omega arith in absurd z
-fit-facts false true e = (refl, refl)
-fit-facts false false e = let z : ⊥ = omega arith in absurd z
+unfit room bookSound = firstOf (fitRefusals room bookSound)
 
 -- what a refusal returns
 abbrev pub refusedOn : ℕ → BookRecord → List ℕ → Returned
@@ -59,19 +40,17 @@ module _ (r : BookRecord) (out : List ℕ) where
   pub step-unfit : (a : Reading) (k : ℕ) → k ≡ unfit (length out) (recordSound r) → 0 < k → stepOn r a out ≡ refusedOn k r out
   unfolding refusals
   step-unfit a k e l =
-      refused-step a k (unfit-first (ltb (length out) leastRoom) (not (recordSound r)) (lineRefusals (bookIn r) a) (omega (arith, e)) ∙ sym e) l
+      refused-step a k (first-given (fitRefusals (length out) (recordSound r)) (lineRefusals (bookIn r) a) (omega (arith, e)) ∙ sym e) l
 
   pub step-bad : 0 ≡ unfit (length out) (recordSound r) → stepOn r reading.Bad out ≡ refusedOn 3 r out
   unfolding refusals lineRefusals firstOf
-  step-bad e = refused-step reading.Bad 3 (fit-next (ltb (length out) leastRoom) (not (recordSound r)) (lineRefusals (bookIn r) reading.Bad) (sym e)) (omega arith)
+  step-bad e = refused-step reading.Bad 3
+      (first-passed lastRefusal (fitRefusals (length out) (recordSound r)) (lineRefusals (bookIn r) reading.Bad) (fit-numbered (length out) (recordSound r)) (sym e)) (omega arith)
 
   pub fit : 0 ≡ unfit (length out) (recordSound r) → (recordSound r ≡ true) × (leastRoom ≤ length out)
   fit e =
-      let f = fit-facts (ltb (length out) leastRoom) (recordSound r) (sym e) in
-      (f .1, room (f .0))
-    where
-      room : ltb (length out) leastRoom ≡ false → leastRoom ≤ length out
-      room t = ltb-false (length out) leastRoom t
+      let f = fit-facts (length out) (recordSound r) [] (sym e) in
+      (f .1, f .0)
 
   module _ (c : Command) (isSound : recordSound r ≡ true) (room : leastRoom ≤ length out) where
     fit-refusals : firstOf (refusals (length out) (recordSound r) (bookIn r) (reading.Is c)) ≡ firstOf (lineRefusals (bookIn r) (reading.Is c))

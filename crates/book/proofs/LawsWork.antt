@@ -17,9 +17,9 @@ use Rattle.rules.specs.Refusals.{leastRoom}
 use Rattle.rules.specs.Step.{Answer, Returned, answer, stepOn}
 use Rattle.tables.specs.declared.Head.{Head}
 use Rattle.tables.specs.Tables.{bookOn, recordOn}
-use Rattle.commands.specs.declared.Step.{Step}
-use Rattle.commands.specs.Commands.{answerOf}
-use Rattle.commands.proofs.LawsAnswers.{Left}
+use Rattle.tables.specs.declared.Step.{Step}
+use Rattle.tables.specs.Answers.{answerOf}
+use Rattle.tables.proofs.LawsAnswers.{Left}
 use Rattle.book.specs.declared.Book as value
 use Rattle.book.specs.declared.Reply.{Reply}
 use Rattle.book.specs.Record.{recordIn, bookWith, replyOf}

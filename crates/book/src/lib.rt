@@ -1,5 +1,5 @@
-// The book, handed in by value and handed back (01, The book): fresh, sound, and a command or a line to it, over any bytes, any book
-// and any output.
+// The book, handed in by value and handed back (01, The book): fresh, sound, and what it responds to a reading, whatever the book and
+// the output.
 use kinds::Cents;
 use kinds::Number;
 use rows::PLACES;
@@ -10,15 +10,14 @@ use rules::Order;
 use rules::Reading;
 use rules::Resting;
 use tables::Head;
-ghost use mathlib.Core.Bool.{true, not};
-ghost use mathlib.Core.List.{[], _∷_, map};
+ghost use mathlib.Core.Bool.{true};
+ghost use mathlib.Core.List.{map};
 ghost use mathlib.Core.Path.{_≡_};
 ghost use Prim.Native.Nat.{_≤_};
-ghost use lib.Dec.{ltb};
 ghost use lib.ListN.{length};
 ghost use Rattle.rows.specs.Table.{rowOf};
 ghost use Rattle.rules.specs.Book.{fresh, recordOf, recordSound};
-ghost use Rattle.rules.specs.Refusals.{_givenWhen_, firstOf, leastRoom};
+ghost use Rattle.rules.specs.Refusals.{firstOf, leastRoom, fitRefusals};
 ghost use Rattle.rules.specs.Step.{step, stepOn};
 ghost use Rattle.rules.specs.declared.Body.the-variants as body;
 ghost use Rattle.rules.specs.declared.Reading.the-variants as reading;
@@ -30,6 +29,11 @@ pub struct Side {
     pub used: usize,
     pub places: [Resting; PLACES],
 }
+
+pub const NO_ORDERS: Side = Side {
+    used: 0,
+    places: [rows::UNUSED; PLACES],
+};
 
 pub struct Book {
     pub last: Number,
@@ -47,28 +51,20 @@ pub struct Reply {
     pub book: Book,
 }
 
-fn command(number: Number, time: u32, body: Body) -> Command
-    ensures { λ r. ⌜ r ≡ record { number = number; time = time; body = body } ⌝ }
+fn command(number: Number, time: u32, body: Body) -> Reading
+    ensures { λ r. ⌜ r ≡ reading.Is (record { number = number; time = time; body = body }) ⌝ }
 {
-    Command {
+    Reading::Is(Command {
         number: number,
         time: time,
         body: body,
-    }
+    })
 }
 
 impl Book {
     pub fn fresh() -> Book
         ensures { λ r. ⌜ r ≡ bookWith (recordOf fresh) ⌝ }
     {
-        let buys = Side {
-            used: 0,
-            places: [rows::UNUSED; PLACES],
-        };
-        let sells = Side {
-            used: 0,
-            places: [rows::UNUSED; PLACES],
-        };
         let away = Away {
             bid: Cents(0),
             offer: Cents(0),
@@ -78,8 +74,8 @@ impl Book {
             time: judge::OPENING,
             away: away,
             closed: false,
-            buys: buys,
-            sells: sells,
+            buys: NO_ORDERS,
+            sells: NO_ORDERS,
         }
     }
 
@@ -148,13 +144,13 @@ impl Book {
         inspection::is_sound(self.head(), &buys, &sells)
     }
 
-    // ── A command and a line ──
+    // ── What was read of a line ──
 
     // Refusals 1 and 2, or 0: they are tried before the line is read.
     fn unfit(self, room: usize) -> u8
-        ensures { λ r. ⌜ r ≡ firstOf (1 givenWhen ltb room leastRoom ∷ 2 givenWhen not (recordSound (recordIn self)) ∷ []) ⌝ }
+        ensures { λ r. ⌜ r ≡ firstOf (fitRefusals room (recordSound (recordIn self))) ⌝ }
     {
-        if room < 4096 {
+        if room < rules::LEAST_ROOM {
             return 1;
         }
         if !self.is_sound() {
@@ -196,15 +192,18 @@ impl Book {
         }
     }
 
-    // A command, whatever the book and the output.
-    pub fn obey(self, c: Command, out: &mut [u8]) -> Reply
-        ensures { λ r. ⌜ r ≡ replyOf (stepOn (recordIn self) (reading.Is c) (now (out .entry))) ⌝ }
-        ensures { λ _. ⌜ now (out .exit) ≡ stepOn (recordIn self) (reading.Is c) (now (out .entry)) .out ⌝ }
+    // What was read of a line, whatever the book and the output: the refusals in 01's order, and then the command.
+    fn respond(self, reading: Reading, out: &mut [u8]) -> Reply
+        ensures { λ r. ⌜ r ≡ replyOf (stepOn (recordIn self) reading (now (out .entry))) ⌝ }
+        ensures { λ _. ⌜ now (out .exit) ≡ stepOn (recordIn self) reading (now (out .entry)) .out ⌝ }
     {
         let refusal = self.unfit(out.len());
         if refusal != 0 {
             return self.refuse(refusal);
         }
+        let Reading::Is(c) = reading else {
+            return self.refuse(3);
+        };
         self.work(c, out)
     }
 
@@ -212,28 +211,28 @@ impl Book {
         ensures { λ r. ⌜ r ≡ replyOf (stepOn (recordIn self) (reading.Is (record { number = number; time = time; body = body.Order order })) (now (out .entry))) ⌝ }
         ensures { λ _. ⌜ now (out .exit) ≡ stepOn (recordIn self) (reading.Is (record { number = number; time = time; body = body.Order order })) (now (out .entry)) .out ⌝ }
     {
-        self.obey(command(number, time, Body::Order(order)), out)
+        self.respond(command(number, time, Body::Order(order)), out)
     }
 
     pub fn cancel(self, number: Number, time: u32, of: Number, out: &mut [u8]) -> Reply
         ensures { λ r. ⌜ r ≡ replyOf (stepOn (recordIn self) (reading.Is (record { number = number; time = time; body = body.Cancel of })) (now (out .entry))) ⌝ }
         ensures { λ _. ⌜ now (out .exit) ≡ stepOn (recordIn self) (reading.Is (record { number = number; time = time; body = body.Cancel of })) (now (out .entry)) .out ⌝ }
     {
-        self.obey(command(number, time, Body::Cancel(of)), out)
+        self.respond(command(number, time, Body::Cancel(of)), out)
     }
 
     pub fn quote(self, number: Number, time: u32, away: Away, out: &mut [u8]) -> Reply
         ensures { λ r. ⌜ r ≡ replyOf (stepOn (recordIn self) (reading.Is (record { number = number; time = time; body = body.Quote away })) (now (out .entry))) ⌝ }
         ensures { λ _. ⌜ now (out .exit) ≡ stepOn (recordIn self) (reading.Is (record { number = number; time = time; body = body.Quote away })) (now (out .entry)) .out ⌝ }
     {
-        self.obey(command(number, time, Body::Quote(away)), out)
+        self.respond(command(number, time, Body::Quote(away)), out)
     }
 
     pub fn close(self, number: Number, time: u32, out: &mut [u8]) -> Reply
         ensures { λ r. ⌜ r ≡ replyOf (stepOn (recordIn self) (reading.Is (record { number = number; time = time; body = body.Close })) (now (out .entry))) ⌝ }
         ensures { λ _. ⌜ now (out .exit) ≡ stepOn (recordIn self) (reading.Is (record { number = number; time = time; body = body.Close })) (now (out .entry)) .out ⌝ }
     {
-        self.obey(command(number, time, Body::Close), out)
+        self.respond(command(number, time, Body::Close), out)
     }
 
     // The entry: a line of any bytes to any book, with any output.
@@ -241,13 +240,6 @@ impl Book {
         ensures { λ r. ⌜ r ≡ replyOf (step (recordIn self) (now (line .entry)) (now (out .entry))) ⌝ }
         ensures { λ _. ⌜ now (out .exit) ≡ step (recordIn self) (now (line .entry)) (now (out .entry)) .out ⌝ }
     {
-        let Reading::Is(c) = reader::read_command(line) else {
-            let unfit = self.unfit(out.len());
-            if unfit == 0 {
-                return self.refuse(3);
-            }
-            return self.refuse(unfit);
-        };
-        self.obey(c, out)
+        self.respond(reader::read_command(line), out)
     }
 }

@@ -2,7 +2,7 @@
 -- read here as the checker reads it from the source (`Post`), not from a copy. Assumes nothing.
 use mathlib.Core.Path.{_≡_, sym, _∙_}
 use denote.Ref.{now}
-use Rattle.commands.specs.declared.Step.{Step}
+use Rattle.tables.specs.declared.Step.{Step}
 use Rattle.commands.proofs.apply.Reads as apply
 
 pub apply-determined : (κs : _) (a : _) (r r′ : Step) (s s′ : _) → apply.Post κs a r s → apply.Post κs a r′ s′

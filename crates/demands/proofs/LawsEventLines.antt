@@ -15,12 +15,12 @@ use Rattle.rules.specs.declared.Event.{Event}
 use Rattle.rules.specs.declared.Event.the-variants.{Executed, Rested, Cancelled}
 use Rattle.rules.specs.CommandLines.{Fitting, are, numbersFrom, digitsIn, isEnded, written, line, lineFeed}
 use Rattle.rules.specs.Day.{joined, linesIn}
-use Rattle.rules.specs.EventLines.{eventLine, eventLines, refusalLine}
+use Rattle.rules.specs.EventLines.{eventForm, eventNumbers, eventLine, eventLines, refusalKind, refusalForm, refusalLine}
+use Rattle.rules.proofs.LawsEvents.{refusal-paired}
 use Rattle.rules.proofs.LawsLines.{fitting-paired, numbersFrom-written}
 use Rattle.rules.proofs.LawsUnended.{Unended, written-unended}
-use Rattle.rules.proofs.LawsWriting.{Paired, pair, length-written, length-line}
-use Rattle.rules.proofs.LawsWriting as writing
-use Rattle.demands.specs.Told.{executedForm, restedForm, cancelledForm, eventIn, eventsOn, eventsIn}
+use Rattle.rules.proofs.LawsWriting.{Paired, length-written, length-line}
+use Rattle.demands.specs.Told.{eventIn, eventsOn, eventsIn}
 
 -- ── One line of a form ──
 
@@ -41,30 +41,12 @@ read-back f = numbersFrom-written f [] (lineFeed ∷ []) 0 refl
 
 -- ── The line of an event ──
 
--- the form of an event's line, and the numbers that it writes
-abbrev formOf : Event → List ℕ
-formOf (Executed incoming resting price shares) = executedForm
-formOf (Rested number price shares) = restedForm
-formOf (Cancelled number shares reason) = cancelledForm
-
-abbrev numbersOf : Event → List ℕ
-numbersOf (Executed incoming resting price shares) = 0x11 ∷ incoming .0 ∷ resting .0 ∷ price .0 ∷ shares .0 ∷ []
-numbersOf (Rested number price shares) = 0x12 ∷ number .0 ∷ price .0 ∷ shares .0 ∷ []
-numbersOf (Cancelled number shares reason) = 0x13 ∷ number .0 ∷ shares .0 ∷ reason ∷ []
-
 -- an event whose fields fit their widths
 abbrev pub FitsEvent : Event → Type 0
-FitsEvent e = Fitting (formOf e) (numbersOf e)
+FitsEvent e = Fitting (eventForm e) (eventNumbers e)
 
--- its line is that of its form and its numbers
-line-of : (e : Event) → eventLine e ≡ line (formOf e) (numbersOf e)
-unfolding eventLine
-line-of (Executed incoming resting price shares) = refl
-line-of (Rested number price shares) = refl
-line-of (Cancelled number shares reason) = refl
-
--- .. and tells that event
-event-told : (e : Event) → FitsEvent e → eventIn (line (formOf e) (numbersOf e)) ≡ e ∷ []
+-- its line tells that event
+event-told : (e : Event) → FitsEvent e → eventIn (line (eventForm e) (eventNumbers e)) ≡ e ∷ []
 unfolding eventIn
 event-told (Executed incoming resting price shares) f = rw (own-ended (fitting-paired f), read-back f) refl
 event-told (Rested number price shares) f =
@@ -75,10 +57,10 @@ event-told (Cancelled number shares reason) f =
     rw (other-ended 34 (λ (e : 20 ≡ 34). omega (arith, e)) p, other-ended 26 (λ (e : 20 ≡ 26). omega (arith, e)) p, own-ended p, read-back f) refl
 
 -- the line of a refusal tells none
-refusal-tells-none : (k : ℕ) → eventIn (line (1 ∷ 1 ∷ []) (0x1f ∷ k ∷ [])) ≡ []
+refusal-tells-none : (k : ℕ) → eventIn (line refusalForm (refusalKind ∷ k ∷ [])) ≡ []
 unfolding eventIn
 refusal-tells-none k =
-    let p : Paired (1 ∷ 1 ∷ []) (0x1f ∷ k ∷ []) = pair 1 0x1f (pair 1 k writing.none) in
+    let p = refusal-paired k in
     rw (other-ended 34 (λ (e : 4 ≡ 34). omega (arith, e)) p, other-ended 26 (λ (e : 4 ≡ 26). omega (arith, e)) p, other-ended 20 (λ (e : 4 ≡ 20). omega (arith, e)) p) refl
 
 -- ── Lines one after the other ──
@@ -97,13 +79,13 @@ line-read form ns rest =
 
 -- event lines tell their events, and then what follows is read
 pub events-read : {es : List Event} (rest : List ℕ) → All FitsEvent es → eventsIn (eventLines es ++ rest) ≡ es ++ eventsIn rest
-unfolding eventLines
+unfolding eventLines eventLine
 events-read rest none = refl
 events-read rest (also {x = e} {s = es} f a) =
     ap eventsIn (append-assoc (eventLine e) (eventLines es) rest)
-    ∙ rw (line-of e, line-read (formOf e) (numbersOf e) (eventLines es ++ rest), event-told e f, events-read rest a) refl
+    ∙ rw (line-read (eventForm e) (eventNumbers e) (eventLines es ++ rest), event-told e f, events-read rest a) refl
 
 -- the line of a refusal tells nothing, and then what follows is read
 pub refusal-read : (k : ℕ) (rest : List ℕ) → eventsIn (refusalLine k ++ rest) ≡ eventsIn rest
 unfolding refusalLine
-refusal-read k rest = rw (line-read (1 ∷ 1 ∷ []) (0x1f ∷ k ∷ []) rest, refusal-tells-none k) refl
+refusal-read k rest = rw (line-read refusalForm (refusalKind ∷ k ∷ []) rest, refusal-tells-none k) refl

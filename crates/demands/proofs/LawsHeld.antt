@@ -2,29 +2,29 @@
 -- Assumes nothing.
 use Prim.Native.Nat.{ℕ, _+_, _-_, _≤_, min}
 use mathlib.Core.Bool.{Bool, true, false, not, true≢false}
-use mathlib.Core.List.{List, [], _∷_, _++_}
+use mathlib.Core.List.{List, [], _∷_}
 use mathlib.Core.Logic.{_≢_, ⊎-elim}
 use mathlib.Core.Path.{_≡_, refl, sym, ap, _∙_}
 use lib.Dec.{eqb}
 use native.Mathlib.Omega.{arith}
 use borrow.Author.Tests.{eq-eqb, ne-eqb, eqb-true}
-use Rattle.basics.specs.Lists.{total}
+use Rattle.basics.specs.Lists.{total, sumOf}
 use Rattle.basics.proofs.LawsChoice.{holds-or-not}
 use Rattle.kinds.specs.declared.Number.{Number}
 use Rattle.kinds.specs.Kinds.{shares}
 use Rattle.rules.specs.declared.Away.{Away}
 use Rattle.rules.specs.declared.Ending.{Ending}
 use Rattle.rules.specs.declared.Ending.the-variants.{Filled, Rests, Cancels}
-use Rattle.rules.specs.declared.Event.{Event}
 use Rattle.rules.specs.declared.Order.{Order}
 use Rattle.rules.specs.declared.Resting.{Resting}
 use Rattle.rules.specs.Book.{ranksBefore}
 use Rattle.rules.specs.Instructions.{ioc, fok, displayed, postOnly, has}
+use Rattle.rules.proofs.LawsTakings.{nothing-total}
 use Rattle.rules.specs.Working.{buying, mayTouch, nothing, walk, smaller, walked, takings, remainder, executions, after, endingWith, ending, lastLine, insert, withRemainder, kept, cancels}
 use Rattle.demands.specs.ShareOut.{Each, empty, with}
-use Rattle.demands.proofs.LawsEndings.{chosen, sought-is}
+use Rattle.soundness.proofs.LawsEndings.{chosen, sought-is}
 use Rattle.demands.specs.Told.{countedIf, executedIn, cancelledIn, restsOn}
-use Rattle.demands.proofs.LawsWalked.{nothing-total, taken, walk-at-most}
+use Rattle.demands.proofs.LawsWalked.{taken, walk-at-most}
 
 -- ── What is counted under a number ──
 
@@ -52,18 +52,6 @@ pub counted-split : (n m : Number) (j k : ℕ) → j ≤ k → countedIf n m k �
 counted-split n m j k l =
     let e : k ≡ j + (k - j) = omega arith in
     ap (countedIf n m) e ∙ counted-add n m j (k - j)
-
--- ── Sums over lists of events ──
-
-pub executed-append : (n : Number) (es fs : List Event) → executedIn n (es ++ fs) ≡ executedIn n es + executedIn n fs
-unfolding executedIn
-executed-append n [] fs = omega arith
-executed-append n (e ∷ es) fs = omega (arith, executed-append n es fs)
-
-pub cancelled-append : (n : Number) (es fs : List Event) → cancelledIn n (es ++ fs) ≡ cancelledIn n es + cancelledIn n fs
-unfolding cancelledIn
-cancelled-append n [] fs = omega arith
-cancelled-append n (e ∷ es) fs = omega (arith, cancelled-append n es fs)
 
 -- ── What is executed ──
 
@@ -113,7 +101,7 @@ takings-at-most o away s =
 -- what executions say of n, as the incoming order and as a resting one, with what the side still holds of it
 pub executions-sum : (n m : Number) {s : List Resting} {ts : List ℕ} → Each NoMore s ts
     → executedIn n (executions m s ts) + restsOn n (after s ts) ≡ countedIf n m (total ts) + restsOn n s
-unfolding executions after restsOn executedIn total
+unfolding executions after sumOf total
 executions-sum n m empty = omega (arith, counted-none n m 0 refl)
 executions-sum n m (with {x = h} {y = t} {u = ts} l e) =
     let ih = executions-sum n m e in
@@ -141,7 +129,7 @@ executions-sum n m (with {x = h} {y = t} {u = ts} l e) =
 
 -- .. and they cancel nothing
 pub executions-cancel-none : (n m : Number) (s : List Resting) (ts : List ℕ) → cancelledIn n (executions m s ts) ≡ 0
-unfolding executions cancelledIn
+unfolding executions sumOf
 executions-cancel-none n m [] ts = refl
 executions-cancel-none n m (h ∷ s) [] = refl
 executions-cancel-none n m (h ∷ s) (t ∷ ts) =
@@ -154,7 +142,7 @@ executions-cancel-none n m (h ∷ s) (t ∷ ts) =
 
 pub cancels-sum : (n : Number) (reason : ℕ) (gone : Resting → Bool) (s : List Resting)
     → cancelledIn n (cancels reason gone s) + restsOn n (kept gone s) ≡ restsOn n s
-unfolding cancels kept restsOn cancelledIn
+unfolding cancels kept sumOf
 cancels-sum n reason gone [] = omega arith
 cancels-sum n reason gone (h ∷ s) =
     ⊎-elim
@@ -163,13 +151,13 @@ cancels-sum n reason gone (h ∷ s) =
     (holds-or-not (gone h))
 
 pub cancels-all : (n : Number) (reason : ℕ) (s : List Resting) → cancelledIn n (cancels reason (λ h. true) s) ≡ restsOn n s
-unfolding cancels restsOn cancelledIn
+unfolding cancels sumOf
 cancels-all n reason [] = refl
 cancels-all n reason (h ∷ s) = omega (arith, cancels-all n reason s)
 
 -- .. and executes nothing
 pub cancels-execute-none : (n : Number) (reason : ℕ) (gone : Resting → Bool) (s : List Resting) → executedIn n (cancels reason gone s) ≡ 0
-unfolding cancels executedIn
+unfolding cancels sumOf
 cancels-execute-none n reason gone [] = refl
 cancels-execute-none n reason gone (h ∷ s) =
     ⊎-elim
@@ -181,7 +169,7 @@ cancels-execute-none n reason gone (h ∷ s) =
 
 insert-sum : (n : Number) (buy : Bool) (x : Resting) (s : List Resting)
     → restsOn n (insert buy x s) ≡ countedIf n (x .number) (x .shares .0) + restsOn n s
-unfolding insert restsOn
+unfolding insert sumOf
 insert-sum n buy x [] = refl
 insert-sum n buy x (y ∷ s) =
     ⊎-elim
@@ -196,7 +184,7 @@ Leaves left e = e ≡ Filled → left ≡ 0
 -- what is left of an order is cancelled or rests
 pub ending-sum : (n m : Number) (o : Order) (left : ℕ) (e : Ending) (own : List Resting) → Leaves left e
     → executedIn n (lastLine m left e) + cancelledIn n (lastLine m left e) + restsOn n (withRemainder m o left e own) ≡ countedIf n m left + restsOn n own
-unfolding executedIn cancelledIn
+unfolding sumOf
 ending-sum n m o left Filled own f = omega (arith, counted-none n m left (f refl))
 ending-sum n m o left (Rests price) own f =
     omega (arith, insert-sum n (buying o) (record { number = m; price = price; shares = shares left; displayed = has (o .word) displayed }) own)
@@ -219,7 +207,7 @@ with-unfilled left o away s f =
     (λ (t : eqb left 0 ≡ true). eqb-true left 0 t)
     (λ (t : eqb left 0 ≡ false).
     let u : Unfilled (endingWith left o away s) =
-    rw t (chosen Unfilled (has (o .word) fok) refl (chosen Unfilled (has (o .word) ioc) refl (sought-is Unfilled (λ price. refl) refl refl refl o away s))) in
+    rw t (chosen Unfilled (has (o .word) fok) refl (chosen Unfilled (has (o .word) ioc) refl (sought-is Unfilled (λ price e. refl) refl refl refl o away s refl))) in
     absurd (true≢false (sym (ap isFilled f) ∙ u)))
     (holds-or-not (eqb left 0))
 

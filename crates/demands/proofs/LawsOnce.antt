@@ -1,11 +1,11 @@
 -- Demand 1: a refusal hands back the same record and writes no byte; each command number acts at most once in a day; and the day with
 -- its refused commands struck out ends with the same book and the same event lines. Assumes nothing.
 use Prim.Native.Nat.{ℕ, zero, suc, _+_, _≤_}
-use mathlib.Core.Bool.{Bool, true, false, not}
+use mathlib.Core.Bool.{true, false, not}
 use mathlib.Core.List.{List, [], _∷_, _++_}
 use mathlib.Core.Logic.{_≢_, _⊎_, ⊎-elim}
 use mathlib.Core.Path.{_≡_, refl, sym, ap, _∙_, subst}
-use lib.Dec.{eqb, leb, ltb}
+use lib.Dec.{eqb}
 use lib.ListN.{length}
 use native.Mathlib.Omega.{arith}
 use borrow.Author.Tests.{eqb-true, eqb-false, ne-eqb, le-leb}
@@ -22,10 +22,10 @@ use Rattle.rules.specs.Book.{Book, BookRecord, bookIn, recordOf, recordSound}
 use Rattle.rules.specs.CommandLines.{commandIn}
 use Rattle.rules.specs.Day.{printed, bookAfter, printedOf}
 use Rattle.rules.specs.EventLines.{eventLines}
-use Rattle.rules.specs.Instructions.{lawful}
-use Rattle.rules.specs.Refusals.{Refusal, _givenWhen_, leastRoom, firstOf, untimely, orderInRange, isResting, restsOnFullSide, headerRefusals, bodyRefusals, lineRefusals, refusals}
+use Rattle.rules.specs.Refusals.{firstOf, lastRefusal, headerRefusals, lineRefusals, refusals}
 use Rattle.rules.specs.Step.{doneBy, answer, answerTo, step, stepOn}
 use Rattle.rules.specs.Working.{accept, cancel, quote, close, does}
+use Rattle.rules.proofs.LawsRefusals.{first-numbered, table-numbered}
 use Rattle.soundness.proofs.LawsAccepted.{accepted}
 use Rattle.demands.proofs.LawsRoom.{done-long, fit-for}
 use Rattle.demands.proofs.LawsRuns.{Keeps, struck-out-end, struck-out-lines, struck-out-acts, each-once}
@@ -44,41 +44,12 @@ pub refusal-touches-nothing : (r : BookRecord) (line out : List ℕ) → step r 
 unfolding step
 refusal-touches-nothing r line out n = refused-step r (commandIn line) out (ne-eqb (stepOn r (commandIn line) out .refusal) 0 n)
 
--- the first of a table that is given is the first of it, or one of the others
-up-to-eleven : (n : ℕ) (test : Bool) (others : List Refusal) → n ≤ 11 → firstOf others ≤ 11 → firstOf (n givenWhen test ∷ others) ≤ 11
-unfolding firstOf
-up-to-eleven n true others l m = l
-up-to-eleven n false others l m = m
-
-none-up-to-eleven : firstOf [] ≤ 11
-unfolding firstOf
-none-up-to-eleven = omega arith
-
-body-numbers : (b : Book) (c : Body) → firstOf (bodyRefusals b c) ≤ 11
-unfolding bodyRefusals
-body-numbers b (body.Order o) =
-    up-to-eleven 8 (not (lawful (o .word))) _ (omega arith)
-    (up-to-eleven 9 (not (orderInRange o)) _ (omega arith)
-    (up-to-eleven 11 (restsOnFullSide o b) _ (omega arith) none-up-to-eleven))
-body-numbers b (body.Cancel n) = up-to-eleven 10 (not (isResting n b)) _ (omega arith) none-up-to-eleven
-body-numbers b (body.Quote a) = up-to-eleven 9 _ _ (omega arith) none-up-to-eleven
-body-numbers b body.Close = none-up-to-eleven
-
-line-numbers : (b : Book) (a : Reading) → firstOf (lineRefusals b a) ≤ 11
-unfolding lineRefusals headerRefusals
-line-numbers b reading.Bad = up-to-eleven 3 true _ (omega arith) none-up-to-eleven
-line-numbers b (reading.Is c) =
-    up-to-eleven 4 (leb (c .number .0) (b .last .0)) _ (omega arith)
-    (up-to-eleven 5 (ltb (b .last .0 + 1) (c .number .0)) _ (omega arith)
-    (up-to-eleven 6 (b .closed) _ (omega arith)
-    (up-to-eleven 7 (untimely b c) _ (omega arith) (body-numbers b (c .body)))))
-
 -- there are eleven refusals
-pub refusal-numbers : (r : BookRecord) (line out : List ℕ) → step r line out .refusal ≤ 11
-unfolding step stepOn refusals
+pub refusal-numbers : (r : BookRecord) (line out : List ℕ) → step r line out .refusal ≤ lastRefusal
+unfolding step stepOn
 refusal-numbers r line out =
-    up-to-eleven 1 (ltb (length out) leastRoom) _ (omega arith)
-    (up-to-eleven 2 (not (recordSound r)) _ (omega arith) (line-numbers (bookIn r) (commandIn line)))
+    let table = refusals (length out) (recordSound r) (bookIn r) (commandIn line) in
+    first-numbered lastRefusal table (table-numbered (length out) (recordSound r) (bookIn r) (commandIn line))
 
 -- every call ends with event lines or with one numbered refusal
 pub lines-or-refusal : (r : BookRecord) (line out : List ℕ) → EventLines out (step r line out) ⊎ Refused r out (step r line out)

@@ -2,82 +2,27 @@
 -- for each order of the book. Assumes nothing.
 use Prim.Native.Nat.{ℕ, _+_, _*_, _≤_}
 use mathlib.Core.Bool.{Bool, true, false, not, _&&_}
-use mathlib.Core.List.{List, [], _∷_, _++_}
-use mathlib.Core.Logic.{⊎-elim}
-use mathlib.Core.Path.{_≡_, refl}
-use lib.Dec.{eqb, ltb}
+use mathlib.Core.List.{List, _++_}
+use mathlib.Core.Path.{_≡_}
 use lib.ListN.{length, length-append}
 use native.Mathlib.Omega.{arith}
-use borrow.Author.Tests.{ltb-false, not-false}
-use Rattle.basics.proofs.LawsChoice.{holds-or-not, and-right}
-use Rattle.kinds.specs.Kinds.{shares}
+use Rattle.basics.proofs.LawsChoice.{and-right}
 use Rattle.kinds.specs.declared.Number.{Number}
 use Rattle.rules.specs.declared.Body.{Body}
 use Rattle.rules.specs.declared.Body.the-variants as body
-use Rattle.rules.specs.declared.Ending.{Ending}
-use Rattle.rules.specs.declared.Ending.the-variants.{Filled, Rests, Cancels}
 use Rattle.rules.specs.declared.Event.{Event}
-use Rattle.rules.specs.declared.Event.the-variants.{Executed, Rested, Cancelled}
 use Rattle.rules.specs.declared.Reading.{Reading}
 use Rattle.rules.specs.declared.Reading.the-variants as reading
 use Rattle.rules.specs.declared.Resting.{Resting}
 use Rattle.rules.specs.Book.{Book, BookRecord, placesASide, bookIn, sound, placesSound, recordSound}
-use Rattle.rules.specs.EventLines.{eventLine, eventLines, byCommand, atClose}
-use Rattle.rules.specs.Refusals.{_givenWhen_, leastRoom, firstOf, lineRefusals, refusals}
+use Rattle.rules.specs.EventLines.{eventLines, byCommand, atClose}
+use Rattle.rules.specs.Refusals.{leastRoom, firstOf, lineRefusals, refusals}
 use Rattle.rules.specs.Step.{doneBy}
 use Rattle.rules.specs.Working.{takings, remainder, ending, executions, lastLine, isNumber, buying, oppositeSide, cancels, accept, cancel, quote, close, does}
-use Rattle.rules.proofs.LawsEvents.{executed-length, rested-length, cancelled-length, eventLines-append}
+use Rattle.rules.proofs.LawsEvents.{eventLines-append, none-long, executions-long, cancels-long, last-long}
+use Rattle.rules.proofs.LawsRefusals.{fit-facts}
 use Rattle.rules.proofs.LawsWriting.{none}
-use Rattle.soundness.proofs.LawsAccepted.{none-given}
 use Rattle.soundness.proofs.LawsSound.{sound-is}
-
--- ── The length of lines ──
-
-more-long : (e : Event) (es : List Event) → length (eventLines (e ∷ es)) ≡ length (eventLine e) + length (eventLines es)
-unfolding eventLines
-more-long e es = length-append (eventLine e) (eventLines es)
-
-none-long : length (eventLines []) ≡ 0
-unfolding eventLines
-none-long = refl
-
-executions-long : (n : Number) (s : List Resting) (ts : List ℕ) → length (eventLines (executions n s ts)) ≤ 35 * length s
-unfolding executions
-executions-long n [] ts = omega (arith, none-long)
-executions-long n (h ∷ s) [] = omega (arith, none-long)
-executions-long n (h ∷ s) (t ∷ ts) =
-    ⊎-elim
-    (λ (e : eqb t 0 ≡ true). rw e (omega (arith, executions-long n s ts)))
-    (λ (e : eqb t 0 ≡ false).
-    rw e
-    (omega (
-      arith,
-      more-long (Executed n (h .number) (h .price) (shares t)) (executions n s ts),
-      executed-length n (h .number) (h .price) (shares t),
-      executions-long n s ts,
-    )))
-    (holds-or-not (eqb t 0))
-
-cancels-long : (reason : ℕ) (gone : Resting → Bool) (s : List Resting) → length (eventLines (cancels reason gone s)) ≤ 21 * length s
-unfolding cancels
-cancels-long reason gone [] = omega (arith, none-long)
-cancels-long reason gone (h ∷ s) =
-    ⊎-elim
-    (λ (e : gone h ≡ true).
-    rw e
-    (omega (
-      arith,
-      more-long (Cancelled (h .number) (h .shares) reason) (cancels reason gone s),
-      cancelled-length (h .number) (h .shares) reason,
-      cancels-long reason gone s,
-    )))
-    (λ (e : gone h ≡ false). rw e (omega (arith, cancels-long reason gone s)))
-    (holds-or-not (gone h))
-
-last-long : (n : Number) (left : ℕ) (e : Ending) → length (eventLines (lastLine n left e)) ≤ 27
-last-long n left Filled = omega (arith, none-long)
-last-long n left (Rests price) = omega (arith, none-long, more-long (Rested n price (shares left)) [], rested-length n price (shares left))
-last-long n left (Cancels reason) = omega (arith, none-long, more-long (Cancelled n (shares left) reason) [], cancelled-length n (shares left) reason)
 
 -- ── A command ──
 
@@ -122,10 +67,5 @@ pub fit-for : (room : ℕ) (r : BookRecord) (a : Reading) → firstOf (refusals 
     → (leastRoom ≤ room) × (sound (bookIn r) ≡ true) × (firstOf (lineRefusals (bookIn r) a) ≡ 0)
 unfolding refusals recordSound
 fit-for room r a e =
-    let first = none-given 1 (ltb room leastRoom) (2 givenWhen not (recordSound r) ∷ lineRefusals (bookIn r) a) (omega arith) e in
-    let second = none-given 2 (not (recordSound r)) (lineRefusals (bookIn r) a) (omega arith) (first .1) in
-    let isSound : recordSound r ≡ true = not-false (recordSound r) (second .0) in (
-      ltb-false room leastRoom (first .0),
-      and-right (placesSound (r .buys) && placesSound (r .sells)) (sound (bookIn r)) isSound,
-      second .1,
-    )
+    let f = fit-facts room (recordSound r) (lineRefusals (bookIn r) a) e in
+    (f .0, and-right (placesSound (r .buys) && placesSound (r .sells)) (sound (bookIn r)) (f .1), f .2)

@@ -10,7 +10,7 @@ use lib.Dec.{eqb, ltb}
 use lib.ListN.{length, getD}
 use native.Mathlib.Omega.{arith}
 use borrow.Author.Tests.{eq-eqb, ne-eqb, eqb-true, eqb-false, lt-ltb, le-ltb, ltb-false, not-true}
-use Rattle.basics.specs.Lists.{total, All}
+use Rattle.basics.specs.Lists.{total, sumOf, All}
 use Rattle.basics.proofs.LawsChoice.{holds-or-not, lt-or-le, and-left, and-right}
 use Rattle.basics.proofs.LawsLists.{all-alike}
 use Rattle.kinds.specs.declared.Cents.{Cents}
@@ -19,10 +19,11 @@ use Rattle.rules.specs.declared.Order.{Order}
 use Rattle.rules.specs.declared.Resting.{Resting}
 use Rattle.rules.specs.Book.{ranksBefore, inRankOrder, unused}
 use Rattle.rules.specs.Instructions.{fok, iso, market, postOnly, has}
+use Rattle.rules.proofs.LawsTakings.{nothing-total}
 use Rattle.rules.specs.Working.{buying, beyond, lockingPrice, absent, mayTouch, nothing, walk, smaller, walked, takings}
 use Rattle.soundness.proofs.LawsRank.{ranked-first, rank-price}
 use Rattle.demands.specs.ShareOut.{Given, Each, empty, with, Fair, LawfulGiving, given, Lawful, Fills}
-use Rattle.demands.proofs.LawsWalked.{nothing-total, none-there, taken, couldGive, available, walk-at-most, walk-rank, walk-total}
+use Rattle.demands.proofs.LawsWalked.{none-there, taken, couldGive, available, walk-at-most, walk-rank, walk-total}
 
 -- each taking beside its resting order's price
 unfoldable pub pricedAt : List Resting → List ℕ → List Given
@@ -32,12 +33,12 @@ pricedAt (h ∷ s) (t ∷ ts) = record { shares = t; price = h .price } ∷ pric
 
 -- what is given in all is the total of what is taken
 nothing-given : (s : List Resting) → given (pricedAt s (nothing s)) ≡ 0
-unfolding nothing pricedAt given
+unfolding nothing pricedAt sumOf
 nothing-given [] = refl
 nothing-given (h ∷ s) = omega (arith, nothing-given s)
 
 walk-given : (may : Resting → Bool) (left : ℕ) (s : List Resting) → given (pricedAt s (walk may smaller left s)) ≡ total (walk may smaller left s)
-unfolding walk total pricedAt given
+unfolding walk total pricedAt sumOf
 walk-given may left [] = refl
 walk-given may left (h ∷ s) =
     ⊎-elim
@@ -175,7 +176,7 @@ module _ (o : Order) (away : Away) (opposite : List Resting) (isSide : o .side �
       (lt-or-le 0 (g .shares))
 
   lawful-within : {s : List Resting} {gs : List Given} → Each (LawfulGiving o away) s gs → given gs ≤ available (mayTake o away) s
-  unfolding given available
+  unfolding sumOf available
   lawful-within empty = omega arith
   lawful-within (with {x = h} {y = g} l e) = omega (arith, one-within h g l, lawful-within e)
 

@@ -6,8 +6,9 @@ use mathlib.Core.List.{List, [], _∷_, _++_}
 use mathlib.Core.Logic.{_≢_, ⊎-elim}
 use mathlib.Core.Path.{_≡_, refl, _∙_, subst}
 use native.Mathlib.Omega.{arith}
-use Rattle.basics.specs.Lists.{total, All, none, also}
+use Rattle.basics.specs.Lists.{total, sumOf, All, none, also}
 use Rattle.basics.proofs.LawsChoice.{holds-or-not}
+use Rattle.basics.proofs.LawsLists.{sumOf-append}
 use Rattle.kinds.specs.declared.Number.{Number}
 use Rattle.rules.specs.declared.Away.{Away}
 use Rattle.rules.specs.declared.Body.{Body}
@@ -29,8 +30,8 @@ use Rattle.soundness.proofs.LawsSides.{InRange, sides-of}
 use Rattle.soundness.proofs.LawsSound.{sound-is}
 use Rattle.demands.specs.Once.{numberIn, acts}
 use Rattle.demands.specs.Run.{eventsOf, Enters, now, later}
-use Rattle.demands.specs.Told.{countedIf, executedIn, cancelledIn, restsOn, restingOf}
-use Rattle.demands.proofs.LawsHeld.{counted-same, counted-other, counted-split, executed-append, cancelled-append, takings-no-more, takings-at-most, executions-sum, executions-cancel-none, cancels-sum, cancels-all, cancels-execute-none, ending-sum, ending-leaves}
+use Rattle.demands.specs.Told.{executedBy, cancelledBy, countedIf, executedIn, cancelledIn, restsOn, restingOf}
+use Rattle.demands.proofs.LawsHeld.{counted-same, counted-other, counted-split, takings-no-more, takings-at-most, executions-sum, executions-cancel-none, cancels-sum, cancels-all, cancels-execute-none, ending-sum, ending-leaves}
 use Rattle.demands.proofs.LawsOnce.{refused-book, refused-events, next-acts, answer-rises}
 
 -- ── One command ──
@@ -40,7 +41,7 @@ abbrev goneIn : Number → List Event → ℕ
 goneIn n es = executedIn n es + cancelledIn n es
 
 gone-append : (n : Number) (es fs : List Event) → goneIn n (es ++ fs) ≡ goneIn n es + goneIn n fs
-gone-append n es fs = omega (arith, executed-append n es fs, cancelled-append n es fs)
+gone-append n es fs = omega (arith, sumOf-append (executedBy n) es fs, sumOf-append (cancelledBy n) es fs)
 
 -- an order's shares are what it takes and what is left of it
 split-entered : (n m : Number) (o : Order) (away : Away) (s : List Resting)
@@ -87,7 +88,7 @@ enteredUnder n c = enteredBy n (c .number) (c .body)
 
 does-sum : (n m : Number) (time : ℕ) (c : Body) (b : Book)
     → restingOf n b + enteredBy n m c ≡ goneIn n (does m time c b .events) + restingOf n (does m time c b .book)
-unfolding does cancel quote close executedIn cancelledIn restsOn
+unfolding does cancel quote close sumOf
 does-sum n m time (body.Order o) b = accept-sum n m time o b
 does-sum n m time (body.Cancel of) b =
     omega (
@@ -152,7 +153,7 @@ acts-balance b line n s t other = by-reading (commandIn line) refl
 -- nothing more enters under a number that is not above the last
 settled : (n : Number) (b : Book) (lines : List (List ℕ)) → sound b ≡ true → n .0 ≤ b .last .0
     → restingOf n b ≡ goneIn n (eventsOf b lines) + restingOf n (bookAfter b lines)
-unfolding eventsOf bookAfter executedIn cancelledIn
+unfolding eventsOf bookAfter sumOf
 settled n b [] s l = omega arith
 settled n b (line ∷ lines) s l =
     ⊎-elim
@@ -179,7 +180,7 @@ enters-above (later {b = b} {l = line} r) = omega (arith, answer-rises b line, e
 
 -- nothing rests under a number above the last
 above-none : (n : Number) {last : Number} {s : List Resting} → last .0 < n .0 → All (InRange last) s → restsOn n s ≡ 0
-unfolding restsOn
+unfolding sumOf
 above-none n l none = refl
 above-none n l (also {x = h} r a) =
     let other : n .0 ≢ h .number .0 = λ (z : n .0 ≡ h .number .0). omega (arith, z, r .upToLast) in

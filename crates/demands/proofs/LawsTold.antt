@@ -1,20 +1,19 @@
 -- What the program prints, read back line by line, tells the very events of the book, since every field of an event fits its
 -- width; and the lines of refusals tell none. Assumes nothing.
-use Prim.Native.Nat.{ℕ, _^_, _≤_, _<_}
-use mathlib.Core.Bool.{Bool, true, false, not, _&&_, _||_}
+use Prim.Native.Nat.{ℕ, _^_, _<_}
+use mathlib.Core.Bool.{Bool, true, false}
 use mathlib.Core.List.{List, [], _∷_, _++_, append-nil}
 use mathlib.Core.Logic.{⊎-elim}
 use mathlib.Core.Path.{_≡_, refl, sym, ap, _∙_}
-use lib.Dec.{eqb, leb}
+use lib.Dec.{eqb}
 use native.Mathlib.Omega.{arith}
-use borrow.Author.Tests.{leb-true}
-use Rattle.basics.specs.Choice.{if_then_else_}
 use Rattle.basics.specs.Lists.{All, none, also}
-use Rattle.basics.proofs.LawsChoice.{holds-or-not, and-right}
+use Rattle.basics.proofs.LawsChoice.{holds-or-not}
 use Rattle.basics.proofs.LawsLists.{all-alike, all-both}
 use Rattle.kinds.specs.declared.Cents.{Cents}
 use Rattle.kinds.specs.declared.Number.{Number}
 use Rattle.kinds.specs.Kinds.{priceInRange}
+use Rattle.kinds.proofs.LawsRanges.{price-highest}
 use Rattle.rules.specs.declared.Away.{Away}
 use Rattle.rules.specs.declared.Body.{Body}
 use Rattle.rules.specs.declared.Body.the-variants as body
@@ -28,11 +27,12 @@ use Rattle.rules.specs.declared.Resting.{Resting}
 use Rattle.rules.specs.Book.{Book, sound}
 use Rattle.rules.specs.CommandLines.{Fitting, empty, fits, headerForm, orderForm, numbersOf, formOf, commandIn}
 use Rattle.rules.specs.Day.{linesIn, printed, printedOf}
-use Rattle.rules.specs.EventLines.{byCommand, atClose}
-use Rattle.rules.specs.Instructions.{ioc, fok, iso, displayed, cancelBack, postOnly, has}
+use Rattle.rules.specs.EventLines.{executedKind, restedKind, cancelledKind, byCommand, iocRemainder, fokKilled, cancelledBack, noPriceInRange, postOnlyMeets, atClose}
+use Rattle.rules.specs.Instructions.{ioc, fok, has}
 use Rattle.rules.specs.Step.{doneBy, answer, answerTo}
-use Rattle.rules.specs.Working.{buying, beyond, lockingPrice, absent, oppositeSide, remainder, executions, adjusted, oneCentLessAggressive, seeks, equalsOrPasses, unlessPostOnlyMeets, endingWith, ending, lastLine, accept, cancels, isNumber, cancel, quote, close, does}
+use Rattle.rules.specs.Working.{buying, oppositeSide, remainder, executions, endingWith, ending, lastLine, accept, cancels, isNumber, cancel, quote, close, does}
 use Rattle.rules.proofs.LawsLines.{commandIn-is}
+use Rattle.soundness.proofs.LawsEndings.{chosen, sought-is}
 use Rattle.soundness.proofs.LawsKept.{answer-sound}
 use Rattle.soundness.proofs.LawsSides.{InRange, sides-of}
 use Rattle.soundness.proofs.LawsSound.{sound-is}
@@ -54,9 +54,7 @@ record Small (h : Resting) : Type 0 where
 
 -- a price in range does
 price-small : (p : Cents) → priceInRange p ≡ true → p .0 < 2 ^ 32
-price-small p e =
-    let most : p .0 ≤ 200000 = leb-true (p .0) 200000 (and-right (leb 100 (p .0)) (leb (p .0) 200000) e) in
-    omega arith
+price-small p e = omega (arith, price-highest p e)
 
 -- so every resting order of a sound book is small, if its last number has four bytes
 all-small : {last : Number} → last .0 < 2 ^ 32 → {s : List Resting} → All (InRange last) s → All Small s
@@ -72,7 +70,7 @@ executions-fit n l (also {x = h} r a) (with {y = t} m e) =
     ⊎-elim
     (λ (z : eqb t 0 ≡ true). rw z (executions-fit n l a e))
     (λ (z : eqb t 0 ≡ false).
-    rw z (also (fits 1 0x11 (omega arith) (fits 4 (n .0) l (fits 4 (h .number .0) (r .number) (fits 4 (h .price .0) (r .price) (fits 4 t (omega (arith, r .shares)) empty))))) (executions-fit n l a e)))
+    rw z (also (fits 1 executedKind (omega arith) (fits 4 (n .0) l (fits 4 (h .number .0) (r .number) (fits 4 (h .price .0) (r .price) (fits 4 t (omega (arith, r .shares)) empty))))) (executions-fit n l a e)))
     (holds-or-not (eqb t 0))
 
 -- each cancel is of a resting order with all of its shares
@@ -82,7 +80,7 @@ cancels-fit reason l gone none = none
 cancels-fit reason l gone (also {x = h} r a) =
     ⊎-elim
     (λ (t : gone h ≡ true).
-    rw t (also (fits 1 0x13 (omega arith) (fits 4 (h .number .0) (r .number) (fits 4 (h .shares .0) (r .shares) (fits 1 reason l empty)))) (cancels-fit reason l gone a)))
+    rw t (also (fits 1 cancelledKind (omega arith) (fits 4 (h .number .0) (r .number) (fits 4 (h .shares .0) (r .shares) (fits 1 reason l empty)))) (cancels-fit reason l gone a)))
     (λ (t : gone h ≡ false). rw t (cancels-fit reason l gone a))
     (holds-or-not (gone h))
 
@@ -94,49 +92,21 @@ data FitsEnding : Ending → Type 0 where
   rests : (p : Cents) → p .0 < 2 ^ 32 → FitsEnding (Rests p)
   cancelled : (reason : ℕ) → reason < 2 ^ 8 → FitsEnding (Cancels reason)
 
--- both ways of a choice fit, so what is chosen does
-by-choice : (t : Bool) {d e : Ending} → FitsEnding d → FitsEnding e → FitsEnding (if t then d else e)
-by-choice true f g = f
-by-choice false f g = g
-
--- an adjusted price is in range, or the order is cancelled
-adjusted-fits : (o : Order) (price : Cents) → FitsEnding (adjusted o price)
-adjusted-fits o price = by-choice (has (o .word) cancelBack) (cancelled 4 (omega arith)) (tested (priceInRange price) refl)
-  where
-    tested : (t : Bool) → priceInRange price ≡ t → FitsEnding (if t then Rests price else Cancels 5)
-    tested true e = rests price (price-small price e)
-    tested false e = cancelled 5 (omega arith)
-
--- a remainder seeks its own limit or an adjusted price
-seeks-fits : (o : Order) (away : Away) → o .price .0 < 2 ^ 32 → FitsEnding (seeks o away)
-unfolding seeks
-seeks-fits o away l =
-    let locking = lockingPrice (buying o) away in
-    let wouldCross = beyond (buying o) locking (o .price) in
-    let wouldLock = eqb (o .price .0) (locking .0) in
-    by-choice (has (o .word) iso || absent locking) (rests (o .price) l)
-    (by-choice (has (o .word) displayed && (wouldLock || wouldCross)) (adjusted-fits o (oneCentLessAggressive (buying o) locking))
-    (by-choice (not (has (o .word) displayed) && wouldCross) (adjusted-fits o locking) (rests (o .price) l)))
-
--- step 5 changes no price
-unless-fits : (o : Order) (s : List Resting) {e : Ending} → FitsEnding e → FitsEnding (unlessPostOnlyMeets o s e)
-unless-fits o s filled = filled
-unless-fits o s (rests p l) = by-choice (has (o .word) postOnly && equalsOrPasses (buying o) p s) (cancelled 6 (omega arith)) (rests p l)
-unless-fits o s (cancelled reason l) = cancelled reason l
-
 -- so the price at which an order rests is its limit or one in range, and the reasons are 2 to 6
 ending-fits : (o : Order) (away : Away) (s : List Resting) → o .price .0 < 2 ^ 32 → FitsEnding (ending o away s)
 unfolding ending endingWith
 ending-fits o away s l =
-    by-choice (eqb (remainder o away s) 0) filled
-    (by-choice (has (o .word) fok) (cancelled 3 (omega arith))
-    (by-choice (has (o .word) ioc) (cancelled 2 (omega arith)) (unless-fits o s (seeks-fits o away l))))
+    chosen FitsEnding (eqb (remainder o away s) 0) filled
+    (chosen FitsEnding (has (o .word) fok) (cancelled fokKilled (omega arith))
+    (chosen FitsEnding (has (o .word) ioc) (cancelled iocRemainder (omega arith))
+    (sought-is FitsEnding (λ p e. rests p (price-small p e)) (cancelled cancelledBack (omega arith)) (cancelled noPriceInRange (omega arith))
+    (cancelled postOnlyMeets (omega arith)) o away s (rests (o .price) l))))
 
 -- the last line of an order, of what is left of it
 last-line-fits : (n : Number) (left : ℕ) → n .0 < 2 ^ 32 → left < 2 ^ 32 → {e : Ending} → FitsEnding e → All FitsEvent (lastLine n left e)
 last-line-fits n left l m filled = none
-last-line-fits n left l m (rests p k) = also (fits 1 0x12 (omega arith) (fits 4 (n .0) l (fits 4 (p .0) k (fits 4 left m empty)))) none
-last-line-fits n left l m (cancelled reason k) = also (fits 1 0x13 (omega arith) (fits 4 (n .0) l (fits 4 left m (fits 1 reason k empty)))) none
+last-line-fits n left l m (rests p k) = also (fits 1 restedKind (omega arith) (fits 4 (n .0) l (fits 4 (p .0) k (fits 4 left m empty)))) none
+last-line-fits n left l m (cancelled reason k) = also (fits 1 cancelledKind (omega arith) (fits 4 (n .0) l (fits 4 left m (fits 1 reason k empty)))) none
 
 -- ── An accepted command ──
 

@@ -17,14 +17,10 @@ use Rattle.rules.specs.declared.Resting.{Resting}
 use Rattle.rules.specs.Book.{inRankOrder, unused}
 use Rattle.rules.specs.Instructions.{fok, has}
 use Rattle.rules.specs.Working.{nothing, walk, smaller, walked, takings}
+use Rattle.rules.proofs.LawsTakings.{nothing-total}
 use Rattle.soundness.proofs.LawsRank.{ranked-rest}
 
 -- ── Nothing from anyone ──
-
-pub nothing-total : (s : List Resting) → total (nothing s) ≡ 0
-unfolding nothing total
-nothing-total [] = refl
-nothing-total (h ∷ s) = omega (arith, nothing-total s)
 
 nothing-at : (s : List Resting) (i : ℕ) → getD (nothing s) i 0 ≡ 0
 unfolding nothing

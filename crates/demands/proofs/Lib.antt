@@ -3,9 +3,9 @@ pub mod LawsRuns
 pub mod LawsOnce
 pub mod LawsWalked
 pub mod LawsShareOut
-pub mod LawsEndings
 pub mod LawsHeld
 pub mod LawsSums
+pub mod LawsLinesTell
 pub mod LawsExecutes
 pub mod LawsEventLines
 pub mod LawsTold

@@ -15,6 +15,7 @@ use Rattle.rules.specs.declared.Reading.the-variants as reading
 use Rattle.rules.specs.Book.{Book, BookRecord}
 use Rattle.rules.specs.CommandLines.{commandIn}
 use Rattle.rules.specs.EventLines.{eventLines}
+use Rattle.rules.specs.Refusals.{lastRefusal}
 use Rattle.rules.specs.Step.{Returned, answerTo, step}
 
 -- ── One call ──
@@ -29,7 +30,7 @@ pub record EventLines (out : List ℕ) (s : Returned) : Type 0 where
 
 -- "or with one numbered refusal .. A refusal hands back the same book and writes no byte."
 pub record Refused (r : BookRecord) (out : List ℕ) (s : Returned) : Type 0 where
-  pub numbered : (1 ≤ s .refusal) × (s .refusal ≤ 11)
+  pub numbered : (1 ≤ s .refusal) × (s .refusal ≤ lastRefusal)
   pub noLine : s .length ≡ 0
   pub sameBook : s .book ≡ r
   pub noByte : s .out ≡ out

@@ -1,13 +1,14 @@
 -- Demand 3, in the customer's words: "Call a share-out lawful if it gives each opposite resting order no more than it holds, at that
 -- order's price, within the incoming limit if there is one, and, unless the order is an ISO, neither buys above the best away offer
 -- nor sells below the best away bid then held, and totals no more than the order." No word here is of the walk.
-use Prim.Native.Nat.{ℕ, _+_, _≤_, _<_}
+use Prim.Native.Nat.{ℕ, _≤_, _<_}
 use mathlib.Core.Bool.{false}
 use mathlib.Core.List.{List, [], _∷_}
 use mathlib.Core.Logic.{_≢_}
 use mathlib.Core.Path.{_≡_}
 use lib.Dec.{eqb}
 use Rattle.basics.specs.Choice.{if_then_else_}
+use Rattle.basics.specs.Lists.{sumOf}
 use Rattle.kinds.specs.declared.Cents.{Cents}
 use Rattle.rules.specs.declared.Away.{Away}
 use Rattle.rules.specs.declared.Order.{Order}
@@ -43,9 +44,8 @@ pub record LawfulGiving (o : Order) (away : Away) (h : Resting) (g : Given) : Ty
   pub atItsPrice : 0 < g .shares → g .price ≡ h .price
   pub fair : 0 < g .shares → Fair o away (g .price)
 
-unfoldable pub given : List Given → ℕ
-given [] = 0
-given (g ∷ gs) = g .shares + given gs
+abbrev pub given : List Given → ℕ
+given gs = sumOf (λ (g : Given). g .shares) gs
 
 pub record Lawful (o : Order) (away : Away) (opposite : List Resting) (gs : List Given) : Type 0 where
   pub each : Each (LawfulGiving o away) opposite gs

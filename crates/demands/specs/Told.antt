@@ -6,7 +6,7 @@ use mathlib.Core.List.{List, [], _∷_, _++_}
 use lib.Dec.{eqb}
 use lib.ListN.{getD}
 use Rattle.basics.specs.Choice.{if_then_else_}
-use Rattle.basics.specs.Lists.{any}
+use Rattle.basics.specs.Lists.{any, sumOf}
 use Rattle.kinds.specs.Kinds.{cents, shares, number}
 use Rattle.kinds.specs.declared.Cents.{Cents}
 use Rattle.kinds.specs.declared.Number.{Number}
@@ -16,20 +16,9 @@ use Rattle.rules.specs.declared.Resting.{Resting}
 use Rattle.rules.specs.Book.{Book}
 use Rattle.rules.specs.CommandLines.{Numbers, are, none, numbersFrom, digitsIn, isEnded}
 use Rattle.rules.specs.Day.{linesIn}
-use Rattle.rules.specs.EventLines.{fokKilled}
+use Rattle.rules.specs.EventLines.{executedKind, restedKind, cancelledKind, executedForm, restedForm, cancelledForm, fokKilled}
 
 -- ── Reading event lines ──
-
--- "`11` execution (incoming number, resting number, price, shares); `12` rested (number, price, shares); `13` cancelled (number,
--- shares, reason in 1 byte)": the widths of each line's fields in bytes, the kind first
-abbrev pub executedForm : List ℕ
-executedForm = 1 ∷ 4 ∷ 4 ∷ 4 ∷ 4 ∷ []
-
-abbrev pub restedForm : List ℕ
-restedForm = 1 ∷ 4 ∷ 4 ∷ 4 ∷ []
-
-abbrev pub cancelledForm : List ℕ
-cancelledForm = 1 ∷ 4 ∷ 4 ∷ 1 ∷ []
 
 -- the event of a kind that the numbers of its form make; none where they are of another kind, or where a field is no number
 abbrev pub ofKind : ℕ → (List ℕ → Event) → Numbers → List Event
@@ -48,9 +37,9 @@ cancelledOf ns = Cancelled (number (getD ns 1 0)) (shares (getD ns 2 0)) (getD n
 -- the event that a line is, by its length; none where it is no event line, as that of a refusal
 unfoldable pub eventIn : List ℕ → List Event
 eventIn line =
-    if isEnded (digitsIn executedForm) line then ofKind 0x11 executedOf (numbersFrom 0 executedForm line)
-    else if isEnded (digitsIn restedForm) line then ofKind 0x12 restedOf (numbersFrom 0 restedForm line)
-    else if isEnded (digitsIn cancelledForm) line then ofKind 0x13 cancelledOf (numbersFrom 0 cancelledForm line)
+    if isEnded (digitsIn executedForm) line then ofKind executedKind executedOf (numbersFrom 0 executedForm line)
+    else if isEnded (digitsIn restedForm) line then ofKind restedKind restedOf (numbersFrom 0 restedForm line)
+    else if isEnded (digitsIn cancelledForm) line then ofKind cancelledKind cancelledOf (numbersFrom 0 cancelledForm line)
     else []
 
 unfoldable pub eventsOn : List (List ℕ) → List Event
@@ -84,17 +73,14 @@ cancelledBy n (Executed incoming resting price shares) = 0
 cancelledBy n (Rested m price shares) = 0
 cancelledBy n (Cancelled m shares reason) = countedIf n m (shares .0)
 
-unfoldable pub executedIn : Number → List Event → ℕ
-executedIn n [] = 0
-executedIn n (e ∷ es) = executedBy n e + executedIn n es
+abbrev pub executedIn : Number → List Event → ℕ
+executedIn n es = sumOf (executedBy n) es
 
-unfoldable pub givenIn : Number → List Event → ℕ
-givenIn n [] = 0
-givenIn n (e ∷ es) = givenBy n e + givenIn n es
+abbrev pub givenIn : Number → List Event → ℕ
+givenIn n es = sumOf (givenBy n) es
 
-unfoldable pub cancelledIn : Number → List Event → ℕ
-cancelledIn n [] = 0
-cancelledIn n (e ∷ es) = cancelledBy n e + cancelledIn n es
+abbrev pub cancelledIn : Number → List Event → ℕ
+cancelledIn n es = sumOf (cancelledBy n) es
 
 -- the prices at which the order of a number gives
 unfoldable pub pricesIn : Number → List Event → List Cents
@@ -114,9 +100,8 @@ isKilled n es = any (kills n) es
 
 -- ── Shares still resting ──
 
-unfoldable pub restsOn : Number → List Resting → ℕ
-restsOn n [] = 0
-restsOn n (h ∷ s) = countedIf n (h .number) (h .shares .0) + restsOn n s
+abbrev pub restsOn : Number → List Resting → ℕ
+restsOn n s = sumOf (λ (h : Resting). countedIf n (h .number) (h .shares .0)) s
 
 abbrev pub restingOf : Number → Book → ℕ
 restingOf n b = restsOn n (b .buys) + restsOn n (b .sells)

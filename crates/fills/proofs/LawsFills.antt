@@ -15,7 +15,7 @@ use Rattle.rules.specs.declared.Resting.{Resting}
 use Rattle.rules.specs.Book.{unused}
 use Rattle.rules.specs.Working.{nothing, executions, after, reducedBy}
 use Rattle.soundness.proofs.LawsLeaves.{after-nothing}
-use Rattle.side.specs.Walk.{tookTo}
+use Rattle.walk.specs.Walk.{tookTo}
 
 abbrev Holding : Resting → Type 0
 Holding h = 1 ≤ h .shares .0

@@ -5,7 +5,7 @@ use lib.ListN.{length, getD}
 use Rattle.basics.specs.Lists.{All}
 use Rattle.rules.specs.declared.Resting.{Resting}
 use Rattle.rules.specs.Book.{unused}
-use Rattle.side.specs.declared.Stop.{Stop}
+use Rattle.walk.specs.declared.Stop.{Stop}
 
 -- a stop within a side of orders that hold shares: where it takes a part, the order there keeps some
 pub record StopsIn (s : List Resting) (stop : Stop) : Type 0 where

@@ -2,15 +2,16 @@
 use kinds::Number;
 use kinds::Shares;
 use rows::PLACES;
-use side::Stop;
+use walk::Stop;
 ghost use mathlib.Core.Path.{_≡_};
 ghost use Prim.Native.Nat.{_≤_};
 ghost use lib.ListN.{length};
 ghost use Rattle.basics.specs.Bytes.{onto};
 ghost use Rattle.rows.specs.Table.{side, tableOf, Holds};
 ghost use Rattle.rules.specs.EventLines.{eventLines};
+ghost use Rattle.rules.specs.Refusals.{leastRoom};
 ghost use Rattle.rules.specs.Working.{executions, after};
-ghost use Rattle.side.specs.Walk.{tookTo};
+ghost use Rattle.walk.specs.Walk.{tookTo};
 ghost use Rattle.fills.specs.Fills.{StopsIn};
 
 // The orders before the place leave, and the one there keeps what it did not give.
@@ -21,16 +22,16 @@ pub fn use_up(t: &mut [[u32; 4]; PLACES], n: usize, stop: Stop)
     let at = stop.at;
     let part = stop.part;
     if part.0 == 0 {
-        rows::drop_first(t, n, at);
+        shifts::drop_first(t, n, at);
         return;
     }
-    rows::reduce(t, n, at, part);
-    rows::drop_first(t, n, at);
+    shifts::reduce(t, n, at, part);
+    shifts::drop_first(t, n, at);
 }
 
 // A line for each order that gives, in rank order; the length of the lines.
 pub fn report(t: &[[u32; 4]; PLACES], n: usize, stop: Stop, number: Number, out: &mut [u8]) -> usize
-    requires { ⌜ Holds n (now t) × StopsIn (side n (now t)) stop × (2240 ≤ length (now out)) ⌝ }
+    requires { ⌜ Holds n (now t) × StopsIn (side n (now t)) stop × (leastRoom ≤ length (now out)) ⌝ }
     ensures { λ r. ⌜ r ≡ length (eventLines (executions number (side n (now (t .entry))) (tookTo (stop .at) (stop .part .0) (side n (now (t .entry)))))) ⌝ }
     ensures { λ _. ⌜ now (out .exit) ≡ onto (eventLines (executions number (side n (now (t .entry))) (tookTo (stop .at) (stop .part .0) (side n (now (t .entry)))))) (now (out .entry)) ⌝ }
 {

@@ -14,10 +14,10 @@ use Rattle.basics.specs.Lists.{every, any, distinct}
 use Rattle.basics.proofs.LawsChoice.{holds-or-not, or-neither}
 use Rattle.rows.specs.Table.{orderOf, side}
 use Rattle.rules.specs.declared.Resting.{Resting}
-use Rattle.rules.specs.Book.{placesASide, opening, closing, restingInRange, isUnused, awayInRange, inRankOrder, apart, bookIn, sound, recordSound}
+use Rattle.rules.specs.Book.{numbers, placesASide, opening, closing, restingInRange, isUnused, awayInRange, inRankOrder, apart, bookIn, sound, recordSound}
 use Rattle.tables.specs.declared.Head.{Head}
 use Rattle.tables.specs.Tables.{recordOn}
-use Rattle.inspection.specs.Inspection.{numbers, headSound, sideSound}
+use Rattle.inspection.specs.Inspection.{headSound, sideSound}
 use Rattle.inspection.proofs.LawsTurns.{noneOf}
 
 -- ── Tests over two lists ──

@@ -15,9 +15,8 @@ use Rattle.basics.specs.Lists.{every, any, distinct}
 use Rattle.basics.proofs.LawsChoice.{lt-or-le, holds-or-not, or-neither}
 use Rattle.rows.specs.Table.{orderOf, side}
 use Rattle.rules.specs.declared.Resting.{Resting}
-use Rattle.rules.specs.Book.{ranksBefore, inRankOrder, apart, placesASide}
-use Rattle.side.proofs.LawsPlaces.{ahead, ahead-end, ahead-next}
-use Rattle.inspection.specs.Inspection.{numbers}
+use Rattle.rules.specs.Book.{numbers, ranksBefore, inRankOrder, apart, placesASide}
+use Rattle.rows.proofs.LawsTable.{ahead, ahead-end, ahead-next}
 
 -- ── A test of each element ──
 

@@ -7,13 +7,9 @@ use lib.Dec.{eqb, leb}
 use lib.ListN.{drop}
 use Rattle.basics.specs.Lists.{every, distinct}
 use Rattle.kinds.specs.declared.Number.{Number}
-use Rattle.rules.specs.declared.Resting.{Resting}
-use Rattle.rules.specs.Book.{opening, closing, awayInRange, isUnused, inRankOrder, restingInRange}
+use Rattle.rules.specs.Book.{numbers, opening, closing, awayInRange, isUnused, inRankOrder, restingInRange}
 use Rattle.rows.specs.Table.{orderOf, side}
 use Rattle.tables.specs.declared.Head.{Head}
-
-abbrev pub numbers : List Resting → List ℕ
-numbers s = map (λ (o : Resting). o .number .0) s
 
 -- what is said of the header alone
 abbrev pub headSound : Head → Bool

@@ -11,9 +11,9 @@ ghost use lib.Dec.{eqb};
 ghost use lib.ListN.{drop};
 ghost use Rattle.basics.specs.Lists.{every, any, distinct};
 ghost use Rattle.rows.specs.Table.{orderOf, side};
-ghost use Rattle.rules.specs.Book.{placesASide, restingInRange, isUnused, inRankOrder, apart, recordSound};
+ghost use Rattle.rules.specs.Book.{numbers, placesASide, restingInRange, isUnused, inRankOrder, apart, recordSound};
 ghost use Rattle.tables.specs.Tables.{recordOn};
-ghost use Rattle.inspection.specs.Inspection.{numbers, headSound, sideSound};
+ghost use Rattle.inspection.specs.Inspection.{headSound, sideSound};
 
 // ── One order ──
 

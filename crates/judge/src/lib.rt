@@ -1,5 +1,5 @@
 // Which refusal a command's own fields get, against what the book last accepted (01, What the machine says back): 4 to 7 by the
-// header, 8 and 9 by an order's body, 9 by a quote's.
+// header, 9 by an order's body or a quote's. Refusal 8 is `instructions::lawful`.
 use kinds::Cents;
 use kinds::Number;
 use rules::Body;
@@ -7,7 +7,6 @@ use rules::Command;
 use rules::Order;
 ghost use mathlib.Core.Path.{_≡_};
 ghost use Rattle.rules.specs.Book.{awayInRange};
-ghost use Rattle.rules.specs.Instructions.{has, oneOf, lawful};
 ghost use Rattle.rules.specs.Refusals.{firstOf, isClose, headerRefusals, orderInRange};
 ghost use Rattle.judge.specs.Judge.{bookWith};
 
@@ -23,37 +22,9 @@ pub const OPENING: u32 = 34200000;
 
 pub const CLOSING: u32 = 57600000;
 
-// ── The instruction word ──
-
-pub fn has(word: u16, bit: u16) -> bool
-    ensures { λ r. ⌜ r ≡ has word bit ⌝ }
-{
-    word & bit != 0
-}
-
-// Exactly one of the bits of a mask is set: the ones of the masked word are counted.
-pub fn one_of(word: u16, mask: u16) -> bool
-    ensures { λ r. ⌜ r ≡ oneOf word mask ⌝ }
-{
-    u16::count_ones(word & mask) == 1
-}
-
-pub fn lawful(word: u16) -> bool
-    ensures { λ r. ⌜ r ≡ lawful word ⌝ }
-{
-    (word < 1024)
-        & one_of(word, rules::IOC + rules::FOK + rules::DAY)
-        & one_of(word, rules::DISPLAYED + rules::NON_DISPLAYED)
-        & one_of(word, rules::PRICE_ADJUST + rules::CANCEL_BACK)
-        & (!has(word, rules::POST_ONLY)
-            | (has(word, rules::DAY) & has(word, rules::DISPLAYED) & !has(word, rules::ISO)))
-        & (!has(word, rules::ISO) | (!has(word, rules::FOK) & !has(word, rules::MARKET)))
-        & (!has(word, rules::MARKET) | (has(word, rules::IOC) | has(word, rules::FOK)))
-}
-
 // ── The header ──
 
-pub fn is_close(body: Body) -> bool
+fn is_close(body: Body) -> bool
     ensures { λ r. ⌜ r ≡ isClose body ⌝ }
 {
     match body {
@@ -98,7 +69,7 @@ pub fn header_refusal(a: Accepted, c: Command) -> u8
 pub fn order_in_range(o: Order) -> bool
     ensures { λ r. ⌜ r ≡ orderInRange o ⌝ }
 {
-    let market = has(o.word, rules::MARKET);
+    let market = instructions::has(o.word, rules::MARKET);
     let price = o.price;
     let shares = o.shares;
     (o.side <= 1) & shares.in_range() & ((market & (price.0 == 0)) | (!market & price.in_range()))

@@ -3,7 +3,7 @@
 ghost use mathlib.Core.Path.{_≡_};
 ghost use lib.Dec.{ltb};
 ghost use Rattle.basics.specs.Choice.{if_then_else_};
-ghost use Rattle.kinds.specs.Kinds.{priceInRange, sharesInRange, above, below};
+ghost use Rattle.kinds.specs.Kinds.{largest, priceInRange, sharesInRange, above, below};
 
 // A price in whole cents.
 pub struct Cents(pub u32);
@@ -22,17 +22,20 @@ impl Cents {
 
     pub const HIGHEST: u32 = 200000;
 
+    // The largest number that four bytes hold; it is no price in range.
+    pub const LARGEST: u32 = 4294967295;
+
     pub fn in_range(self) -> bool
         ensures { λ r. ⌜ r ≡ priceInRange self ⌝ }
     {
         (Cents::LOWEST <= self.0) & (self.0 <= Cents::HIGHEST)
     }
 
-    // One cent up. The largest number that four bytes hold has none above it and stays; it is no price in range.
+    // One cent up. The largest number has none above it and stays.
     pub fn above(self) -> Cents
-        ensures { λ r. ⌜ r ≡ (if ltb (self .0) 4294967295 then above self else self) ⌝ }
+        ensures { λ r. ⌜ r ≡ (if ltb (self .0) largest then above self else self) ⌝ }
     {
-        if self.0 < 4294967295 {
+        if self.0 < Cents::LARGEST {
             Cents(self.0 + Cents::VARIATION)
         } else {
             self

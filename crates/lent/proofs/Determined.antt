@@ -9,18 +9,8 @@ use denote.Ref.{now}
 use Rattle.book.specs.declared.Reply.{Reply}
 use Rattle.rules.specs.declared.Resting.{Resting}
 use Rattle.rules.specs.Book.{BookRecord}
-use Rattle.lent.specs.declared.Worked.{Worked}
 use Rattle.lent.specs.Lent.{Answered}
-use Rattle.lent.proofs.refuse.Reads as refuse
-use Rattle.lent.proofs.work.Reads as work
 use Rattle.lent.proofs.answer_lending.Reads as lending
-
-pub refuse-determined : (κs : _) (a : _) (r r′ : Reply) (s s′ : _) → refuse.Post κs a r s → refuse.Post κs a r′ s′ → r ≡ r′
-refuse-determined κs a r r′ s s′ p q = p ∙ sym q
-
-pub work-determined : (κs : _) (a : _) (r r′ : Worked) (s s′ : _) → work.Post κs a r s → work.Post κs a r′ s′
-    → (r ≡ r′) × (now (s .1 .1 .1 .1 .0) ≡ now (s′ .1 .1 .1 .1 .0))
-work-determined κs a r r′ s s′ p q = (p .0 ∙ sym (q .0), p .1 ∙ sym (q .1))
 
 pub answer-lending-determined : (κs : _) (a : _) (r r′ : Reply) (s s′ : _) → lending.Post κs a r s → lending.Post κs a r′ s′
     → (r ≡ r′) × (now (s .1 .1 .1 .0) ≡ now (s′ .1 .1 .1 .0))

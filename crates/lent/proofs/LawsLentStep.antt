@@ -2,17 +2,17 @@
 -- what `work`, `answer` and `answer_over` return, by those ways. Assumes nothing.
 use Prim.Native.Nat.{ℕ}
 use mathlib.Core.Bool.{Bool, true, false}
-use mathlib.Core.List.{List, [], _∷_}
+use mathlib.Core.List.{List}
 use mathlib.Core.Logic.{_≢_, ⊎-elim}
 use mathlib.Core.Path.{_≡_, refl, _∙_}
-use lib.Dec.{eqb, ltb}
+use lib.Dec.{eqb}
 use lib.ListN.{length}
 use borrow.Author.Tests.{eq-eqb, ne-eqb}
 use Rattle.basics.specs.Lists.{firstWhere}
 use Rattle.basics.proofs.LawsChoice.{holds-or-not}
 use Rattle.rules.specs.declared.Resting.{Resting}
 use Rattle.rules.specs.Book.{BookRecord, placesASide, isUnused}
-use Rattle.rules.specs.Refusals.{_givenWhen_, firstOf, leastRoom}
+use Rattle.rules.specs.Refusals.{firstOf, fitRefusals}
 use Rattle.rules.specs.Step.{Returned, step}
 use Rattle.book.specs.declared.Book as value
 use Rattle.book.specs.declared.Reply.{Reply}
@@ -27,7 +27,7 @@ module _ (buys : Bool) (r : BookRecord) (table : List Resting) (line out : List 
 
   lent-unfit : isEmpty (sideOf buys r) ≡ false
       → lentStep buys r table line out
-      ≡ record { refusal = firstOf (1 givenWhen ltb (length out) leastRoom ∷ 2 givenWhen true ∷ []); length = 0; book = r; table = table; out = out }
+      ≡ record { refusal = firstOf (fitRefusals (length out) false); length = 0; book = r; table = table; out = out }
   unfolding lentStep fits
   lent-unfit e =
       ⊎-elim
@@ -37,7 +37,7 @@ module _ (buys : Bool) (r : BookRecord) (table : List Resting) (line out : List 
 
   lent-short : length table ≢ placesASide
       → lentStep buys r table line out
-      ≡ record { refusal = firstOf (1 givenWhen ltb (length out) leastRoom ∷ 2 givenWhen true ∷ []); length = 0; book = r; table = table; out = out }
+      ≡ record { refusal = firstOf (fitRefusals (length out) false); length = 0; book = r; table = table; out = out }
   unfolding lentStep fits
   lent-short n = rw (ne-eqb (length table) placesASide n)
 
@@ -63,7 +63,7 @@ module _ (buys : Bool) (r : BookRecord) (table : List Resting) (line out : List 
 
 -- what `refuse` returns
 abbrev pub refused : value.Book → ℕ → Reply
-refused book room = record { refusal = firstOf (1 givenWhen ltb room leastRoom ∷ 2 givenWhen true ∷ []); length = 0; book = book }
+refused book room = record { refusal = firstOf (fitRefusals room false); length = 0; book = book }
 
 module _ (buys : Bool) (book : value.Book) (table : List Resting) (line out : List ℕ) where
   abbrev it : Lent
@@ -93,13 +93,13 @@ module _ (buys : Bool) (book : value.Book) (table : List Resting) (line out : Li
         let refused = lent-refused buys (recordIn book) table line out all is-empty (rw replyWhole at n) in
         rw (refused, replyWhole) (refl, rw same-step at outIs)
 
-    pub worked-accepted : reply .refusal ≡ 0 → (left apart none : _) → left ≡ sideWith (sideOf buys (recordIn (reply .book)))
-        → none ≡ sideWith noPlaces → apart ≡ bookWith (withSide buys (placesOn none) (recordIn (reply .book)))
+    pub worked-accepted : reply .refusal ≡ 0 → (left apart : _) → left ≡ sideWith (sideOf buys (recordIn (reply .book)))
+        → apart ≡ bookWith (withSide buys noPlaces (recordIn (reply .book)))
         → (record { reply = record { refusal = reply .refusal; length = reply .length; book = apart }; places = left .places } ≡ workedOf it) × (out′ ≡ it .out)
-    worked-accepted z left apart none leftIs noneIs apartIs =
+    worked-accepted z left apart leftIs apartIs =
         let replyWhole = rw same-step at replyIs in
         let accepted = lent-accepted buys (recordIn book) table line out all is-empty (rw replyWhole at z) in
-        rw (accepted, apartIs, noneIs, leftIs, replyWhole) (refl, rw same-step at outIs)
+        rw (accepted, apartIs, leftIs, replyWhole) (refl, rw same-step at outIs)
 
   -- ── The same of the entry: the reply, what is left of the table, and what is left of the room ──
 
@@ -123,14 +123,14 @@ module _ (buys : Bool) (book : value.Book) (table : List Resting) (line out : Li
 -- ── A side taken out, lent, and put in again ──
 
 module _ (buys : Bool) (book : value.Book) (line out : List ℕ) (side : Side) (sideIs : side ≡ sideWith (sideOf buys (recordIn book)))
-    (none : Side) (noneIs : none ≡ sideWith noPlaces) (apart : value.Book) (apartIs : apart ≡ bookWith (withSide buys (placesOn none) (recordIn book)))
+    (apart : value.Book) (apartIs : apart ≡ bookWith (withSide buys noPlaces (recordIn book)))
     (worked : Worked) (workedIs : worked ≡ workedOf (lentStep buys (recordIn apart) (side .places) line out))
     (used : ℕ) (usedIs : used ≡ firstWhere isUnused (worked .places))
     (whole : value.Book) (wholeIs : whole ≡ bookWith (withSide buys (record { used = used; places = worked .places }) (recordIn (worked .reply .book)))) where
   pub lent-and-back : record { refusal = worked .reply .refusal; length = worked .reply .length; book = whole } ≡ replyOf (lendingStep buys (recordIn book) line out)
   unfolding lendingStep
-  lent-and-back = rw (wholeIs, usedIs, workedIs, apartIs, noneIs, sideIs) refl
+  lent-and-back = rw (wholeIs, usedIs, workedIs, apartIs, sideIs) refl
 
   pub lent-out : (out′ : List ℕ) → out′ ≡ lentStep buys (recordIn apart) (side .places) line out .out → out′ ≡ lendingStep buys (recordIn book) line out .out
   unfolding lendingStep
-  lent-out out′ e = e ∙ rw (apartIs, noneIs, sideIs) refl
+  lent-out out′ e = e ∙ rw (apartIs, sideIs) refl

@@ -2,16 +2,16 @@
 -- left as the core would leave it; a refusal leaves it untouched. The book lent with it has all places of that side zero, else
 -- refusal 2, and comes back so."
 use Prim.Native.Nat.{ℕ}
-use mathlib.Core.Bool.{Bool, true, _&&_}
-use mathlib.Core.List.{List, [], _∷_}
+use mathlib.Core.Bool.{Bool, false, _&&_}
+use mathlib.Core.List.{List}
 use mathlib.Core.Path.{_≡_}
-use lib.Dec.{eqb, ltb}
+use lib.Dec.{eqb}
 use lib.ListN.{length, replicate}
 use Rattle.basics.specs.Choice.{if_then_else_}
 use Rattle.basics.specs.Lists.{every, firstWhere}
 use Rattle.rules.specs.declared.Resting.{Resting}
 use Rattle.rules.specs.Book.{Places, BookRecord, placesASide, unused, isUnused}
-use Rattle.rules.specs.Refusals.{_givenWhen_, firstOf, leastRoom}
+use Rattle.rules.specs.Refusals.{firstOf, fitRefusals}
 use Rattle.rules.specs.Step.{Returned, step}
 use Rattle.book.specs.declared.Reply.{Reply}
 use Rattle.book.specs.Record.{bookWith}
@@ -70,7 +70,7 @@ unfoldable pub lentStep : Bool → BookRecord → List Resting → List ℕ → 
 lentStep buys r table line out =
     if fits buys r table then takenApart buys r table (step (withSide buys (placesIn table) r) line out)
     else record {
-      refusal = firstOf (1 givenWhen ltb (length out) leastRoom ∷ 2 givenWhen true ∷ []);
+      refusal = firstOf (fitRefusals (length out) false);
       length = 0;
       book = r;
       table = table;

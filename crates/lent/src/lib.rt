@@ -1,26 +1,25 @@
 // One side as a lent slice of resting-order records (01, The book: "one side as a lent table of resting-order records"), a thin layer
 // over the book by value: the table is put into the book, the book answers, and what it leaves is taken apart again.
 use book::Book;
+use book::NO_ORDERS;
 use book::Reply;
 use book::Side;
 use rows::PLACES;
 use rules::Resting;
-ghost use mathlib.Core.Bool.{true};
-ghost use mathlib.Core.List.{[], _∷_};
+ghost use mathlib.Core.Bool.{false};
 ghost use mathlib.Core.Path.{_≡_};
-ghost use lib.Dec.{ltb};
 ghost use Prim.Native.Nat.{_<_};
 ghost use lib.ListN.{length, getD, set, replicate};
 ghost use Rattle.basics.specs.Lists.{every, firstWhere};
 ghost use Rattle.book.specs.Record.{recordIn, bookWith, placesOn, sideWith, replyOf};
 ghost use Rattle.rules.specs.Book.{placesASide, unused, isUnused};
-ghost use Rattle.rules.specs.Refusals.{_givenWhen_, firstOf, leastRoom};
-ghost use Rattle.lent.specs.Lent.{noPlaces, isEmpty, sideOf, withSide, lentStep, workedOf, Answered, lendingStep};
+ghost use Rattle.rules.specs.Refusals.{firstOf, fitRefusals};
+ghost use Rattle.lent.specs.Lent.{isEmpty, sideOf, withSide, lentStep, workedOf, Answered, lendingStep};
 
 // What comes back: the reply, and the records of the table.
-pub struct Worked {
-    pub reply: Reply,
-    pub places: [Resting; PLACES],
+struct Worked {
+    reply: Reply,
+    places: [Resting; PLACES],
 }
 
 // ── The slice taken apart and put together: a function over a slice of structs is proved by hand ──
@@ -142,20 +141,11 @@ fn with_side(book: Book, buys: bool, side: Side) -> Book
     }
 }
 
-fn no_side() -> Side
-    ensures { λ r. ⌜ r ≡ sideWith noPlaces ⌝ }
-{
-    Side {
-        used: 0,
-        places: [rows::UNUSED; PLACES],
-    }
-}
-
 // Refusal 1, or else 2: the table does not fit, or that side of the book is not empty.
-pub fn refuse(book: Book, room: usize) -> Reply
-    ensures { λ r. ⌜ r ≡ record { refusal = firstOf (1 givenWhen ltb room leastRoom ∷ 2 givenWhen true ∷ []); length = 0; book = book } ⌝ }
+fn refuse(book: Book, room: usize) -> Reply
+    ensures { λ r. ⌜ r ≡ record { refusal = firstOf (fitRefusals room false); length = 0; book = book } ⌝ }
 {
-    let refusal = if room < 4096 { 1 } else { 2 };
+    let refusal = if room < rules::LEAST_ROOM { 1 } else { 2 };
     Reply {
         refusal: refusal,
         length: 0,
@@ -163,23 +153,22 @@ pub fn refuse(book: Book, room: usize) -> Reply
     }
 }
 
+fn worked_of(reply: Reply, places: [Resting; PLACES]) -> Worked
+    ensures { λ r. ⌜ r ≡ record { reply = reply; places = places } ⌝ }
+{
+    Worked {
+        reply: reply,
+        places: places,
+    }
+}
+
 // A line to a book of which one side is given as the records of a table.
-pub fn work(
-    book: Book,
-    buys: bool,
-    places: [Resting; PLACES],
-    line: &[u8],
-    out: &mut [u8],
-) -> Worked
+fn work(book: Book, buys: bool, places: [Resting; PLACES], line: &[u8], out: &mut [u8]) -> Worked
     ensures { λ r. ⌜ (r ≡ workedOf (lentStep buys (recordIn book) places (now (line .entry)) (now (out .entry)))) × (now (out .exit) ≡ lentStep buys (recordIn book) places (now (line .entry)) (now (out .entry)) .out) ⌝ }
 {
     let side = side_of(book, buys);
     if !is_empty(side) {
-        let reply = refuse(book, out.len());
-        return Worked {
-            reply: reply,
-            places: places,
-        };
+        return worked_of(refuse(book, out.len()), places);
     }
     let lent = Side {
         used: used_in(places),
@@ -192,23 +181,17 @@ pub fn work(
             book: book,
             ..reply
         };
-        return Worked {
-            reply: refused,
-            places: places,
-        };
+        return worked_of(refused, places);
     }
     let after = reply.book;
     let left = side_of(after, buys);
     let rest = left.places;
-    let apart = with_side(after, buys, no_side());
+    let apart = with_side(after, buys, NO_ORDERS);
     let accepted = Reply {
         book: apart,
         ..reply
     };
-    Worked {
-        reply: accepted,
-        places: rest,
-    }
+    worked_of(accepted, rest)
 }
 
 fn reply_of(worked: Worked) -> Reply
@@ -238,15 +221,6 @@ pub fn answer(book: Book, buys: bool, table: &mut [Resting], line: &[u8], out: &
     reply_of(worked)
 }
 
-fn worked_of(reply: Reply, places: [Resting; PLACES]) -> Worked
-    ensures { λ r. ⌜ r ≡ record { reply = reply; places = places } ⌝ }
-{
-    Worked {
-        reply: reply,
-        places: places,
-    }
-}
-
 // The same for a caller that has the records of that side by value: they are lent as a slice.
 fn answer_over(
     book: Book,
@@ -269,7 +243,7 @@ pub fn answer_lending(book: Book, buys: bool, line: &[u8], out: &mut [u8]) -> Re
 {
     let side = side_of(book, buys);
     let places = side.places;
-    let apart = with_side(book, buys, no_side());
+    let apart = with_side(book, buys, NO_ORDERS);
     let worked = answer_over(apart, buys, places, line, out);
     let left = worked.places;
     let reply = worked.reply;

@@ -18,8 +18,8 @@ use Rattle.rules.specs.Book.{placesASide}
 use Rattle.rules.specs.Instructions.{displayed, has}
 use Rattle.rules.specs.Refusals.{isRest}
 use Rattle.rules.specs.Working.{buying, takings, remainder, endingWith, ending, executions, lastLine, withRemainder, after}
-use Rattle.side.specs.declared.Stop.{Stop}
-use Rattle.side.specs.Walk.{tookTo}
+use Rattle.walk.specs.declared.Stop.{Stop}
+use Rattle.walk.specs.Walk.{tookTo}
 use Rattle.work.specs.Stopping.{Workable, stopFor}
 use Rattle.work.proofs.LawsStopping.{stop-takings, stop-remainder}
 use Rattle.matching.specs.declared.Matched.{Matched}

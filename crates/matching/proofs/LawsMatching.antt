@@ -1,30 +1,25 @@
 -- Laws of matching: an order put in at its place is 01's insert by rank, and how many orders a walk leaves. Assumes nothing.
-use Prim.Native.Nat.{ℕ, suc, _+_, _-_, _*_, _≤_, _<_}
+use Prim.Native.Nat.{ℕ, suc, _+_, _-_, _≤_, _<_}
 use mathlib.Core.Bool.{Bool, true, false}
-use mathlib.Core.List.{List, [], _∷_, _++_, map, append-nil}
+use mathlib.Core.List.{List, [], _∷_, _++_, append-nil}
 use mathlib.Core.Logic.{⊎-elim}
 use mathlib.Core.Path.{_≡_, refl, sym, ap, _∙_}
-use lib.ListN.{length, getD, take, drop, length-append, length-drop, length-set}
-use lib.Seq.{length-take-le}
+use lib.ListN.{length, take, drop, length-append, length-drop, length-set}
 use native.Mathlib.Omega.{arith}
 use Rattle.basics.specs.Bytes.{onto, ontoFrom}
 use Rattle.basics.specs.Lists.{firstWhere, insertAt}
 use Rattle.basics.proofs.LawsBytes.{onto-next, onto-part}
 use Rattle.basics.proofs.LawsChoice.{holds-or-not, lt-or-le}
 use Rattle.fills.specs.Fills.{StopsIn}
-use Rattle.fills.proofs.LawsFills.{after-whole, after-part, executions-whole, executions-part}
-use Rattle.kinds.specs.declared.Number.{Number}
-use Rattle.reports.specs.Reports.{takenWhole}
-use Rattle.reports.proofs.LawsReports.{lines-length}
+use Rattle.fills.proofs.LawsFills.{after-whole, after-part}
 use Rattle.rules.specs.declared.Event.{Event}
-use Rattle.rules.specs.declared.Event.the-variants.{Executed}
 use Rattle.rules.specs.declared.Resting.{Resting}
-use Rattle.rules.specs.Book.{placesASide, unused, ranksBefore}
+use Rattle.rules.specs.Book.{ranksBefore}
 use Rattle.rules.specs.EventLines.{eventLine, eventLines}
-use Rattle.rules.specs.Working.{executions, after, insert}
-use Rattle.rules.proofs.LawsEvents.{executed-length, eventLines-append}
-use Rattle.side.specs.declared.Stop.{Stop}
-use Rattle.side.specs.Walk.{tookTo}
+use Rattle.rules.specs.Working.{after, insert}
+use Rattle.rules.proofs.LawsEvents.{eventLines-append}
+use Rattle.walk.specs.declared.Stop.{Stop}
+use Rattle.walk.specs.Walk.{tookTo}
 
 -- ── A new order's place ──
 
@@ -86,27 +81,3 @@ line-behind es e len x out part l d p =
     ∙ ap (ontoFrom len (eventLine e)) d
     ∙ onto-next (eventLines es) (eventLine e) out len (sym l)
     ∙ ap (λ (y : List ℕ). onto y out) (sym (eventLines-more es e))
-
--- ── The room that the executions of a walk take ──
-
-pub executions-room : (n : Number) (s : List Resting) (stop : Stop) → StopsIn s stop → length s ≤ placesASide
-    → length (eventLines (executions n s (tookTo (stop .at) (stop .part .0) s))) ≤ 2240
-executions-room n s stop i most =
-    let taken = map (takenWhole n) (take (stop .at) s) in
-    let w : length (eventLines taken) ≡ 35 * stop .at =
-    lines-length (takenWhole n) 35 (λ h. executed-length n (h .number) (h .price) (h .shares)) (take (stop .at) s)
-    ∙ ap (λ (k : ℕ). 35 * k) (length-take-le (stop .at) s (i .place)) in
-    ⊎-elim
-    (λ (l : 0 < stop .part .0).
-    let k = i .keeps l in
-    let o = getD s (stop .at) unused in
-    let e : length (eventLines (executions n s (tookTo (stop .at) (stop .part .0) s))) ≡ length (eventLines taken) + length (eventLine (Executed n (o .number) (o .price) (stop .part))) =
-    ap (λ (x : List Event). length (eventLines x)) (executions-part (i .holding) n (stop .at) (stop .part .0) (k .0) l)
-    ∙ length-more taken (Executed n (o .number) (o .price) (stop .part)) in
-    omega (arith, e, w, k .0, executed-length n (o .number) (o .price) (stop .part)))
-    (λ (l : stop .part .0 ≤ 0).
-    let z : stop .part .0 ≡ 0 = omega arith in
-    let e : length (eventLines (executions n s (tookTo (stop .at) (stop .part .0) s))) ≡ length (eventLines taken) =
-    rw z (ap (λ (x : List Event). length (eventLines x)) (executions-whole (i .holding) n (stop .at))) in
-    omega (arith, e, w, i .place))
-    (lt-or-le 0 (stop .part .0))

@@ -6,7 +6,7 @@ use rules::Away;
 use rules::Ending;
 use rules::Order;
 use rules::Resting;
-use side::Stop;
+use walk::Stop;
 ghost use mathlib.Core.List.{[], _∷_, _++_};
 ghost use mathlib.Core.Bool.{true, not};
 ghost use mathlib.Core.Path.{_≡_};
@@ -16,13 +16,14 @@ ghost use Rattle.basics.specs.Bytes.{onto};
 ghost use Rattle.basics.specs.Choice.{if_then_else_};
 ghost use Rattle.basics.specs.Lists.{All};
 ghost use Rattle.fills.specs.Fills.{StopsIn};
+ghost use Rattle.kinds.specs.Kinds.{largest};
 ghost use Rattle.rows.specs.Table.{side, tableOf, Holds};
 ghost use Rattle.rules.specs.Book.{placesASide, inRankOrder};
 ghost use Rattle.rules.specs.EventLines.{eventLines};
-ghost use Rattle.rules.specs.Refusals.{isRest};
+ghost use Rattle.rules.specs.Refusals.{isRest, leastRoom};
 ghost use Rattle.rules.specs.Working.{executions, after, insert, lastLine, withRemainder, buying, lockingPrice};
 ghost use Rattle.rules.specs.declared.Event.the-variants.{Rested, Cancelled};
-ghost use Rattle.side.specs.Walk.{tookTo};
+ghost use Rattle.walk.specs.Walk.{tookTo};
 ghost use Rattle.work.specs.Stopping.{Workable};
 ghost use Rattle.matching.specs.Matching.{matchOf, matched};
 
@@ -42,7 +43,7 @@ fn execute(
     number: Number,
     out: &mut [u8],
 ) -> usize
-    requires { ⌜ Holds n (now t) × StopsIn (side n (now t)) stop × (2240 ≤ length (now out)) ⌝ }
+    requires { ⌜ Holds n (now t) × StopsIn (side n (now t)) stop × (leastRoom ≤ length (now out)) ⌝ }
     ensures { λ r. ⌜ r ≡ length (eventLines (executions number (side n (now (t .entry))) (tookTo (stop .at) (stop .part .0) (side n (now (t .entry)))))) ⌝ }
     ensures { λ _. ⌜ now (t .exit) ≡ tableOf (after (side n (now (t .entry))) (tookTo (stop .at) (stop .part .0) (side n (now (t .entry))))) ⌝ }
     ensures { λ _. ⌜ now (out .exit) ≡ onto (eventLines (executions number (side n (now (t .entry))) (tookTo (stop .at) (stop .part .0) (side n (now (t .entry)))))) (now (out .entry)) ⌝ }
@@ -54,11 +55,11 @@ fn execute(
 
 // An order rests on its side, at its rank.
 fn rest(t: &mut [[u32; 4]; PLACES], n: usize, buy: bool, o: Resting)
-    requires { ⌜ Holds n (now t) × (n < placesASide) ⌝ }
+    requires { ⌜ Holds n (now t) × (n < placesASide) × (inRankOrder buy (side n (now t)) ≡ true) ⌝ }
     ensures { λ _. ⌜ now (t .exit) ≡ tableOf (insert buy o (side n (now (t .entry)))) ⌝ }
 {
     let at = side::place(t, n, buy, o);
-    rows::insert(t, n, at, o);
+    shifts::insert(t, n, at, o);
 }
 
 // The executions of a walk, and then the shares left of the order are cancelled.
@@ -70,7 +71,7 @@ fn execute_and_cancel(
     reason: u8,
     out: &mut [u8],
 ) -> usize
-    requires { ⌜ Holds n (now t) × StopsIn (side n (now t)) stop × (4096 ≤ length (now out)) ⌝ }
+    requires { ⌜ Holds n (now t) × StopsIn (side n (now t)) stop × (leastRoom ≤ length (now out)) ⌝ }
     ensures { λ r. ⌜ r ≡ length (eventLines (executions number (side n (now (t .entry))) (tookTo (stop .at) (stop .part .0) (side n (now (t .entry)))) ++ (Cancelled number (stop .left) reason ∷ []))) ⌝ }
     ensures { λ _. ⌜ now (t .exit) ≡ tableOf (after (side n (now (t .entry))) (tookTo (stop .at) (stop .part .0) (side n (now (t .entry))))) ⌝ }
     ensures { λ _. ⌜ now (out .exit) ≡ onto (eventLines (executions number (side n (now (t .entry))) (tookTo (stop .at) (stop .part .0) (side n (now (t .entry)))) ++ (Cancelled number (stop .left) reason ∷ []))) (now (out .entry)) ⌝ }
@@ -92,7 +93,7 @@ fn execute_and_rest(
     order: Resting,
     out: &mut [u8],
 ) -> usize
-    requires { ⌜ Holds n (now own) × (n < placesASide) × Holds m (now opposite) × StopsIn (side m (now opposite)) stop × (4096 ≤ length (now out)) ⌝ }
+    requires { ⌜ Holds n (now own) × (n < placesASide) × Holds m (now opposite) × StopsIn (side m (now opposite)) stop × (leastRoom ≤ length (now out)) × (inRankOrder buy (side n (now own)) ≡ true) ⌝ }
     ensures { λ r. ⌜ r ≡ length (eventLines (executions (order .number) (side m (now (opposite .entry))) (tookTo (stop .at) (stop .part .0) (side m (now (opposite .entry)))) ++ (Rested (order .number) (order .price) (order .shares) ∷ []))) ⌝ }
     ensures { λ _. ⌜ now (own .exit) ≡ tableOf (insert buy order (side n (now (own .entry)))) ⌝ }
     ensures { λ _. ⌜ now (opposite .exit) ≡ tableOf (after (side m (now (opposite .entry))) (tookTo (stop .at) (stop .part .0) (side m (now (opposite .entry))))) ⌝ }
@@ -131,7 +132,7 @@ fn finish(
     m: usize,
     out: &mut [u8],
 ) -> usize
-    requires { ⌜ Holds n (now own) × (isRest end ≡ true → n < placesASide) × Holds m (now opposite) × StopsIn (side m (now opposite)) stop × (4096 ≤ length (now out)) ⌝ }
+    requires { ⌜ Holds n (now own) × (isRest end ≡ true → n < placesASide) × Holds m (now opposite) × StopsIn (side m (now opposite)) stop × (leastRoom ≤ length (now out)) × (inRankOrder (buying o) (side n (now own)) ≡ true) ⌝ }
     ensures { λ r. ⌜ r ≡ length (eventLines (executions number (side m (now (opposite .entry))) (tookTo (stop .at) (stop .part .0) (side m (now (opposite .entry)))) ++ lastLine number (stop .left .0) end)) ⌝ }
     ensures { λ _. ⌜ now (own .exit) ≡ tableOf (withRemainder number o (stop .left .0) end (side n (now (own .entry)))) ⌝ }
     ensures { λ _. ⌜ now (opposite .exit) ≡ tableOf (after (side m (now (opposite .entry))) (tookTo (stop .at) (stop .part .0) (side m (now (opposite .entry))))) ⌝ }
@@ -142,7 +143,7 @@ fn finish(
         Ending::Cancels(reason) => execute_and_cancel(opposite, m, stop, number, reason, out),
         Ending::Rests(price) => {
             let remainder = stop.left;
-            let displayed = judge::has(o.word, rules::DISPLAYED);
+            let displayed = instructions::has(o.word, rules::DISPLAYED);
             let order = Resting {
                 number: number,
                 price: price,
@@ -165,7 +166,7 @@ pub fn match_order(
     m: usize,
     out: &mut [u8],
 ) -> Matched
-    requires { ⌜ Holds n (now own) × Holds m (now opposite) × All Workable (side m (now opposite)) × (inRankOrder (not (buying o)) (side m (now opposite)) ≡ true) × (lockingPrice (buying o) away .0 < 4294967295) × (4096 ≤ length (now out)) ⌝ }
+    requires { ⌜ Holds n (now own) × Holds m (now opposite) × All Workable (side m (now opposite)) × (inRankOrder (not (buying o)) (side m (now opposite)) ≡ true) × (lockingPrice (buying o) away .0 < largest) × (leastRoom ≤ length (now out)) × (inRankOrder (buying o) (side n (now own)) ≡ true) ⌝ }
     ensures { λ r. ⌜ r ≡ matched (matchOf o number away (side n (now (own .entry))) (side m (now (opposite .entry)))) ⌝ }
     ensures { λ _. ⌜ now (own .exit) ≡ tableOf (matchOf o number away (side n (now (own .entry))) (side m (now (opposite .entry))) .own) ⌝ }
     ensures { λ _. ⌜ now (opposite .exit) ≡ tableOf (matchOf o number away (side n (now (own .entry))) (side m (now (opposite .entry))) .opposite) ⌝ }

@@ -8,8 +8,9 @@ ghost use mathlib.Core.List.{[]};
 ghost use mathlib.Core.Path.{_≡_};
 ghost use Prim.Native.Nat.{_≤_, _<_};
 ghost use lib.ListN.{length};
-ghost use Rattle.commands.specs.Commands.{Stands};
+ghost use Rattle.replay.specs.Pieces.{partKept};
 ghost use Rattle.rows.specs.Table.{tableOf};
+ghost use Rattle.tables.specs.Answers.{Stands};
 
 fn fail_reading() {
     os::fail(b"yarvotem: reading standard input");
@@ -115,9 +116,9 @@ fn take_turn(
     sells: &mut [[u32; 4]; PLACES],
     out: &mut [u8],
 ) -> Turn
-    requires { ⌜ Stands h (now buys) (now sells) × (have ≤ 42) × (42 ≤ length (now input)) × (5 ≤ length (now out)) ⌝ }
+    requires { ⌜ Stands h (now buys) (now sells) × (have ≤ partKept) × (partKept ≤ length (now input)) × (5 ≤ length (now out)) ⌝ }
     ensures { λ r. ⌜ Stands (r .head) (now (buys .exit)) (now (sells .exit)) ⌝ }
-    ensures { λ r. ⌜ r .have ≤ 42 ⌝ }
+    ensures { λ r. ⌜ r .have ≤ partKept ⌝ }
 {
     let got = read_piece(input, have);
     let end = got.end;
@@ -154,7 +155,7 @@ pub fn run(
     sells: &mut [[u32; 4]; PLACES],
     out: &mut [u8],
 )
-    requires { ⌜ (now buys ≡ tableOf []) × (now sells ≡ tableOf []) × (42 ≤ length (now input)) × (5 ≤ length (now out)) ⌝ }
+    requires { ⌜ (now buys ≡ tableOf []) × (now sells ≡ tableOf []) × (partKept ≤ length (now input)) × (5 ≤ length (now out)) ⌝ }
 {
     let mut head = replay::begin();
     let mut have = 0;

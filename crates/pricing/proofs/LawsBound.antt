@@ -8,6 +8,7 @@ use native.Mathlib.Omega.{arith}
 use borrow.Author.Tests.{lt-ltb, le-ltb, ltb-true, ltb-false}
 use Rattle.basics.proofs.LawsChoice.{holds-or-not, lt-or-le}
 use Rattle.kinds.specs.declared.Cents.{Cents}
+use Rattle.kinds.specs.Kinds.{largest}
 use Rattle.rules.specs.declared.Away.{Away}
 use Rattle.rules.specs.declared.Order.{Order}
 use Rattle.rules.specs.Instructions.{has, iso, market}
@@ -60,13 +61,13 @@ within-second true f l p h = let k : l .0 < f .0 = ltb-true (l .0) (f .0) (sym (
 within-second false f l p h = let k : f .0 < l .0 = ltb-true (f .0) (l .0) (sym (not-not _) ∙ ap not h) in other-sell (f .0) (l .0) (p .0) (omega arith)
 
 -- a market order has no limit, and no price of four bytes is beyond the farthest
-within-limit : (o : Order) (price : Cents) → price .0 ≤ 4294967295 → not (beyond (buying o) (farthest o) price) ≡ (has (o .word) market || not (beyond (buying o) (o .price) price))
+within-limit : (o : Order) (price : Cents) → price .0 ≤ largest → not (beyond (buying o) (farthest o) price) ≡ (has (o .word) market || not (beyond (buying o) (o .price) price))
 unfolding farthest
 within-limit o price l =
     ⊎-elim
     (λ (m : has (o .word) market ≡ true).
     ⊎-elim
-    (λ (b : buying o ≡ true). rw (m, b, le-ltb 4294967295 (price .0) l))
+    (λ (b : buying o ≡ true). rw (m, b, le-ltb largest (price .0) l))
     (λ (b : buying o ≡ false). rw (m, b, le-ltb (price .0) 0 (omega arith)))
     (holds-or-not (buying o)))
     (λ (m : has (o .word) market ≡ false). rw m)
@@ -74,7 +75,7 @@ within-limit o price l =
 
 -- ── The bound ──
 
-pub within-bound : (o : Order) (away : Away) (price : Cents) → price .0 ≤ 4294967295 → not (beyond (buying o) (boundOf o away) price) ≡ mayTouch o away price
+pub within-bound : (o : Order) (away : Away) (price : Cents) → price .0 ≤ largest → not (beyond (buying o) (boundOf o away) price) ≡ mayTouch o away price
 unfolding boundOf
 within-bound o away price l =
     let locking = lockingPrice (buying o) away in

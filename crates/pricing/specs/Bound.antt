@@ -3,7 +3,7 @@
 use mathlib.Core.Bool.{not, _||_}
 use Rattle.basics.specs.Choice.{if_then_else_}
 use Rattle.kinds.specs.declared.Cents.{Cents}
-use Rattle.kinds.specs.Kinds.{cents}
+use Rattle.kinds.specs.Kinds.{largest, cents}
 use Rattle.rules.specs.declared.Away.{Away}
 use Rattle.rules.specs.declared.Order.{Order}
 use Rattle.rules.specs.Instructions.{iso, market, has}
@@ -13,7 +13,7 @@ use Rattle.rules.specs.Working.{buying, beyond, lockingPrice, absent}
 unfoldable pub farthest : Order → Cents
 farthest o =
     if not (has (o .word) market) then o .price
-    else if buying o then cents 4294967295
+    else if buying o then cents largest
     else cents 0
 
 -- the limit, or the away price where the limit is beyond it

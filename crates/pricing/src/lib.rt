@@ -6,10 +6,11 @@ use rules::Ending;
 use rules::Order;
 ghost use mathlib.Core.Path.{_≡_};
 ghost use Prim.Native.Nat.{_<_};
+ghost use Rattle.kinds.specs.Kinds.{largest};
 ghost use Rattle.rules.specs.Working.{buying, lockingPrice, oneCentLessAggressive, adjusted, seeks};
 ghost use Rattle.pricing.specs.Bound.{farthest, boundOf};
 
-pub fn locking_price(buy: bool, away: Away) -> Cents
+fn locking_price(buy: bool, away: Away) -> Cents
     ensures { λ r. ⌜ r ≡ lockingPrice buy away ⌝ }
 {
     if buy { away.offer } else { away.bid }
@@ -22,11 +23,11 @@ fn limit_of(o: Order) -> Cents
     ensures { λ r. ⌜ r ≡ farthest o ⌝ }
 {
     let price = o.price;
-    if !judge::has(o.word, rules::MARKET) {
+    if !instructions::has(o.word, rules::MARKET) {
         return price;
     }
     if o.side == 0 {
-        return Cents(4294967295);
+        return Cents(Cents::LARGEST);
     }
     Cents(0)
 }
@@ -38,10 +39,10 @@ pub fn bound_of(o: Order, away: Away) -> Cents
     let buy = o.side == 0;
     let limit = limit_of(o);
     let locking = locking_price(buy, away);
-    if judge::has(o.word, rules::ISO) | (locking.0 == 0) {
+    if instructions::has(o.word, rules::ISO) | (locking.0 == 0) {
         return limit;
     }
-    if side::within(buy, locking, limit) {
+    if walk::within(buy, locking, limit) {
         return limit;
     }
     locking
@@ -50,7 +51,7 @@ pub fn bound_of(o: Order, away: Away) -> Cents
 // ── Step 4: the price that a remainder seeks ──
 
 fn less_aggressive(buy: bool, p: Cents) -> Cents
-    requires { ⌜ p .0 < 4294967295 ⌝ }
+    requires { ⌜ p .0 < largest ⌝ }
     ensures { λ r. ⌜ r ≡ oneCentLessAggressive buy p ⌝ }
 {
     if buy {
@@ -63,7 +64,7 @@ fn less_aggressive(buy: bool, p: Cents) -> Cents
 fn adjust(o: Order, price: Cents) -> Ending
     ensures { λ r. ⌜ r ≡ adjusted o price ⌝ }
 {
-    if judge::has(o.word, rules::CANCEL_BACK) {
+    if instructions::has(o.word, rules::CANCEL_BACK) {
         return Ending::Cancels(4);
     }
     if price.in_range() {
@@ -73,17 +74,17 @@ fn adjust(o: Order, price: Cents) -> Ending
 }
 
 pub fn seek(o: Order, away: Away) -> Ending
-    requires { ⌜ lockingPrice (buying o) away .0 < 4294967295 ⌝ }
+    requires { ⌜ lockingPrice (buying o) away .0 < largest ⌝ }
     ensures { λ r. ⌜ r ≡ seeks o away ⌝ }
 {
     let buy = o.side == 0;
     let price = o.price;
     let locking = locking_price(buy, away);
-    if judge::has(o.word, rules::ISO) | (locking.0 == 0) {
+    if instructions::has(o.word, rules::ISO) | (locking.0 == 0) {
         return Ending::Rests(price);
     }
-    let crosses = !side::within(buy, locking, price);
-    let displayed = judge::has(o.word, rules::DISPLAYED);
+    let crosses = !walk::within(buy, locking, price);
+    let displayed = instructions::has(o.word, rules::DISPLAYED);
     if displayed & ((price.0 == locking.0) | crosses) {
         return adjust(o, less_aggressive(buy, locking));
     }

@@ -8,7 +8,7 @@ use lib.Count.{ones, onesIn}
 use lib.ListN.{take}
 use native.Mathlib.Omega.{arith}
 use Rattle.basics.specs.Bytes.{onto}
-use Rattle.basics.specs.Lists.{every, any, distinct, total}
+use Rattle.basics.specs.Lists.{every, any, distinct, total, sumOf}
 use Rattle.digits.specs.Digits.{digits, nibbleOf, allDigits, numberAfter, numberIn}
 use Rattle.kinds.specs.Kinds.{number}
 use Rattle.rules.specs.Book.{fresh, ranksBefore, inRankOrder, apart, sound}
@@ -70,7 +70,7 @@ away-price-kills =
 
 -- the next order executes 200 shares, and no lawful share-out gives it more
 takes-200 : executedIn (number 6) (eventsIn (printed (answerTo (bookAfter fresh (take 6 night)) (lineOf theGreedy)))) ≡ 200
-unfolding ones onesIn onto every any distinct total digits nibbleOf allDigits numberAfter numberIn ranksBefore inRankOrder apart sound written lineOf numbersFrom orderIn cancelIn quoteIn closeIn bodyIn commandIn lawful firstOf restsOnFullSide headerRefusals bodyRefusals lineRefusals refusals doneBy answer answerTo nothing walk walked takings remainder executions after seeks endingWith ending insert accept kept cancels cancel quote close does bookAfter joined linesIn printed eventLine eventLines refusalLine eventIn eventsOn executedIn
+unfolding ones onesIn onto every any distinct total digits nibbleOf allDigits numberAfter numberIn ranksBefore inRankOrder apart sound written lineOf numbersFrom orderIn cancelIn quoteIn closeIn bodyIn commandIn lawful firstOf restsOnFullSide headerRefusals bodyRefusals lineRefusals refusals doneBy answer answerTo nothing walk walked takings remainder executions after seeks endingWith ending insert accept kept cancels cancel quote close does bookAfter joined linesIn printed eventLine eventLines refusalLine eventIn eventsOn sumOf
 takes-200 = refl
 
 lives : isKilled (number 6) (eventsIn (printed (answerTo (bookAfter fresh (take 6 night)) (lineOf theGreedy)))) ≡ false
@@ -85,11 +85,11 @@ nobody-gives-more gs l =
 
 -- 150 shares are entered: 100 are executed, 50 rest and are cancelled at the close, none rests then
 executed-100 : executedIn (number 8) nightEvents ≡ 100
-unfolding executedIn
+unfolding sumOf
 executed-100 = refl
 
 cancelled-50 : cancelledIn (number 8) nightEvents ≡ 50
-unfolding cancelledIn
+unfolding sumOf
 cancelled-50 = refl
 
 pub none-rests : restingOf (number 8) (bookAfter fresh night) ≡ 0

@@ -1,19 +1,15 @@
 -- The first line of an input, as a loop finds it, and what is cut behind it. Assumes nothing.
-use Prim.Native.Nat.{ℕ, suc, _-_, _≤_, _<_}
-use mathlib.Core.Bool.{Bool, true, false}
+use Prim.Native.Nat.{ℕ, suc, _≤_, _<_}
+use mathlib.Core.Bool.{true, false}
 use mathlib.Core.List.{List, [], _∷_}
 use mathlib.Core.Logic.{⊎-elim}
 use mathlib.Core.Path.{_≡_, refl, ap}
-use lib.Dec.{eqb}
 use lib.ListN.{length, take, drop}
 use native.Mathlib.Omega.{arith}
 use Rattle.basics.specs.Lists.{firstWhere}
 use Rattle.basics.proofs.LawsChoice.{holds-or-not}
-use Rattle.rules.specs.CommandLines.{lineFeed}
+use Rattle.lines.specs.Lines.{isLineFeed}
 use Rattle.replay.specs.Pieces.{Cut, cut, inFront}
-
-abbrev pub isLineFeed : ℕ → Bool
-isLineFeed c = eqb c lineFeed
 
 -- ── The first line ──
 

@@ -11,7 +11,8 @@ use borrow.Author.Tests.{lt-ltb, le-ltb}
 use Rattle.basics.specs.Bytes.{onto}
 use Rattle.basics.specs.Lists.{firstWhere}
 use Rattle.basics.proofs.LawsBytes.{onto-none, onto-after, onto-part}
-use Rattle.commands.specs.Commands.{Stands}
+use Rattle.lines.specs.declared.Line.{Line}
+use Rattle.lines.specs.Lines.{isLineFeed, firstLine}
 use Rattle.rows.specs.Table.{tableOf}
 use Rattle.rows.proofs.LawsTable.{length-side, side-tableOf, holds-tableOf}
 use Rattle.rules.specs.Book.{Book, sound}
@@ -22,13 +23,12 @@ use Rattle.rules.specs.Step.{Answer, answerTo}
 use Rattle.soundness.proofs.LawsKept.{answer-sound}
 use Rattle.soundness.proofs.LawsSound.{sound-is}
 use Rattle.tables.specs.declared.Head.{Head}
+use Rattle.tables.specs.Answers.{Stands}
 use Rattle.tables.specs.Tables.{bookOn, headOf}
 use Rattle.replay.specs.declared.Fed.{Fed}
-use Rattle.replay.specs.declared.Line.{Line}
-use Rattle.replay.specs.Lines.{firstLine}
 use Rattle.replay.specs.Feed.{answerFor, Worked, nothingOf, behind, worked, fedBy}
 use Rattle.replay.specs.Pieces.{Cut, cut}
-use Rattle.replay.proofs.LawsCut.{isLineFeed, cut-line, cut-none}
+use Rattle.replay.proofs.LawsCut.{cut-line, cut-none}
 
 -- ── A sound book in its header and tables ──
 

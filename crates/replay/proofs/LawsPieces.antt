@@ -1,5 +1,5 @@
--- An input is printed the same wherever it is cut into pieces, though of a part of a line no more than 42 bytes are kept.
--- Assumes nothing.
+-- An input is printed the same wherever it is cut into pieces, though of a part of a line no more is kept than one byte over the
+-- longest line. Assumes nothing.
 use Prim.Native.Nat.{ℕ, _≤_, _<_}
 use mathlib.Core.Bool.{true, false}
 use mathlib.Core.List.{List, [], _∷_, _++_, append-assoc, append-nil}
@@ -12,6 +12,7 @@ use native.Mathlib.Omega.{arith}
 use Rattle.basics.specs.Lists.{none, also}
 use Rattle.basics.proofs.LawsLists.{all-both}
 use Rattle.basics.proofs.LawsChoice.{holds-or-not, lt-or-le}
+use Rattle.lines.proofs.LawsLines.{unended-bad}
 use Rattle.rules.specs.Book.{Book, fresh}
 use Rattle.rules.specs.CommandLines.{lineFeed}
 use Rattle.rules.specs.Day.{joined, linesIn, bookAfter, printed, printedOf, output}
@@ -19,7 +20,7 @@ use Rattle.rules.specs.EventLines.{refusalLine}
 use Rattle.rules.specs.Step.{answerTo}
 use Rattle.replay.specs.Pieces.{Cut, inFront, cut, partKept, begun, printedAtEnd, printedOfPieces, allOf}
 use Rattle.rules.proofs.LawsUnended.{Unended}
-use Rattle.replay.proofs.LawsLines.{unended-take, long-bad, unended-bad, printedOf-bad, bookAfter-bad}
+use Rattle.replay.proofs.LawsLines.{unended-take, long-bad, printedOf-bad, bookAfter-bad}
 
 -- ── Lines in front of lines ──
 

@@ -2,6 +2,5 @@ pub mod LawsLines
 pub mod LawsPieces
 pub mod LawsCut
 pub mod LawsFeed
-pub mod LawsFirst
 pub mod LawsPrinted
 pub mod Determined

@@ -1,13 +1,13 @@
 -- A day as a step on pieces of its input, however it is cut (01, Examples from the desk: "Program, whole input then whole output").
 -- Between two pieces the book stands, and the part of a line that the next piece goes on with. `LawsPieces` shows that the pieces
 -- of an input give what `Day.output` says of it, wherever it is cut.
-use Prim.Native.Nat.{ℕ}
+use Prim.Native.Nat.{ℕ, _+_}
 use mathlib.Core.List.{List, [], _∷_, _++_}
 use lib.Dec.{eqb}
 use lib.ListN.{take}
 use Rattle.basics.specs.Choice.{if_then_else_}
 use Rattle.rules.specs.Book.{Book, fresh}
-use Rattle.rules.specs.CommandLines.{lineFeed}
+use Rattle.rules.specs.CommandLines.{longestLine, lineFeed}
 use Rattle.rules.specs.Day.{bookAfter, printedOf}
 use Rattle.rules.specs.EventLines.{refusalLine}
 
@@ -27,9 +27,10 @@ cut (c ∷ s) =
     if eqb c lineFeed then record { whole = (c ∷ []) ∷ cut s .whole; part = cut s .part }
     else inFront c (cut s .whole) (cut s .part)
 
--- "a line over 41 bytes" is refused whatever its bytes are, so of a part no more than 42 bytes are kept: memory stays bounded
+-- "a line over 41 bytes" is refused whatever its bytes are, so of a part no more is kept than one byte over the longest line:
+-- memory stays bounded
 abbrev pub partKept : ℕ
-partKept = 42
+partKept = longestLine + 1
 
 pub record Carried : Type 0 where
   pub book : Book

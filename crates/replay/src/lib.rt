@@ -8,19 +8,16 @@ use rules::Reading;
 use tables::Head;
 ghost use mathlib.Core.Path.{_≡_};
 ghost use Prim.Native.Nat.{_+_, _≤_, min};
-ghost use lib.Dec.{eqb};
 ghost use lib.ListN.{length};
 ghost use Rattle.basics.specs.Bytes.{onto};
-ghost use Rattle.basics.specs.Lists.{firstWhere, moved};
-ghost use Rattle.commands.specs.Commands.{Stands};
+ghost use Rattle.basics.specs.Lists.{moved};
 ghost use Rattle.rows.specs.Table.{tableOf};
 ghost use Rattle.rules.specs.Book.{fresh};
-ghost use Rattle.rules.specs.CommandLines.{lineFeed};
 ghost use Rattle.rules.specs.Day.{printed};
 ghost use Rattle.rules.specs.Refusals.{leastRoom};
+ghost use Rattle.tables.specs.Answers.{Stands};
 ghost use Rattle.tables.specs.Tables.{bookOn, headOf};
 ghost use Rattle.replay.specs.Feed.{worked, answerFor, printedStep, fedBy};
-ghost use Rattle.replay.specs.Lines.{digitsAfter, firstLine, otherLine};
 ghost use Rattle.replay.specs.Pieces.{cut, partKept};
 
 // What a line leaves: the header, and the length of what is printed of it.
@@ -55,71 +52,6 @@ pub fn begin() -> Head
 }
 
 // ── A line ──
-
-// The first line of some bytes: how many stand before its line feed, and what it reads as.
-pub struct Line {
-    pub digits: usize,
-    pub reading: Reading,
-}
-
-// How many digits a command has whose second digit is `c`.
-fn digits_after(c: u8) -> usize
-    ensures { λ r. ⌜ r ≡ digitsAfter c ⌝ }
-{
-    match c {
-        49 => 40,
-        50 => 26,
-        51 => 34,
-        52 => 18,
-        _ => 0,
-    }
-}
-
-// The place of the first line feed, or the length where there is none.
-fn scan_line(s: &[u8]) -> usize
-    ensures { λ r. ⌜ r ≡ firstWhere (λ c. eqb c lineFeed) (now (s .entry)) ⌝ }
-{
-    let mut i = 0;
-    while i < s.len() {
-        if s[i] == 10 {
-            return i;
-        }
-        i += 1;
-    }
-    i
-}
-
-// The first line, where it is no command.
-fn other_line(s: &[u8]) -> Line
-    ensures { λ r. ⌜ r ≡ otherLine (now (s .entry)) ⌝ }
-{
-    let n = scan_line(s);
-    Line {
-        digits: n,
-        reading: Reading::Bad,
-    }
-}
-
-// Most lines are commands: the bytes of one are read first, and where they are one, no other byte of them is a line feed. Only a
-// line that is none is looked through for its end.
-fn first_line(s: &[u8]) -> Line
-    ensures { λ r. ⌜ r ≡ firstLine (now (s .entry)) ⌝ }
-{
-    if s.len() < 2 {
-        return other_line(s);
-    }
-    let n = digits_after(s[1]);
-    if s.len() <= n {
-        return other_line(s);
-    }
-    let Reading::Is(c) = reader::read_command(&s[0..n + 1]) else {
-        return other_line(s);
-    };
-    Line {
-        digits: n,
-        reading: Reading::Is(c),
-    }
-}
 
 // What is printed of a line that reads so: its event lines, or the line of its refusal.
 fn print_line(
@@ -179,10 +111,10 @@ pub fn feed(
     let mut at = 0;
     let mut length = 0;
     loop {
-        if out.len() - length < 4096 {
+        if out.len() - length < rules::LEAST_ROOM {
             break;
         }
-        let line = first_line(&input[at..]);
+        let line = lines::first_line(&input[at..]);
         if input.len() - at <= line.digits {
             break;
         }
@@ -199,15 +131,15 @@ pub fn feed(
     }
 }
 
-// Moves the part of a line that stands from `from` to `end` to the front, of which no more than 42 bytes are kept, and tells how
-// many these are.
+// Moves the part of a line that stands from `from` to `end` to the front, of which no more is kept than one byte over the longest
+// line, and tells how many bytes these are.
 pub fn carry(input: &mut [u8], from: usize, end: usize) -> usize
     requires { ⌜ (from ≤ end) × (end ≤ length (now input)) ⌝ }
     ensures { λ r. ⌜ from + r ≡ min end (from + partKept) ⌝ }
     ensures { λ _. ⌜ now (input .exit) ≡ moved (now (input .entry)) from (min end (from + partKept)) ⌝ }
 {
     let mut i = from;
-    while (i < end) & (i - from < 42) {
+    while (i < end) & (i - from <= rules::LONGEST_LINE) {
         input[i - from] = input[i];
         i += 1;
     }

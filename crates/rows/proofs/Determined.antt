@@ -7,10 +7,6 @@ use Rattle.rules.specs.declared.Resting.{Resting}
 use Rattle.rows.proofs.is_unused.Reads as is-unused
 use Rattle.rows.proofs.row.Reads as row
 use Rattle.rows.proofs.put_row.Reads as put-row
-use Rattle.rows.proofs.insert.Reads as insert
-use Rattle.rows.proofs.remove.Reads as remove
-use Rattle.rows.proofs.drop_first.Reads as drop-first
-use Rattle.rows.proofs.reduce.Reads as reduce
 
 pub is-unused-determined : (κs : _) (a : _) (r r′ : Bool) (s s′ : _) → is-unused.Post κs a r s → is-unused.Post κs a r′ s′ → r ≡ r′
 is-unused-determined κs a r r′ s s′ p q = p ∙ sym q
@@ -20,15 +16,3 @@ row-determined κs a r r′ s s′ p q = p ∙ sym q
 
 pub put-row-determined : (κs : _) (a : _) (r r′ : _) (s s′ : _) → put-row.Post κs a r s → put-row.Post κs a r′ s′ → now (s .0) ≡ now (s′ .0)
 put-row-determined κs a r r′ s s′ p q = p ∙ sym q
-
-pub insert-determined : (κs : _) (a : _) (r r′ : _) (s s′ : _) → insert.Post κs a r s → insert.Post κs a r′ s′ → now (s .0) ≡ now (s′ .0)
-insert-determined κs a r r′ s s′ p q = p ∙ sym q
-
-pub remove-determined : (κs : _) (a : _) (r r′ : _) (s s′ : _) → remove.Post κs a r s → remove.Post κs a r′ s′ → now (s .0) ≡ now (s′ .0)
-remove-determined κs a r r′ s s′ p q = p ∙ sym q
-
-pub drop-first-determined : (κs : _) (a : _) (r r′ : _) (s s′ : _) → drop-first.Post κs a r s → drop-first.Post κs a r′ s′ → now (s .0) ≡ now (s′ .0)
-drop-first-determined κs a r r′ s s′ p q = p ∙ sym q
-
-pub reduce-determined : (κs : _) (a : _) (r r′ : _) (s s′ : _) → reduce.Post κs a r s → reduce.Post κs a r′ s′ → now (s .0) ≡ now (s′ .0)
-reduce-determined κs a r r′ s s′ p q = p ∙ sym q

@@ -51,11 +51,11 @@ abbrev pub better : Bool → Cents → Cents → Bool
 better buy p q = if buy then ltb (q .0) (p .0) else ltb (p .0) (q .0)
 
 -- "at one price displayed before non-displayed; then lower number"
+abbrev pub firstAtOnePrice : Resting → Resting → Bool
+firstAtOnePrice x y = if not (Bool·beq (x .displayed) (y .displayed)) then x .displayed else ltb (x .number .0) (y .number .0)
+
 unfoldable pub ranksBefore : Bool → Resting → Resting → Bool
-ranksBefore buy x y =
-    if not (eqb (x .price .0) (y .price .0)) then better buy (x .price) (y .price)
-    else if not (Bool·beq (x .displayed) (y .displayed)) then x .displayed
-    else ltb (x .number .0) (y .number .0)
+ranksBefore buy x y = if not (eqb (x .price .0) (y .price .0)) then better buy (x .price) (y .price) else firstAtOnePrice x y
 
 -- "in strict rank order"
 unfoldable pub inRankOrder : Bool → List Resting → Bool
@@ -79,6 +79,10 @@ apart [] sells = true
 apart (b ∷ buys) [] = true
 apart (b ∷ buys) (s ∷ sells) = ltb (b .price .0) (s .price .0)
 
+-- the numbers of some orders
+abbrev pub numbers : List Resting → List ℕ
+numbers s = map (λ (o : Resting). o .number .0) s
+
 -- "Sound: counts at most 64; used places in strict rank order; fields in range; numbers from 1 to the last number, none
 -- twice over both sides; .. best buy below best sell; time 34,200,000 to 57,600,000; away prices 0 or 100 to 200,000; a
 -- closed book holds no orders." (The clause left out, on unused places, is `placesSound` below.)
@@ -90,7 +94,7 @@ sound b =
     && inRankOrder true (b .buys)
     && inRankOrder false (b .sells)
     && every (restingInRange (b .last)) orders
-    && distinct (map (λ (o : Resting). o .number .0) orders)
+    && distinct (numbers orders)
     && apart (b .buys) (b .sells)
     && leb opening (b .time)
     && leb (b .time) closing

@@ -5,14 +5,44 @@ use Rattle.rules.specs.CommandLines.{line}
 use Rattle.rules.specs.declared.Event.{Event}
 use Rattle.rules.specs.declared.Event.the-variants.{Executed, Rested, Cancelled}
 
--- "`11` execution (incoming number, resting number, price, shares); `12` rested (number, price, shares); `13` cancelled
--- (number, shares, reason in 1 byte). The number in `12` and `13` is the order's own, never the cancelling command's. All
--- other fields have 4 bytes."
+-- ── The three kinds ──
+
+abbrev pub executedKind : ℕ
+executedKind = 0x11
+
+abbrev pub restedKind : ℕ
+restedKind = 0x12
+
+abbrev pub cancelledKind : ℕ
+cancelledKind = 0x13
+
+-- the widths of a line's fields in bytes, its kind first. "`11` execution (incoming number, resting number, price, shares)"
+abbrev pub executedForm : List ℕ
+executedForm = 1 ∷ 4 ∷ 4 ∷ 4 ∷ 4 ∷ []
+
+-- "`12` rested (number, price, shares)"
+abbrev pub restedForm : List ℕ
+restedForm = 1 ∷ 4 ∷ 4 ∷ 4 ∷ []
+
+-- "`13` cancelled (number, shares, reason in 1 byte)". "All other fields have 4 bytes."
+abbrev pub cancelledForm : List ℕ
+cancelledForm = 1 ∷ 4 ∷ 4 ∷ 1 ∷ []
+
+abbrev pub eventForm : Event → List ℕ
+eventForm (Executed incoming resting price shares) = executedForm
+eventForm (Rested number price shares) = restedForm
+eventForm (Cancelled number shares reason) = cancelledForm
+
+-- "The number in `12` and `13` is the order's own, never the cancelling command's."
+abbrev pub eventNumbers : Event → List ℕ
+eventNumbers (Executed incoming resting price shares) = executedKind ∷ incoming .0 ∷ resting .0 ∷ price .0 ∷ shares .0 ∷ []
+eventNumbers (Rested number price shares) = restedKind ∷ number .0 ∷ price .0 ∷ shares .0 ∷ []
+eventNumbers (Cancelled number shares reason) = cancelledKind ∷ number .0 ∷ shares .0 ∷ reason ∷ []
+
+-- ── Lines ──
+
 unfoldable pub eventLine : Event → List ℕ
-eventLine (Executed incoming resting price shares) =
-    line (1 ∷ 4 ∷ 4 ∷ 4 ∷ 4 ∷ []) (0x11 ∷ incoming .0 ∷ resting .0 ∷ price .0 ∷ shares .0 ∷ [])
-eventLine (Rested number price shares) = line (1 ∷ 4 ∷ 4 ∷ 4 ∷ []) (0x12 ∷ number .0 ∷ price .0 ∷ shares .0 ∷ [])
-eventLine (Cancelled number shares reason) = line (1 ∷ 4 ∷ 4 ∷ 1 ∷ []) (0x13 ∷ number .0 ∷ shares .0 ∷ reason ∷ [])
+eventLine e = line (eventForm e) (eventNumbers e)
 
 -- "Each line goes into the rest of the output, from its first free byte."
 unfoldable pub eventLines : List Event → List ℕ
@@ -20,8 +50,14 @@ eventLines [] = []
 eventLines (e ∷ es) = eventLine e ++ eventLines es
 
 -- "The program prints `1f` and the number as one byte, then a line feed."
+abbrev pub refusalKind : ℕ
+refusalKind = 0x1f
+
+abbrev pub refusalForm : List ℕ
+refusalForm = 1 ∷ 1 ∷ []
+
 unfoldable pub refusalLine : ℕ → List ℕ
-refusalLine code = line (1 ∷ 1 ∷ []) (0x1f ∷ code ∷ [])
+refusalLine code = line refusalForm (refusalKind ∷ code ∷ [])
 
 -- "Cancel reasons: 1 by command, 2 IOC remainder, 3 FOK, 4 Cancel Back, 5 no price in range, 6 Post Only meets the book,
 -- 7 close."

@@ -33,6 +33,21 @@ pub const ISO: u16 = 256;
 
 pub const MARKET: u16 = 512;
 
+// How many digits a command of each kind has with its header.
+pub const ORDER_DIGITS: usize = 40;
+
+pub const CANCEL_DIGITS: usize = 26;
+
+pub const QUOTE_DIGITS: usize = 34;
+
+pub const CLOSE_DIGITS: usize = 18;
+
+// The bytes of the longest command line, an order's, with its line feed: a longer one is refused whatever its bytes are.
+pub const LONGEST_LINE: usize = ORDER_DIGITS + 1;
+
+// "Output room below 4,096 bytes" is refusal 1.
+pub const LEAST_ROOM: usize = 4096;
+
 // The body of an order: 0 buys and 1 sells; the price is 0 for a market order.
 pub struct Order {
     pub side: u8,

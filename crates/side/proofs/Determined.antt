@@ -3,12 +3,9 @@
 use mathlib.Core.Path.{_≡_, sym, _∙_}
 use Prim.Native.Nat.{ℕ}
 use mathlib.Core.Bool.{Bool}
-use Rattle.side.specs.declared.Stop.{Stop}
 use Rattle.side.proofs.find.Reads as find
 use Rattle.side.proofs.ranks_before.Reads as ranks-before
 use Rattle.side.proofs.place.Reads as place
-use Rattle.side.proofs.within.Reads as within
-use Rattle.side.proofs.walk.Reads as walk
 
 pub find-determined : (κs : _) (a : _) (r r′ : ℕ) (s s′ : _) → find.Post κs a r s → find.Post κs a r′ s′ → r ≡ r′
 find-determined κs a r r′ s s′ p q = p ∙ sym q
@@ -18,9 +15,3 @@ ranks-before-determined κs a r r′ s s′ p q = p ∙ sym q
 
 pub place-determined : (κs : _) (a : _) (r r′ : ℕ) (s s′ : _) → place.Post κs a r s → place.Post κs a r′ s′ → r ≡ r′
 place-determined κs a r r′ s s′ p q = p ∙ sym q
-
-pub within-determined : (κs : _) (a : _) (r r′ : Bool) (s s′ : _) → within.Post κs a r s → within.Post κs a r′ s′ → r ≡ r′
-within-determined κs a r r′ s s′ p q = p ∙ sym q
-
-pub walk-determined : (κs : _) (a : _) (r r′ : Stop) (s s′ : _) → walk.Post κs a r s → walk.Post κs a r′ s′ → r ≡ r′
-walk-determined κs a r r′ s s′ p q = p ∙ sym q

@@ -1,49 +1,37 @@
--- Laws of a loop over the orders of a side, and of rank by values. Assumes nothing.
+-- Laws of a loop that looks for an order of a side, and of rank by values. Assumes nothing.
 use Prim.Native.Nat.{ℕ, _+_, _≤_, _<_}
 use mathlib.Core.Bool.{Bool, true, false, not, _&&_, _||_, Bool·beq}
-use mathlib.Core.List.{List, [], _∷_, map}
+use mathlib.Core.List.{List, []}
 use mathlib.Core.Logic.{⊎-elim}
-use mathlib.Core.Path.{_≡_, refl, sym, ap, _∙_}
+use mathlib.Core.Path.{_≡_, refl, ap, _∙_}
 use lib.Dec.{eqb, ltb}
-use lib.ListN.{length, getD, take, drop}
+use lib.ListN.{length, getD}
 use native.Mathlib.Omega.{arith}
 use borrow.Author.Tests.{eqb-true, le-ltb}
 use Rattle.basics.specs.Choice.{if_then_else_}
 use Rattle.basics.specs.Lists.{firstWhere}
 use Rattle.basics.proofs.LawsChoice.{holds-or-not, or-neither}
-use Rattle.basics.proofs.LawsLists.{ahead-none, ahead-cons}
 use Rattle.rows.specs.Table.{orderOf}
+use Rattle.rows.proofs.LawsTable.{ahead, ahead-end, ahead-next}
 use Rattle.rules.specs.declared.Resting.{Resting}
 use Rattle.rules.specs.Book.{ranksBefore}
 
--- ── A loop over the orders of a side ──
+-- ── A loop that looks for the first order that passes a test ──
 
--- the orders that lie ahead at place i
-abbrev pub ahead : ℕ → List (List ℕ) → ℕ → List Resting
-ahead n t i = map orderOf (drop i (take n t))
+-- one turn of it
+module _ (n : ℕ) (t : List (List ℕ)) (i : ℕ) (whole : n ≤ length t) (test : Resting → Bool) where
+  pub where-end : n ≤ i → i + firstWhere test (ahead n t i) ≡ i
+  unfolding firstWhere
+  where-end l = rw (ahead-end n t i whole l) (omega arith)
 
-module _ (n : ℕ) (t : List (List ℕ)) (i : ℕ) (whole : n ≤ length t) where
-  pub ahead-end : n ≤ i → ahead n t i ≡ []
-  ahead-end l = ap (map orderOf) (ahead-none [] t n i whole l)
+  pub where-found : i < n → (o : Resting) → o ≡ orderOf (getD t i []) → test o ≡ true → i + firstWhere test (ahead n t i) ≡ i
+  unfolding firstWhere
+  where-found l o e p = rw (ahead-next n t i whole l o e, p) (omega arith)
 
-  -- the next one is the order that was read
-  pub ahead-next : i < n → (o : Resting) → o ≡ orderOf (getD t i []) → ahead n t i ≡ o ∷ ahead n t (i + 1)
-  ahead-next l o e = ap (map orderOf) (ahead-cons [] t n i whole l) ∙ ap (λ (x : Resting). x ∷ ahead n t (i + 1)) (sym e)
-
-  -- one turn of a loop that looks for the first order that passes a test
-  module _ (test : Resting → Bool) where
-    pub where-end : n ≤ i → i + firstWhere test (ahead n t i) ≡ i
-    unfolding firstWhere
-    where-end l = rw (ahead-end l) (omega arith)
-
-    pub where-found : i < n → (o : Resting) → o ≡ orderOf (getD t i []) → test o ≡ true → i + firstWhere test (ahead n t i) ≡ i
-    unfolding firstWhere
-    where-found l o e p = rw (ahead-next l o e, p) (omega arith)
-
-    pub where-next : i < n → (o : Resting) → o ≡ orderOf (getD t i []) → test o ≡ false
-        → i + firstWhere test (ahead n t i) ≡ i + 1 + firstWhere test (ahead n t (i + 1))
-    unfolding firstWhere
-    where-next l o e p = rw (ahead-next l o e, p) (omega arith)
+  pub where-next : i < n → (o : Resting) → o ≡ orderOf (getD t i []) → test o ≡ false
+      → i + firstWhere test (ahead n t i) ≡ i + 1 + firstWhere test (ahead n t (i + 1))
+  unfolding firstWhere
+  where-next l o e p = rw (ahead-next n t i whole l o e, p) (omega arith)
 
 -- a turn that passes four orders
 pub where-four : (n : ℕ) (t : List (List ℕ)) (i : ℕ) → n ≤ length t → i + 4 ≤ n → (test : Resting → Bool)

@@ -1,3 +1,2 @@
 pub mod LawsPlaces
-pub mod LawsWalk
 pub mod Determined

@@ -1,21 +1,16 @@
-// What is looked for on one side of the book: the order of a number, the place of a new order, and how far a walk goes.
-use kinds::Cents;
+// What is looked for on one side of the book: the order of a number, and the place of a new order.
 use kinds::Number;
-use kinds::Shares;
 use rows::PLACES;
 use rules::Resting;
-ghost use mathlib.Core.Bool.{not};
+ghost use mathlib.Core.Bool.{true};
 ghost use mathlib.Core.List.{[]};
 ghost use mathlib.Core.Path.{_≡_};
 ghost use Prim.Native.Nat.{_+_, _≤_, _<_};
 ghost use lib.ListN.{getD, drop};
 ghost use Rattle.basics.specs.Lists.{firstWhere};
 ghost use Rattle.rows.specs.Table.{side, orderOf, Holds};
-ghost use Rattle.rules.specs.Book.{placesASide, ranksBefore};
-ghost use Rattle.rules.specs.Working.{beyond, isNumber};
-ghost use Rattle.side.specs.Walk.{isWithin, stopOf};
-
-// ── Places ──
+ghost use Rattle.rules.specs.Book.{placesASide, ranksBefore, inRankOrder};
+ghost use Rattle.rules.specs.Working.{isNumber};
 
 // Whether the order at a place has a number.
 fn is_at(t: &[[u32; 4]; PLACES], i: usize, number: Number) -> bool
@@ -74,7 +69,7 @@ pub fn ranks_before(buying: bool, x: Resting, y: Resting) -> bool
 
 // The place that a new order takes: before the first that it ranks before.
 pub fn place(t: &[[u32; 4]; PLACES], n: usize, buying: bool, o: Resting) -> usize
-    requires { ⌜ Holds n (now t) ⌝ }
+    requires { ⌜ Holds n (now t) × (inRankOrder buying (side n (now t)) ≡ true) ⌝ }
     ensures { λ r. ⌜ r ≡ firstWhere (ranksBefore buying o) (side n (now (t .entry))) ⌝ }
 {
     rows::whole(t);
@@ -86,52 +81,4 @@ pub fn place(t: &[[u32; 4]; PLACES], n: usize, buying: bool, o: Resting) -> usiz
         i += 1;
     }
     i
-}
-
-// ── The walk ──
-
-// Where a walk stopped: the orders before `at` gave all their shares, the one at `at` gave `part`, and `left` are still wanted.
-pub struct Stop {
-    pub at: usize,
-    pub part: Shares,
-    pub left: Shares,
-}
-
-// Whether a price is not beyond a bound. By values and not by ways, so that it compiles to no branch.
-pub fn within(buying: bool, bound: Cents, price: Cents) -> bool
-    ensures { λ r. ⌜ r ≡ not (beyond buying bound price) ⌝ }
-{
-    !((buying & (bound.0 < price.0)) | (!buying & (price.0 < bound.0)))
-}
-
-// Walks the side in rank order, for `want` shares. The walk ends at the first order whose price is beyond the bound.
-pub fn walk(t: &[[u32; 4]; PLACES], n: usize, buying: bool, bound: Cents, want: Shares) -> Stop
-    requires { ⌜ Holds n (now t) ⌝ }
-    ensures { λ r. ⌜ r ≡ stopOf (isWithin buying bound) 0 (want .0) (side n (now (t .entry))) ⌝ }
-{
-    rows::whole(t);
-    let mut at = 0;
-    let mut part: u32 = 0;
-    let mut left = want.0;
-    loop {
-        if n <= at {
-            break;
-        }
-        let o = rows::row(t, at);
-        if !within(buying, bound, o.price) {
-            break;
-        }
-        if left < o.shares.0 {
-            part = left;
-            left = 0;
-            break;
-        }
-        left -= o.shares.0;
-        at += 1;
-    }
-    Stop {
-        at,
-        part: Shares(part),
-        left: Shares(left),
-    }
 }

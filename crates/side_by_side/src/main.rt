@@ -158,8 +158,8 @@ fn input_room() -> [u8; 65536]
 
 fn main() {
     let mut input = input_room();
-    let mut out = [0u8; 4096];
-    let mut other = [0u8; 4096];
+    let mut out = [0u8; rules::LEAST_ROOM];
+    let mut other = [0u8; rules::LEAST_ROOM];
     let end = night::read_all(&mut input);
     run_day(&input[0..end], &mut out, &mut other);
 }

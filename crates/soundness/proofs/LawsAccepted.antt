@@ -1,8 +1,7 @@
 -- What it says of a command that no refusal of the table is given for it. Assumes nothing.
 use Prim.Native.Nat.{ℕ, _+_, _≤_, _<_}
 use mathlib.Core.Bool.{Bool, true, false, not, _&&_, _||_}
-use mathlib.Core.List.{List, _∷_}
-use mathlib.Core.Path.{_≡_, refl}
+use mathlib.Core.Path.{_≡_}
 use lib.Dec.{leb, ltb}
 use native.Mathlib.Omega.{arith}
 use borrow.Author.Tests.{not-false, ltb-false, leb-false, le-leb}
@@ -15,13 +14,8 @@ use Rattle.rules.specs.declared.Order.{Order}
 use Rattle.rules.specs.declared.Reading.the-variants as reading
 use Rattle.rules.specs.Instructions.{lawful}
 use Rattle.rules.specs.Book.{Book, opening, closing, awayInRange}
-use Rattle.rules.specs.Refusals.{Refusal, _givenWhen_, firstOf, isClose, untimely, orderInRange, restsOnFullSide, headerRefusals, bodyRefusals, lineRefusals}
-
--- no refusal is given: not the first of the table, and none of the others
-pub none-given : (n : ℕ) (test : Bool) (others : List Refusal) → 0 < n → firstOf (n givenWhen test ∷ others) ≡ 0 → (test ≡ false) × (firstOf others ≡ 0)
-unfolding firstOf
-none-given n true others l e = let z : ⊥ = omega arith in absurd z
-none-given n false others l e = (refl, e)
+use Rattle.rules.specs.Refusals.{firstOf, isClose, untimely, orderInRange, restsOnFullSide, headerRefusals, bodyRefusals, lineRefusals}
+use Rattle.rules.proofs.LawsRefusals.{none-given}
 
 -- ── By the header ──
 

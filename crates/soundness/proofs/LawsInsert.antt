@@ -1,7 +1,7 @@
 -- A new order that takes its place by rank keeps what a sound book says of the resting orders. Assumes nothing.
 use Prim.Native.Nat.{ℕ, suc}
 use mathlib.Core.Bool.{Bool, true, false, not}
-use mathlib.Core.List.{List, [], _∷_, _++_, map}
+use mathlib.Core.List.{List, [], _∷_, _++_}
 use mathlib.Core.Logic.{_≢_, ⊎-elim}
 use mathlib.Core.Path.{_≡_, refl, sym, ap}
 use lib.Dec.{eqb}
@@ -10,7 +10,7 @@ use borrow.Author.Tests.{ne-eqb, eqb-false, not-true}
 use Rattle.basics.specs.Lists.{any, distinct, All, also}
 use Rattle.basics.proofs.LawsChoice.{holds-or-not, and-left, and-right, or-neither}
 use Rattle.rules.specs.declared.Resting.{Resting}
-use Rattle.rules.specs.Book.{ranksBefore, inRankOrder}
+use Rattle.rules.specs.Book.{numbers, ranksBefore, inRankOrder}
 use Rattle.rules.specs.Working.{insert}
 use Rattle.soundness.proofs.LawsRank.{ranks-total, ranked-first, ranked-rest, ranked-more}
 
@@ -48,26 +48,26 @@ added-all p (later d) (also q a) = also q (added-all p d a)
 
 -- a number that no order has is not that of the new one either
 not-among-added : (n : ℕ) {x : Resting} → eqb n (x .number .0) ≡ false → {s r : List Resting} → Added x s r
-    → any (eqb n) (map (λ (o : Resting). o .number .0) s) ≡ false → any (eqb n) (map (λ (o : Resting). o .number .0) r) ≡ false
+    → any (eqb n) (numbers s) ≡ false → any (eqb n) (numbers r) ≡ false
 unfolding any
 not-among-added n p here e = rw p e
 not-among-added n p (later {y = y} {s = s} d) e =
-    let both = or-neither (eqb n (y .number .0)) (any (eqb n) (map (λ (o : Resting). o .number .0) s)) e in
+    let both = or-neither (eqb n (y .number .0)) (any (eqb n) (numbers s)) e in
     rw (both .0) (not-among-added n p d (both .1))
 
 eqb-flip : (a b : ℕ) → eqb a b ≡ false → eqb b a ≡ false
 eqb-flip a b e = ne-eqb b a (λ s. eqb-false a b e (sym s))
 
-pub added-distinct : {x : Resting} {s r : List Resting} → Added x s r → any (eqb (x .number .0)) (map (λ (o : Resting). o .number .0) s) ≡ false
-    → distinct (map (λ (o : Resting). o .number .0) s) ≡ true → distinct (map (λ (o : Resting). o .number .0) r) ≡ true
+pub added-distinct : {x : Resting} {s r : List Resting} → Added x s r → any (eqb (x .number .0)) (numbers s) ≡ false
+    → distinct (numbers s) ≡ true → distinct (numbers r) ≡ true
 unfolding any distinct
 added-distinct here n d = rw n d
 added-distinct {x = x} (later {y = y} {s = s} a) n d =
-    let numbers = map (λ (o : Resting). o .number .0) s in
-    let both = or-neither (eqb (x .number .0) (y .number .0)) (any (eqb (x .number .0)) numbers) n in
-    let others = not-true (any (eqb (y .number .0)) numbers) (and-left (not (any (eqb (y .number .0)) numbers)) (distinct numbers) d) in
+    let theirs = numbers s in
+    let both = or-neither (eqb (x .number .0) (y .number .0)) (any (eqb (x .number .0)) theirs) n in
+    let others = not-true (any (eqb (y .number .0)) theirs) (and-left (not (any (eqb (y .number .0)) theirs)) (distinct theirs) d) in
     rw (not-among-added (y .number .0) (eqb-flip (x .number .0) (y .number .0) (both .0)) a others)
-    (added-distinct a (both .1) (and-right (not (any (eqb (y .number .0)) numbers)) (distinct numbers) d))
+    (added-distinct a (both .1) (and-right (not (any (eqb (y .number .0)) theirs)) (distinct theirs) d))
 
 pub ranked-insert : (buy : Bool) (x : Resting) (s : List Resting) → All (λ (y : Resting). x .number .0 ≢ y .number .0) s → inRankOrder buy s ≡ true → inRankOrder buy (insert buy x s) ≡ true
 unfolding insert inRankOrder

@@ -4,7 +4,7 @@ use mathlib.Core.Bool.{Bool, true, false, not, _&&_}
 use mathlib.Core.List.{List, [], _∷_, _++_}
 use mathlib.Core.Logic.{⊎-elim}
 use mathlib.Core.Path.{_≡_, refl}
-use lib.Dec.{eqb, leb, ltb}
+use lib.Dec.{eqb, leb}
 use lib.ListN.{length, replicate, length-append, length-replicate}
 use lib.Seq.{take-append-seam, drop-append-seam}
 use native.Mathlib.Omega.{arith}
@@ -24,10 +24,11 @@ use Rattle.rules.specs.declared.Resting.{Resting}
 use Rattle.rules.specs.Book.{Book, BookRecord, fresh, opening, closing, placesASide, inRankOrder, apart, awayInRange, sound, unused, isUnused, ordersIn, placesOf, bookIn, recordOf, placesSound, recordSound}
 use Rattle.rules.specs.CommandLines.{commandIn}
 use Rattle.rules.specs.Day.{bookAfter}
-use Rattle.rules.specs.Refusals.{_givenWhen_, leastRoom, firstOf, restsOnFullSide, bodyRefusals, lineRefusals, refusals}
+use Rattle.rules.specs.Refusals.{leastRoom, firstOf, restsOnFullSide, bodyRefusals, lineRefusals, refusals}
 use Rattle.rules.specs.Step.{doneBy, answer, answerTo, step, stepOn}
 use Rattle.rules.specs.Working.{buying, oppositeSide, ending, isNumber, accept, cancel, quote, close, does}
-use Rattle.soundness.proofs.LawsAccepted.{none-given, accepted, AcceptedOrder, accepted-order, accepted-quote}
+use Rattle.rules.proofs.LawsRefusals.{fit-facts}
+use Rattle.soundness.proofs.LawsAccepted.{accepted, AcceptedOrder, accepted-order, accepted-quote}
 use Rattle.soundness.proofs.LawsOrder.{accept-sides}
 use Rattle.soundness.proofs.LawsSides.{sides-of, sides-sound, all-holding, sides-thinned, sides-later}
 use Rattle.soundness.proofs.LawsSound.{Sound, sound-is, is-sound}
@@ -106,7 +107,7 @@ answer-kept b r refusal s f =
 line-accepted : (room : ℕ) (bookSound : Bool) (b : Book) (r : Reading) → firstOf (refusals room bookSound b r) ≡ 0 → firstOf (lineRefusals b r) ≡ 0
 unfolding refusals
 line-accepted room bookSound b r e =
-    none-given 2 (not bookSound) (lineRefusals b r) (omega arith) (none-given 1 (ltb room leastRoom) (2 givenWhen not bookSound ∷ lineRefusals b r) (omega arith) e .1) .1
+    fit-facts room bookSound (lineRefusals b r) e .2
 
 pub answer-sound : (b : Book) (line : List ℕ) → sound b ≡ true → sound (answerTo b line .book) ≡ true
 unfolding answerTo

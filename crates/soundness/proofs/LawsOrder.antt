@@ -1,18 +1,18 @@
 -- An accepted order keeps the two sides sound: what it takes is gone from the opposite side, and what rests of it is a resting order
 -- in range on its own. Assumes nothing.
-use Prim.Native.Nat.{ℕ, _+_, _^_, _≤_}
+use Prim.Native.Nat.{ℕ, _+_, _^_}
 use mathlib.Core.Bool.{Bool, true, false, not, _&&_, _||_, true≢false}
 use mathlib.Core.List.{List}
 use mathlib.Core.Path.{_≡_, refl, sym, ap, _∙_}
-use lib.Dec.{eqb, leb, ltb}
+use lib.Dec.{leb, ltb}
 use lib.ListN.{length}
 use native.Mathlib.Omega.{arith}
-use borrow.Author.Tests.{leb-true, leb-false}
-use Rattle.basics.specs.Choice.{if_then_else_}
+use borrow.Author.Tests.{leb-false}
 use Rattle.basics.proofs.LawsChoice.{and-left, and-right}
 use Rattle.kinds.specs.declared.Cents.{Cents}
 use Rattle.kinds.specs.declared.Number.{Number}
 use Rattle.kinds.specs.Kinds.{shares, priceInRange, sharesInRange}
+use Rattle.kinds.proofs.LawsRanges.{shares-most}
 use Rattle.rules.specs.declared.Away.{Away}
 use Rattle.rules.specs.declared.Ending.{Ending}
 use Rattle.rules.specs.declared.Ending.the-variants.{Filled, Rests, Cancels}
@@ -21,7 +21,8 @@ use Rattle.rules.specs.declared.Resting.{Resting}
 use Rattle.rules.specs.Book.{placesASide}
 use Rattle.rules.specs.Instructions.{ioc, fok, day, displayed, nonDisplayed, priceAdjust, cancelBack, postOnly, iso, market, has, oneOf, needs, lawful}
 use Rattle.rules.specs.Refusals.{isRest, orderPriceInRange, orderInRange}
-use Rattle.rules.specs.Working.{buying, beyond, lockingPrice, absent, takings, remainder, after, adjusted, oneCentLessAggressive, seeks, equalsOrPasses, unlessPostOnlyMeets, ending, withRemainder}
+use Rattle.rules.specs.Working.{buying, takings, remainder, after, seeks, unlessPostOnlyMeets, ending, withRemainder}
+use Rattle.soundness.proofs.LawsEndings.{sought-is}
 use Rattle.soundness.proofs.LawsRests.{RestsBy, rests-by, rests-apart}
 use Rattle.soundness.proofs.LawsSides.{InRange, Sides, all-holding, sides-thinned, sides-later, sides-added}
 use Rattle.soundness.proofs.LawsThinned.{thinned-same, thinned-after}
@@ -33,33 +34,6 @@ restsInRange : Ending → Bool
 restsInRange Filled = true
 restsInRange (Rests price) = priceInRange price
 restsInRange (Cancels reason) = true
-
-either-in-range : (t : Bool) (d e : Ending) → restsInRange d ≡ true → restsInRange e ≡ true → restsInRange (if t then d else e) ≡ true
-either-in-range true d e p q = p
-either-in-range false d e p q = q
-
--- "An adjusted price outside 100 to 200,000: cancelled, reason 5."
-adjusted-in-range : (o : Order) (price : Cents) → restsInRange (adjusted o price) ≡ true
-unfolding restsInRange
-adjusted-in-range o price = either-in-range (has (o .word) cancelBack) _ _ refl (tested (priceInRange price) refl)
-  where
-    tested : (t : Bool) → priceInRange price ≡ t → restsInRange (if t then Rests price else Cancels 5) ≡ true
-    tested true e = e
-    tested false e = refl
-
-seeks-in-range : (o : Order) (away : Away) → priceInRange (o .price) ≡ true → restsInRange (seeks o away) ≡ true
-unfolding seeks restsInRange
-seeks-in-range o away p =
-    let locking = lockingPrice (buying o) away in
-    either-in-range (has (o .word) iso || absent locking) _ _ p
-    (either-in-range (has (o .word) displayed && (eqb (o .price .0) (locking .0) || beyond (buying o) locking (o .price))) _ _ (adjusted-in-range o (oneCentLessAggressive (buying o) locking))
-    (either-in-range (not (has (o .word) displayed) && beyond (buying o) locking (o .price)) _ _ (adjusted-in-range o locking) p))
-
-unless-in-range : (o : Order) (s : List Resting) (e : Ending) → restsInRange e ≡ true → restsInRange (unlessPostOnlyMeets o s e) ≡ true
-unfolding restsInRange
-unless-in-range o s Filled p = refl
-unless-in-range o s (Rests price) p = either-in-range (has (o .word) postOnly && equalsOrPasses (buying o) price s) _ _ refl p
-unless-in-range o s (Cancels reason) p = refl
 
 -- ── A market order never rests ──
 
@@ -94,10 +68,11 @@ module _ (n : Number) (o : Order) (away : Away) {last : Number} {own opposite : 
   remainder-in-range price by limited =
       let fields = and-left (leb (o .side) 1 && sharesInRange (o .shares)) (orderPriceInRange o) inRange in
       let size = and-right (leb (o .side) 1) (sharesInRange (o .shares)) fields in
-      let most : o .shares .0 ≤ 1000000 = leb-true (o .shares .0) 1000000 (and-right (leb 1 (o .shares .0)) (leb (o .shares .0) 1000000) size) in
+      let most = shares-most (o .shares) size in
       let limit : orderPriceInRange o ≡ true = and-right (leb (o .side) 1 && sharesInRange (o .shares)) (orderPriceInRange o) inRange in
       let priced : priceInRange (o .price) ≡ true = rw limited at limit in
-      let found : restsInRange (unlessPostOnlyMeets o opposite (seeks o away)) ≡ true = unless-in-range o opposite (seeks o away) (seeks-in-range o away priced) in
+      let found : restsInRange (unlessPostOnlyMeets o opposite (seeks o away)) ≡ true =
+      sought-is (λ (e : Ending). restsInRange e ≡ true) (λ p e. e) refl refl refl o away opposite priced in
       record {
         fromOne = omega (arith, next);
         upToLast = omega arith;

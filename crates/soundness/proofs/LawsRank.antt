@@ -1,5 +1,5 @@
--- Rank is a strict order of the orders of a side: it is transitive, and of two orders with different numbers one ranks before
--- the other. Assumes nothing.
+-- Rank is a strict order of the orders of a side: it is transitive, none ranks before itself, and of two orders with different numbers
+-- one ranks before the other. Assumes nothing.
 use Prim.Native.Nat.{ℕ, _≤_, _<_}
 use mathlib.Core.Bool.{Bool, true, false, not, Bool·beq, true≢false}
 use mathlib.Core.List.{List, [], _∷_}
@@ -12,11 +12,11 @@ use Rattle.basics.specs.Choice.{if_then_else_}
 use Rattle.basics.specs.Lists.{All, none, also}
 use Rattle.basics.proofs.LawsChoice.{holds-or-not, and-left, and-right}
 use Rattle.rules.specs.declared.Resting.{Resting}
-use Rattle.rules.specs.Book.{better, ranksBefore, inRankOrder}
+use Rattle.rules.specs.Book.{better, firstAtOnePrice, ranksBefore, inRankOrder}
 
 -- ── At one price ──
 
--- "at one price displayed before non-displayed; then lower number"
+-- `firstAtOnePrice` of the fields that it reads
 abbrev atOnePrice : Bool → Bool → ℕ → ℕ → Bool
 atOnePrice d e n m = if not (Bool·beq d e) then d else ltb n m
 
@@ -34,6 +34,10 @@ total-at-one-price true true n m ne f = later-number n m ne f
 total-at-one-price true false n m ne f = absurd (true≢false f)
 total-at-one-price false true n m ne f = refl
 total-at-one-price false false n m ne f = later-number n m ne f
+
+never-itself-at-one-price : (d : Bool) (n : ℕ) → atOnePrice d d n n ≡ false
+never-itself-at-one-price true n = le-ltb n n (omega arith)
+never-itself-at-one-price false n = le-ltb n n (omega arith)
 
 transitive-at-one-price : (d e f : Bool) (n m k : ℕ) → atOnePrice d e n m ≡ true → atOnePrice e f m k ≡ true → atOnePrice d f n k ≡ true
 transitive-at-one-price true true true n m k a b = lower-number n m k a b
@@ -65,7 +69,7 @@ module _ (buy : Bool) (x y : Resting) where
   unfolding ranksBefore
   by-price ne = rw (ne-eqb (x .price .0) (y .price .0) ne)
 
-  at-one-price : x .price .0 ≡ y .price .0 → ranksBefore buy x y ≡ atOnePrice (x .displayed) (y .displayed) (x .number .0) (y .number .0)
+  at-one-price : x .price .0 ≡ y .price .0 → ranksBefore buy x y ≡ firstAtOnePrice x y
   unfolding ranksBefore
   at-one-price e = rw (eq-eqb (x .price .0) (y .price .0) e)
 
@@ -84,6 +88,9 @@ ranks-total buy x y ne f =
     by-prices (x .price .0) (y .price .0)
     (λ e. at-one-price buy y x (sym e) ∙ total-at-one-price (x .displayed) (y .displayed) (x .number .0) (y .number .0) ne (sym (at-one-price buy x y e) ∙ f))
     (λ n. by-price buy y x (λ e. n (sym e)) ∙ total-price buy (x .price .0) (y .price .0) n (sym (by-price buy x y n) ∙ f))
+
+pub ranks-not-itself : (buy : Bool) (x : Resting) → ranksBefore buy x x ≡ false
+ranks-not-itself buy x = at-one-price buy x x refl ∙ never-itself-at-one-price (x .displayed) (x .number .0)
 
 -- a better price stays better than another, and no price is better than itself
 not-better-itself : (buy : Bool) (p q : ℕ) → betterPrice buy p q ≡ true → p ≢ q

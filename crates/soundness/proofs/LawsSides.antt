@@ -2,7 +2,7 @@
 -- gets one order more, stays sound. Assumes nothing.
 use Prim.Native.Nat.{ℕ, _≤_, _<_}
 use mathlib.Core.Bool.{Bool, true, false, not, _&&_}
-use mathlib.Core.List.{List, [], _∷_, _++_, map}
+use mathlib.Core.List.{List, [], _∷_, _++_}
 use mathlib.Core.Path.{_≡_, refl}
 use lib.Dec.{eqb, leb}
 use lib.ListN.{length}
@@ -13,10 +13,11 @@ use Rattle.basics.specs.Choice.{if_then_else_}
 use Rattle.basics.specs.Lists.{every, any, distinct, All, none, also}
 use Rattle.basics.proofs.LawsChoice.{and-left, and-right}
 use Rattle.kinds.specs.declared.Number.{Number}
-use Rattle.kinds.specs.Kinds.{priceInRange, sharesInRange}
+use Rattle.kinds.specs.Kinds.{mostShares, priceInRange, sharesInRange}
+use Rattle.kinds.proofs.LawsRanges.{shares-fewest, shares-most, shares-ranged}
 use Rattle.rules.specs.declared.Away.{Away}
 use Rattle.rules.specs.declared.Resting.{Resting}
-use Rattle.rules.specs.Book.{Book, placesASide, opening, closing, inRankOrder, restingInRange, awayInRange}
+use Rattle.rules.specs.Book.{numbers, Book, placesASide, opening, closing, inRankOrder, restingInRange, awayInRange}
 use Rattle.rules.specs.Working.{ownSide, oppositeSide, insert}
 use Rattle.soundness.proofs.LawsApart.{Beyond, Apart, apart-all, apart-best, apart-flip, apart-thinned}
 use Rattle.soundness.proofs.LawsInsert.{Added, added-insert, added-before, added-behind, added-length, added-all, added-distinct, ranked-insert}
@@ -31,7 +32,7 @@ pub record InRange (last : Number) (h : Resting) : Type 0 where
   pub upToLast : h .number .0 ≤ last .0
   pub priced : priceInRange (h .price) ≡ true
   pub holding : 1 ≤ h .shares .0
-  pub atMost : h .shares .0 ≤ 1000000
+  pub atMost : h .shares .0 ≤ mostShares
 
 range-is : (last : Number) (h : Resting) → restingInRange last h ≡ true → InRange last h
 range-is last h e =
@@ -43,14 +44,14 @@ range-is last h e =
       fromOne = leb-true 1 (h .number .0) (and-left (leb 1 (h .number .0)) (leb (h .number .0) (last .0)) n);
       upToLast = leb-true (h .number .0) (last .0) (and-right (leb 1 (h .number .0)) (leb (h .number .0) (last .0)) n);
       priced = and-right numbered (priceInRange (h .price)) f;
-      holding = leb-true 1 (h .shares .0) (and-left (leb 1 (h .shares .0)) (leb (h .shares .0) 1000000) s);
-      atMost = leb-true (h .shares .0) 1000000 (and-right (leb 1 (h .shares .0)) (leb (h .shares .0) 1000000) s);
+      holding = shares-fewest (h .shares) s;
+      atMost = shares-most (h .shares) s;
     }
 
 is-range : (last : Number) (h : Resting) → InRange last h → restingInRange last h ≡ true
 is-range last h r =
-    rw (le-leb 1 (h .number .0) (r .fromOne), le-leb (h .number .0) (last .0) (r .upToLast), r .priced, le-leb 1 (h .shares .0) (r .holding))
-    (le-leb (h .shares .0) 1000000 (r .atMost))
+    rw (le-leb 1 (h .number .0) (r .fromOne), le-leb (h .number .0) (last .0) (r .upToLast), r .priced)
+    (shares-ranged (h .shares) (r .holding) (r .atMost))
 
 ranges-first : (last : Number) (s u : List Resting) → every (restingInRange last) (s ++ u) ≡ true → All (InRange last) s
 unfolding every
@@ -83,7 +84,7 @@ pub record Sides (buy : Bool) (last : Number) (own opposite : List Resting) : Ty
   pub oppositeRanked : inRankOrder (not buy) opposite ≡ true
   pub ownInRange : All (InRange last) own
   pub oppositeInRange : All (InRange last) opposite
-  pub once : distinct (map (λ (o : Resting). o .number .0) (bothSides buy own opposite)) ≡ true
+  pub once : distinct (numbers (bothSides buy own opposite)) ≡ true
   pub isApart : Apart buy own opposite
 
 pub sides-of : (buy : Bool) (b : Book) → Sound b → Sides buy (b .last) (ownSide buy b) (oppositeSide buy b)
@@ -164,7 +165,7 @@ all-sides true a b = all-both a b
 all-sides false a b = all-both b a
 
 -- a number above the last is new
-new-number : (n : ℕ) {last : Number} {s : List Resting} → last .0 < n → All (InRange last) s → any (eqb n) (map (λ (o : Resting). o .number .0) s) ≡ false
+new-number : (n : ℕ) {last : Number} {s : List Resting} → last .0 < n → All (InRange last) s → any (eqb n) (numbers s) ≡ false
 unfolding any
 new-number n l none = refl
 new-number n l (also {x = h} r a) = rw (ne-eqb n (h .number .0) (λ (e : n ≡ h .number .0). omega (arith, r .upToLast))) (new-number n l a)

@@ -1,15 +1,14 @@
 -- What `sound` tests, as one fact for each of its clauses. Assumes nothing.
 use Prim.Native.Nat.{_≤_}
 use mathlib.Core.Bool.{Bool, true, false, not, _&&_, _||_}
-use mathlib.Core.List.{_++_, map}
+use mathlib.Core.List.{_++_}
 use mathlib.Core.Path.{_≡_}
 use lib.Dec.{eqb, leb}
 use lib.ListN.{length}
 use borrow.Author.Tests.{le-leb, leb-true}
 use Rattle.basics.specs.Lists.{every, distinct}
 use Rattle.basics.proofs.LawsChoice.{and-left, and-right}
-use Rattle.rules.specs.declared.Resting.{Resting}
-use Rattle.rules.specs.Book.{Book, placesASide, opening, closing, inRankOrder, restingInRange, awayInRange, apart, sound}
+use Rattle.rules.specs.Book.{numbers, Book, placesASide, opening, closing, inRankOrder, restingInRange, awayInRange, apart, sound}
 
 pub record Sound (b : Book) : Type 0 where
   pub buysFit : length (b .buys) ≤ placesASide
@@ -17,7 +16,7 @@ pub record Sound (b : Book) : Type 0 where
   pub buysRanked : inRankOrder true (b .buys) ≡ true
   pub sellsRanked : inRankOrder false (b .sells) ≡ true
   pub inRange : every (restingInRange (b .last)) (b .buys ++ b .sells) ≡ true
-  pub once : distinct (map (λ (o : Resting). o .number .0) (b .buys ++ b .sells)) ≡ true
+  pub once : distinct (numbers (b .buys ++ b .sells)) ≡ true
   pub isApart : apart (b .buys) (b .sells) ≡ true
   pub opened : leb opening (b .time) ≡ true
   pub inTime : leb (b .time) closing ≡ true
@@ -45,7 +44,7 @@ twelve t1 t2 t3 t4 t5 t6 t7 t8 t9 t10 t11 t12 s12 =
 pub sound-is : (b : Book) → sound b ≡ true → Sound b
 unfolding sound
 sound-is b s =
-    let p = twelve (leb (length (b .buys)) placesASide) (leb (length (b .sells)) placesASide) (inRankOrder true (b .buys)) (inRankOrder false (b .sells)) (every (restingInRange (b .last)) (b .buys ++ b .sells)) (distinct (map (λ (o : Resting). o .number .0) (b .buys ++ b .sells))) (apart (b .buys) (b .sells)) (leb opening (b .time)) (leb (b .time) closing) (awayInRange (b .away .bid)) (awayInRange (b .away .offer)) (not (b .closed) || eqb (length (b .buys ++ b .sells)) 0) s in
+    let p = twelve (leb (length (b .buys)) placesASide) (leb (length (b .sells)) placesASide) (inRankOrder true (b .buys)) (inRankOrder false (b .sells)) (every (restingInRange (b .last)) (b .buys ++ b .sells)) (distinct (numbers (b .buys ++ b .sells))) (apart (b .buys) (b .sells)) (leb opening (b .time)) (leb (b .time) closing) (awayInRange (b .away .bid)) (awayInRange (b .away .offer)) (not (b .closed) || eqb (length (b .buys ++ b .sells)) 0) s in
     record {
       buysFit = leb-true (length (b .buys)) placesASide (p .0);
       sellsFit = leb-true (length (b .sells)) placesASide (p .1);

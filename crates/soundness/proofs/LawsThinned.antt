@@ -14,7 +14,7 @@ use Rattle.basics.specs.Lists.{every, any, distinct, All, none, also}
 use Rattle.basics.proofs.LawsChoice.{holds-or-not, and-left, and-right, or-neither}
 use Rattle.kinds.specs.Kinds.{shares}
 use Rattle.rules.specs.declared.Resting.{Resting}
-use Rattle.rules.specs.Book.{ranksBefore, inRankOrder}
+use Rattle.rules.specs.Book.{numbers, ranksBefore, inRankOrder}
 use Rattle.rules.specs.Working.{after, kept}
 use Rattle.soundness.proofs.LawsRank.{ranked-first, ranked-rest, ranked-more}
 
@@ -108,7 +108,7 @@ not-among n (keeps {h = h} {s = s} left l m a) e =
     let both = or-neither (eqb n (h .number .0)) (any (eqb n) (map numberOf s)) e in
     rw (both .0) (not-among n a (both .1))
 
-pub thinned-distinct : {s r : List Resting} → Thinned s r → distinct (map (λ (o : Resting). o .number .0) s) ≡ true → distinct (map (λ (o : Resting). o .number .0) r) ≡ true
+pub thinned-distinct : {s r : List Resting} → Thinned s r → distinct (numbers s) ≡ true → distinct (numbers r) ≡ true
 unfolding distinct
 thinned-distinct empty d = d
 thinned-distinct (away {h = h} {s = s} a) d = thinned-distinct a (and-right (not (any (eqb (h .number .0)) (map numberOf s))) (distinct (map numberOf s)) d)

@@ -8,5 +8,6 @@ pub mod LawsRests
 pub mod LawsSound
 pub mod LawsAccepted
 pub mod LawsSides
+pub mod LawsEndings
 pub mod LawsOrder
 pub mod LawsKept

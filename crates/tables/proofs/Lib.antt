@@ -1,2 +1,3 @@
 pub mod LawsCopied
+pub mod LawsAnswers
 pub mod Determined

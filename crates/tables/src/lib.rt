@@ -19,6 +19,24 @@ pub struct Head {
     pub sells: usize,
 }
 
+// What a command leaves: a refusal or 0, the header, and the length of the lines.
+pub struct Step {
+    pub refusal: u8,
+    pub head: Head,
+    pub length: usize,
+}
+
+// A refusal leaves the header as it was, and no lines.
+pub fn refuse(h: Head, refusal: u8) -> Step
+    ensures { λ r. ⌜ r ≡ record { refusal = refusal; head = h; length = 0 } ⌝ }
+{
+    Step {
+        refusal: refusal,
+        head: h,
+        length: 0,
+    }
+}
+
 // The places of a side as rows.
 pub fn load(t: &mut [[u32; 4]; PLACES], places: [Resting; PLACES])
     ensures { λ _. ⌜ now (t .exit) ≡ map rowOf places ⌝ }

@@ -2,7 +2,7 @@
 -- as the checker reads it from the source (`Post`), not from a copy. Assumes nothing.
 use mathlib.Core.Path.{_≡_, sym, _∙_}
 use Rattle.rules.specs.declared.Ending.{Ending}
-use Rattle.side.specs.declared.Stop.{Stop}
+use Rattle.walk.specs.declared.Stop.{Stop}
 use Rattle.work.proofs.stop_of.Reads as stop-of
 use Rattle.work.proofs.ending_of.Reads as ending-of
 

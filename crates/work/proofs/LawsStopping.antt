@@ -20,8 +20,9 @@ use Rattle.rules.specs.declared.Order.{Order}
 use Rattle.rules.specs.declared.Resting.{Resting}
 use Rattle.rules.specs.Instructions.{fok, postOnly, has}
 use Rattle.rules.specs.Working.{buying, mayTouch, nothing, walk, smaller, walked, takings, remainder}
-use Rattle.side.specs.Walk.{isWithin, tookTo}
-use Rattle.side.proofs.LawsWalk.{nothing-total, stop-walk, stop-left, stop-within, stop-keeps, walk-alike, took-nothing}
+use Rattle.walk.specs.Walk.{isWithin, tookTo}
+use Rattle.rules.proofs.LawsTakings.{nothing-total}
+use Rattle.walk.proofs.LawsWalk.{stop-walk, stop-left, stop-within, stop-keeps, walk-alike, took-nothing}
 use Rattle.work.specs.Stopping.{Workable, untouched, walkStop, stopFor}
 
 module _ (o : Order) (away : Away) {s : List Resting} (workable : All Workable s) where

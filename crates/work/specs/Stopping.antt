@@ -5,18 +5,19 @@ use mathlib.Core.List.{List}
 use lib.Dec.{ltb}
 use Rattle.basics.specs.Choice.{if_then_else_}
 use Rattle.pricing.specs.Bound.{boundOf}
+use Rattle.kinds.specs.Kinds.{largest}
 use Rattle.rules.specs.declared.Away.{Away}
 use Rattle.rules.specs.declared.Order.{Order}
 use Rattle.rules.specs.declared.Resting.{Resting}
 use Rattle.rules.specs.Instructions.{fok, postOnly, has}
 use Rattle.rules.specs.Working.{buying}
-use Rattle.side.specs.declared.Stop.{Stop}
-use Rattle.side.specs.Walk.{isWithin, stop, stopOf}
+use Rattle.walk.specs.declared.Stop.{Stop}
+use Rattle.walk.specs.Walk.{isWithin, stop, stopOf}
 
 -- what working an order needs of the orders on the opposite side, and a sound book gives
 pub record Workable (h : Resting) : Type 0 where
   pub holds : 1 ≤ h .shares .0
-  pub priced : h .price .0 ≤ 4294967295
+  pub priced : h .price .0 ≤ largest
 
 -- an order that takes nothing stops at the start
 abbrev pub untouched : Order → Stop

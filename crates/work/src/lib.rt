@@ -5,10 +5,11 @@ use rows::PLACES;
 use rules::Away;
 use rules::Ending;
 use rules::Order;
-use side::Stop;
+use walk::Stop;
 ghost use mathlib.Core.Bool.{true, not};
 ghost use mathlib.Core.Path.{_≡_};
 ghost use Prim.Native.Nat.{_<_};
+ghost use Rattle.kinds.specs.Kinds.{largest};
 ghost use Rattle.rows.specs.Table.{side, Holds};
 ghost use Rattle.rules.specs.Book.{inRankOrder};
 ghost use Rattle.rules.specs.Instructions.{has, postOnly};
@@ -21,7 +22,7 @@ pub fn stop_of(o: Order, away: Away, t: &[[u32; 4]; PLACES], n: usize) -> Stop
     ensures { λ r. ⌜ r ≡ stopFor o away (side n (now (t .entry))) ⌝ }
 {
     let shares = o.shares;
-    if judge::has(o.word, rules::POST_ONLY) {
+    if instructions::has(o.word, rules::POST_ONLY) {
         return Stop {
             at: 0,
             part: Shares(0),
@@ -29,8 +30,8 @@ pub fn stop_of(o: Order, away: Away, t: &[[u32; 4]; PLACES], n: usize) -> Stop
         };
     }
     let bound = pricing::bound_of(o, away);
-    let stop = side::walk(t, n, o.side == 0, bound, shares);
-    if judge::has(o.word, rules::FOK) & (0 < stop.left.0) {
+    let stop = walk::walk(t, n, o.side == 0, bound, shares);
+    if instructions::has(o.word, rules::FOK) & (0 < stop.left.0) {
         return Stop {
             at: 0,
             part: Shares(0),
@@ -49,7 +50,7 @@ fn meets(t: &[[u32; 4]; PLACES], n: usize, buy: bool, price: Cents) -> bool
         return false;
     }
     let best = rows::row(t, 0);
-    side::within(buy, price, best.price)
+    walk::within(buy, price, best.price)
 }
 
 // Step 5, of an order that is Post Only.
@@ -71,20 +72,20 @@ fn unless_meets(o: Order, t: &[[u32; 4]; PLACES], n: usize, end: Ending) -> Endi
 
 // What becomes of an order of which `left` shares are left after the walk.
 pub fn ending_of(o: Order, away: Away, t: &[[u32; 4]; PLACES], n: usize, left: Shares) -> Ending
-    requires { ⌜ Holds n (now t) × (inRankOrder (not (buying o)) (side n (now t)) ≡ true) × (lockingPrice (buying o) away .0 < 4294967295) ⌝ }
+    requires { ⌜ Holds n (now t) × (inRankOrder (not (buying o)) (side n (now t)) ≡ true) × (lockingPrice (buying o) away .0 < largest) ⌝ }
     ensures { λ r. ⌜ r ≡ endingWith (left .0) o away (side n (now (t .entry))) ⌝ }
 {
     if left.0 == 0 {
         return Ending::Filled;
     }
-    if judge::has(o.word, rules::FOK) {
+    if instructions::has(o.word, rules::FOK) {
         return Ending::Cancels(3);
     }
-    if judge::has(o.word, rules::IOC) {
+    if instructions::has(o.word, rules::IOC) {
         return Ending::Cancels(2);
     }
     let end = pricing::seek(o, away);
-    if !judge::has(o.word, rules::POST_ONLY) {
+    if !instructions::has(o.word, rules::POST_ONLY) {
         return end;
     }
     unless_meets(o, t, n, end)

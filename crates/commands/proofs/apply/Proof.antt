@@ -1,10 +1,11 @@
 -- `commands::apply` meets its contract: the header is judged, and then an arm for each body. Assumes nothing.
+use mathlib.Core.Path.{_∙_}
 use native.Mathlib.Omega.{arith}
 use borrow.Author.Needs.{needs}
 use denote.Ref.{now}
 use Rattle.rules.specs.declared.Body.the-variants as body
 use Rattle.tables.specs.Tables.{bookOn}
-use Rattle.commands.proofs.LawsAnswers.{left-refused}
+use Rattle.tables.proofs.LawsAnswers.{left-refused}
 use Rattle.commands.proofs.LawsCommand.{header-refused, left-passed, left-quoted}
 use Rattle.commands.proofs.apply.Statement.{statement}
 use Rattle.commands.proofs.apply.Tie as tie
@@ -12,13 +13,18 @@ use Rattle.commands.proofs.apply.Tie as tie
 header-refusal-requires : tie.Need-header-refusal-requires
 header-refusal-requires c κs = search needs
 
+refuse-requires : tie.Need-refuse-requires
+refuse-requires c κs = search needs
+
 returns : tie.Need-returns
 returns c =
-    let a = c .before .before .before .before .before .args in
+    let a = c .before .before .before .before .before .before .args in
     let b = bookOn (a .h) (now (a .buys)) (now (a .sells)) in
-    let k = c .before .header-refusal in
-    left-refused (a .h) (now (a .buys)) (now (a .sells)) (c .before .before .before .before .before .pre .0) (k .result) (now (a .out)) _
-    (header-refused (a .c) b (k .result) (k .ensures) (omega (arith, c .if1 .taken)))
+    let k = c .before .before .header-refusal in
+    let left =
+    left-refused (a .h) (now (a .buys)) (now (a .sells)) (c .before .before .before .before .before .before .pre .0) (k .result) (now (a .out)) _
+    (header-refused (a .c) b (k .result) (k .ensures) (omega (arith, c .before .if1 .taken))) in
+    (c .refuse .ensures ∙ left .0, left .1)
 
 enum-known-body : tie.Need-enum-known-body
 enum-known-body c = search needs
@@ -87,6 +93,7 @@ apply-spec =
     tie.close
     (tie.spec
     header-refusal-requires
+    refuse-requires
     returns
     enum-known-body
     enter-requires

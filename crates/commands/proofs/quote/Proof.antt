@@ -1,7 +1,7 @@
 -- `commands::quote` meets its contract: both away prices are in range, or it is refused with 9. Assumes nothing.
 use mathlib.Core.Bool.{true, false, not, _&&_}
 use mathlib.Core.List.{[]}
-use mathlib.Core.Path.{_≡_, refl, sym}
+use mathlib.Core.Path.{_≡_, refl, sym, _∙_}
 use borrow.Author.Needs.{needs}
 use denote.Ref.{now}
 use Rattle.rows.proofs.LawsTable.{length-side}
@@ -10,10 +10,10 @@ use Rattle.rules.specs.Book.{awayInRange}
 use Rattle.rules.specs.EventLines.{eventLines}
 use Rattle.rules.specs.Working.{quote}
 use Rattle.tables.specs.declared.Head.{Head}
+use Rattle.tables.specs.Answers.{bodyAnswer}
 use Rattle.tables.specs.Tables.{bookOn}
-use Rattle.commands.specs.Commands.{bodyAnswer}
-use Rattle.commands.proofs.LawsAnswers.{left-refused}
-use Rattle.commands.proofs.LawsDone.{step-done, head-is, quote-refused, quoted}
+use Rattle.tables.proofs.LawsAnswers.{left-refused, step-done, head-is}
+use Rattle.commands.proofs.LawsDone.{quote-refused, quoted}
 use Rattle.commands.proofs.quote.Statement.{statement}
 use Rattle.commands.proofs.quote.Tie as tie
 
@@ -23,15 +23,19 @@ away-in-range-requires c κs = search needs
 away-in-range-requires-2 : tie.Need-away-in-range-requires-2
 away-in-range-requires-2 c κs = search needs
 
+refuse-requires : tie.Need-refuse-requires
+refuse-requires c κs = search needs
+
 returns : tie.Need-returns
 returns c =
-    let start = c .before .before .before .before .before in
+    let start = c .before .before .before .before .before .before in
     let a = start .args in
     let b = bookOn (a .h) (now (a .buys)) (now (a .sells)) in
-    let bid : c .before .before .away-in-range .result ≡ awayInRange (a .away .bid) = c .before .before .away-in-range .ensures in
-    let offer : c .before .away-in-range2 .result ≡ awayInRange (a .away .offer) = c .before .away-in-range2 .ensures in
-    let e : not (awayInRange (a .away .bid) && awayInRange (a .away .offer)) ≡ true = rw (sym bid, sym offer) (c .if1 .taken) in
-    left-refused (a .h) (now (a .buys)) (now (a .sells)) (start .pre) 9 [] (bodyAnswer (a .number) (a .time) (body.Quote (a .away)) b)
+    let bid : c .before .before .before .away-in-range .result ≡ awayInRange (a .away .bid) = c .before .before .before .away-in-range .ensures in
+    let offer : c .before .before .away-in-range2 .result ≡ awayInRange (a .away .offer) = c .before .before .away-in-range2 .ensures in
+    let e : not (awayInRange (a .away .bid) && awayInRange (a .away .offer)) ≡ true = rw (sym bid, sym offer) (c .before .if1 .taken) in
+    c .refuse .ensures
+    ∙ left-refused (a .h) (now (a .buys)) (now (a .sells)) (start .pre) 9 [] (bodyAnswer (a .number) (a .time) (body.Quote (a .away)) b)
     (quote-refused (a .number) (a .time) (a .away) b e) .0
 
 returns-2 : tie.Need-returns-2
@@ -49,4 +53,4 @@ returns-2 c =
     step-done d after 0 (bodyAnswer (a .number) (a .time) (body.Quote (a .away)) b) (quoted (a .number) (a .time) (a .away) b e) head refl
 
 pub quote-spec : {M : Type 1} → statement M
-quote-spec = tie.close (tie.spec away-in-range-requires away-in-range-requires-2 returns returns-2)
+quote-spec = tie.close (tie.spec away-in-range-requires away-in-range-requires-2 refuse-requires returns returns-2)

@@ -21,7 +21,7 @@ use Rattle.rules.specs.Book.{unused}
 use Rattle.rules.specs.EventLines.{eventLine, eventLines}
 use Rattle.rules.specs.Working.{executions}
 use Rattle.rules.proofs.LawsEvents.{executed-length, eventLines-append}
-use Rattle.side.specs.Walk.{tookTo}
+use Rattle.walk.specs.Walk.{tookTo}
 use Rattle.fills.proofs.LawsFills.{executions-whole, executions-part}
 use Rattle.fills.proofs.report.Statement.{statement}
 use Rattle.fills.proofs.report.Tie as tie

@@ -11,7 +11,7 @@ use denote.Ref.{now}
 use Rattle.basics.specs.Lists.{every}
 use Rattle.rules.specs.Book.{placesASide, restingInRange}
 use Rattle.rows.specs.Table.{side}
-use Rattle.side.proofs.LawsPlaces.{ahead, ahead-end, ahead-next}
+use Rattle.rows.proofs.LawsTable.{ahead, ahead-end, ahead-next}
 use Rattle.inspection.proofs.LawsTurns.{every-end, every-fails, every-next}
 use Rattle.inspection.proofs.all_in_range.Statement.{statement}
 use Rattle.inspection.proofs.all_in_range.Tie as tie

@@ -11,7 +11,7 @@ use denote.Ref.{now}
 use Rattle.basics.specs.Lists.{every}
 use Rattle.rules.specs.Book.{placesASide, isUnused}
 use Rattle.rows.specs.Table.{orderOf}
-use Rattle.side.proofs.LawsPlaces.{ahead, ahead-end, ahead-next}
+use Rattle.rows.proofs.LawsTable.{ahead, ahead-end, ahead-next}
 use Rattle.inspection.proofs.LawsTurns.{every-end, every-fails, every-next, ahead-unused}
 use Rattle.inspection.proofs.all_unused.Statement.{statement}
 use Rattle.inspection.proofs.all_unused.Tie as tie

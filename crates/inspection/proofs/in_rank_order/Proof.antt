@@ -9,7 +9,7 @@ use borrow.Author.Tests.{not-true, not-false}
 use denote.Ref.{now}
 use Rattle.rules.specs.Book.{placesASide, ranksBefore, inRankOrder}
 use Rattle.rows.specs.Table.{side}
-use Rattle.side.proofs.LawsPlaces.{ahead}
+use Rattle.rows.proofs.LawsTable.{ahead}
 use Rattle.inspection.proofs.LawsTurns.{rank-end, rank-turn}
 use Rattle.inspection.proofs.in_rank_order.Statement.{statement}
 use Rattle.inspection.proofs.in_rank_order.Tie as tie

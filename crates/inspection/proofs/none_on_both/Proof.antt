@@ -8,10 +8,9 @@ use native.Mathlib.Omega.{arith}
 use borrow.Author.Needs.{needs}
 use denote.Ref.{now}
 use Rattle.basics.specs.Lists.{every}
-use Rattle.rules.specs.Book.{placesASide}
+use Rattle.rules.specs.Book.{numbers, placesASide}
 use Rattle.rows.specs.Table.{side}
-use Rattle.side.proofs.LawsPlaces.{ahead, ahead-end, ahead-next}
-use Rattle.inspection.specs.Inspection.{numbers}
+use Rattle.rows.proofs.LawsTable.{ahead, ahead-end, ahead-next}
 use Rattle.inspection.proofs.LawsTurns.{noneOf, none-fails, none-passes, every-end, every-fails, every-next}
 use Rattle.inspection.proofs.none_on_both.Statement.{statement}
 use Rattle.inspection.proofs.none_on_both.Tie as tie

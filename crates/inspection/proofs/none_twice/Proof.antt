@@ -7,10 +7,9 @@ use native.Mathlib.Omega.{arith}
 use borrow.Author.Needs.{needs}
 use denote.Ref.{now}
 use Rattle.basics.specs.Lists.{distinct}
-use Rattle.rules.specs.Book.{placesASide}
+use Rattle.rules.specs.Book.{numbers, placesASide}
 use Rattle.rows.specs.Table.{side}
-use Rattle.side.proofs.LawsPlaces.{ahead, ahead-end, ahead-next}
-use Rattle.inspection.specs.Inspection.{numbers}
+use Rattle.rows.proofs.LawsTable.{ahead, ahead-end, ahead-next}
 use Rattle.inspection.proofs.LawsTurns.{distinct-end, distinct-fails, distinct-next, ahead-numbers}
 use Rattle.inspection.proofs.none_twice.Statement.{statement}
 use Rattle.inspection.proofs.none_twice.Tie as tie

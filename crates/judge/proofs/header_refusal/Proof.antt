@@ -18,7 +18,9 @@ is-close-requires c κs = search needs
 
 returns : tie.Need-returns
 unfolding firstOf headerRefusals
-returns c = rw (le-leb _ _ (c .if1 .taken))
+returns c =
+    let a = c .before .before .before .before .before .args in
+    rw (le-leb (a .c .number .0) (a .a .last .0) (c .if1 .taken))
 
 sub-if2 : tie.Need-sub-if2
 sub-if2 c = search needs

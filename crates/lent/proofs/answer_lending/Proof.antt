@@ -9,9 +9,6 @@ use Rattle.lent.proofs.answer_lending.Tie as tie
 side-of-requires : tie.Need-side-of-requires
 side-of-requires c κs = search needs
 
-no-side-requires : tie.Need-no-side-requires
-no-side-requires c κs = search needs
-
 with-side-requires : tie.Need-with-side-requires
 with-side-requires c κs = search needs
 
@@ -29,15 +26,14 @@ same-length c = search needs
 
 returns : tie.Need-returns
 returns c =
-    let a = c .before .before .before .before .before .before .before .before .before .before .before .before .before .before .before .args in
-    let side = c .before .before .before .before .before .before .before .before .before .before .before .before .side-of in
-    let none = c .before .before .before .before .before .before .before .before .before .before .no-side in
+    let a = c .before .before .before .before .before .before .before .before .before .before .before .before .before .before .args in
+    let side = c .before .before .before .before .before .before .before .before .before .before .before .side-of in
     let apart = c .before .before .before .before .before .before .before .before .before .with-side in
     let x = c .before .before .before .before .before .before .before .answer-over in
     let used = c .before .used-in in (
-      lent-and-back (a .buys) (a .book) (now (a .line)) (now (a .out)) (side .result) (side .ensures) (none .result) (none .ensures)
+      lent-and-back (a .buys) (a .book) (now (a .line)) (now (a .out)) (side .result) (side .ensures)
           (apart .result) (apart .ensures) (x .result) (x .ensures .0) (used .result) (used .ensures .0) (c .with-side2 .result) (c .with-side2 .ensures),
-      lent-out (a .buys) (a .book) (now (a .line)) (now (a .out)) (side .result) (side .ensures) (none .result) (none .ensures)
+      lent-out (a .buys) (a .book) (now (a .line)) (now (a .out)) (side .result) (side .ensures)
           (apart .result) (apart .ensures) (x .result) (x .ensures .0) (used .result) (used .ensures .0) (c .with-side2 .result) (c .with-side2 .ensures)
           _ (x .ensures .1),
     )
@@ -47,7 +43,6 @@ answer-lending-spec =
     tie.close
     (tie.spec
     side-of-requires
-    no-side-requires
     with-side-requires
     answer-over-requires
     used-in-requires

@@ -1,5 +1,5 @@
 -- `matching::execute_and_cancel` meets its contract: one line more behind those of the executions. Assumes nothing.
-use Prim.Native.Nat.{_+_, _-_, _≤_}
+use Prim.Native.Nat.{_+_, _-_, _*_, _≤_}
 use mathlib.Core.List.{List, [], _∷_, _++_}
 use mathlib.Core.Path.{_≡_}
 use lib.ListN.{length, take, drop, length-take, length-drop}
@@ -10,11 +10,12 @@ use Rattle.rows.specs.Table.{side}
 use Rattle.rows.proofs.LawsTable.{length-side}
 use Rattle.rules.specs.declared.Event.{Event}
 use Rattle.rules.specs.declared.Event.the-variants.{Cancelled}
+use Rattle.rules.specs.Book.{placesASide}
 use Rattle.rules.specs.EventLines.{eventLines}
 use Rattle.rules.specs.Working.{executions}
-use Rattle.rules.proofs.LawsEvents.{cancelled-length}
-use Rattle.side.specs.Walk.{tookTo}
-use Rattle.matching.proofs.LawsMatching.{executions-room, length-more, line-behind}
+use Rattle.rules.proofs.LawsEvents.{cancelled-length, executions-long}
+use Rattle.walk.specs.Walk.{tookTo}
+use Rattle.matching.proofs.LawsMatching.{length-more, line-behind}
 use Rattle.matching.proofs.execute_and_cancel.Statement.{statement}
 use Rattle.matching.proofs.execute_and_cancel.Tie as tie
 
@@ -28,12 +29,14 @@ module _ (c : tie.Start) where
   events : List Event
   events = let s = side (c .args .n) (now (c .args .t)) in executions (c .args .number) s (tookTo (c .args .stop .at) (c .args .stop .part .0) s)
 
-  room : length (eventLines events) ≤ 2240
+  room : length (eventLines events) ≤ 35 * placesASide
   unfolding events
   room =
       let f = c .pre .0 .fits in
-      executions-room (c .args .number) (side (c .args .n) (now (c .args .t))) (c .args .stop) (c .pre .1)
-      (omega (arith, length-side (c .args .n) (now (c .args .t)) (c .pre .0)))
+      let s = side (c .args .n) (now (c .args .t)) in
+      let long = length-side (c .args .n) (now (c .args .t)) (c .pre .0) in
+      let most = executions-long (c .args .number) s (tookTo (c .args .stop .at) (c .args .stop .part .0) s) in
+      omega arith
 
 room-behind : (c : tie.After-slice-known2) → c .before .before .execute .result + 21 ≤ length (c .before .before .execute .last .1 .1 .1 .1 .0)
 unfolding events

@@ -1,5 +1,5 @@
 -- `matching::execute_and_rest` meets its contract: one line more behind those of the executions. Assumes nothing.
-use Prim.Native.Nat.{_+_, _-_, _≤_}
+use Prim.Native.Nat.{_+_, _-_, _*_, _≤_}
 use mathlib.Core.List.{List, [], _∷_, _++_}
 use mathlib.Core.Path.{_≡_}
 use lib.ListN.{length, take, drop, length-take, length-drop}
@@ -10,11 +10,12 @@ use Rattle.rows.specs.Table.{side}
 use Rattle.rows.proofs.LawsTable.{length-side}
 use Rattle.rules.specs.declared.Event.{Event}
 use Rattle.rules.specs.declared.Event.the-variants.{Rested}
+use Rattle.rules.specs.Book.{placesASide}
 use Rattle.rules.specs.EventLines.{eventLines}
 use Rattle.rules.specs.Working.{executions}
-use Rattle.rules.proofs.LawsEvents.{rested-length}
-use Rattle.side.specs.Walk.{tookTo}
-use Rattle.matching.proofs.LawsMatching.{executions-room, length-more, line-behind}
+use Rattle.rules.proofs.LawsEvents.{rested-length, executions-long}
+use Rattle.walk.specs.Walk.{tookTo}
+use Rattle.matching.proofs.LawsMatching.{length-more, line-behind}
 use Rattle.matching.proofs.execute_and_rest.Statement.{statement}
 use Rattle.matching.proofs.execute_and_rest.Tie as tie
 
@@ -26,19 +27,21 @@ execute-requires c κs =
 rest-requires : tie.Need-rest-requires
 rest-requires c κs =
     let p = c .before .before .before .before .before .before .before .before .before .before .pre in
-    (p .0, p .1)
+    (p .0, p .1, p .5)
 
 -- the executions, and that there is room behind their lines
 module _ (c : tie.Start) where
   events : List Event
   events = let s = side (c .args .m) (now (c .args .opposite)) in executions (c .args .order .number) s (tookTo (c .args .stop .at) (c .args .stop .part .0) s)
 
-  room : length (eventLines events) ≤ 2240
+  room : length (eventLines events) ≤ 35 * placesASide
   unfolding events
   room =
       let f = c .pre .2 .fits in
-      executions-room (c .args .order .number) (side (c .args .m) (now (c .args .opposite))) (c .args .stop) (c .pre .3)
-      (omega (arith, length-side (c .args .m) (now (c .args .opposite)) (c .pre .2)))
+      let s = side (c .args .m) (now (c .args .opposite)) in
+      let long = length-side (c .args .m) (now (c .args .opposite)) (c .pre .2) in
+      let most = executions-long (c .args .order .number) s (tookTo (c .args .stop .at) (c .args .stop .part .0) s) in
+      omega arith
 
 module _ (c : tie.After-rest) where
   start : tie.Start

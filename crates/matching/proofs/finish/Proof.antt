@@ -11,7 +11,7 @@ use Rattle.rules.specs.declared.Event.{Event}
 use Rattle.rules.specs.EventLines.{eventLines}
 use Rattle.rules.specs.Instructions.{has, displayed}
 use Rattle.rules.specs.Working.{executions}
-use Rattle.side.specs.Walk.{tookTo}
+use Rattle.walk.specs.Walk.{tookTo}
 use Rattle.matching.proofs.finish.Statement.{statement}
 use Rattle.matching.proofs.finish.Tie as tie
 
@@ -41,7 +41,7 @@ execute-and-rest-requires : tie.Need-execute-and-rest-requires
 execute-and-rest-requires c κs =
     let told = c .before .before .before .before .before .before .before .end2 .given .1 in
     let p = c .before .before .before .before .before .before .before .before .before .before .pre in
-    (p .0, p .1 (rw told), p .2, p .3, p .4)
+    (p .0, p .1 (rw told), p .2, p .3, p .4, p .5)
 
 same-length : tie.Need-same-length
 same-length c = search needs

@@ -17,7 +17,7 @@ use Rattle.rules.specs.declared.Resting.{Resting}
 use Rattle.rules.specs.EventLines.{eventLines}
 use Rattle.rules.specs.Refusals.{isRest}
 use Rattle.rules.specs.Working.{endingWith, ending}
-use Rattle.side.specs.declared.Stop.{Stop}
+use Rattle.walk.specs.declared.Stop.{Stop}
 use Rattle.work.specs.Stopping.{stopFor}
 use Rattle.work.proofs.LawsStopping.{stop-in}
 use Rattle.matching.specs.Matching.{isFull}
@@ -89,7 +89,7 @@ unfolding start own opposite stop end
 finish-requires c κs =
     let k = c .before .before .before .before in
     let p = start k .pre in
-    (p .0, rest-fits (end k) (start k .args .n) (omega (arith, k .places-after .ensures, c .before .before .before .if1 .left)), p .1, within k, p .5)
+    (p .0, rest-fits (end k) (start k .args .n) (omega (arith, k .places-after .ensures, c .before .before .before .if1 .left)), p .1, within k, p .5, p .6)
 
 sub-t22 : tie.Need-sub-t22
 unfolding start own opposite stop end

@@ -3,10 +3,11 @@ use Prim.Native.Nat.{_≤_}
 use mathlib.Core.Path.{_≡_, refl}
 use lib.ListN.{length}
 use denote.Ref.{now}
-use Rattle.commands.specs.Commands.{Stands}
+use Rattle.replay.specs.Pieces.{partKept}
 use Rattle.replay.proofs.LawsFeed.{stands-back}
 use Rattle.rules.specs.Book.{fresh}
 use Rattle.soundness.proofs.LawsKept.{fresh-sound}
+use Rattle.tables.specs.Answers.{Stands}
 use native.Mathlib.Omega.{arith}
 use borrow.Author.Needs.{needs}
 use Rattle.night.proofs.run.Statement.{statement}
@@ -14,7 +15,7 @@ use Rattle.night.proofs.run.Tie as tie
 
 abbrev Inv-loop : tie.InvT-loop
 Inv-loop input₀ buys₀ sells₀ out₀ head₀ have₀ turns₀ input buys sells out head have turns =
-    Stands head buys sells × (have ≤ 42) × (length input ≡ length input₀) × (length out ≡ length out₀)
+    Stands head buys sells × (have ≤ partKept) × (length input ≡ length input₀) × (length out ≡ length out₀)
 
 abbrev μ-loop : tie.MeasureT-loop
 μ-loop input₀ buys₀ sells₀ out₀ head₀ have₀ turns₀ input buys sells out head have turns = turns

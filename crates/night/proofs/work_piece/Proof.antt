@@ -5,7 +5,7 @@ use lib.ListN.{length, take, drop, length-take, length-drop}
 use lib.Seq.{length-take-le}
 use denote.Ref.{now}
 use Rattle.basics.proofs.LawsBytes.{length-onto}
-use Rattle.commands.specs.Commands.{Stands}
+use Rattle.tables.specs.Answers.{Stands}
 use native.Mathlib.Omega.{arith}
 use borrow.Author.Needs.{needs}
 use Rattle.night.proofs.work_piece.Statement.{statement}

@@ -4,6 +4,7 @@ use mathlib.Core.Bool.{true, false, not, _&&_, _||_}
 use mathlib.Core.Path.{_≡_, ap, _∙_}
 use lib.Dec.{eqb}
 use borrow.Author.Needs.{needs}
+use Rattle.kinds.specs.Kinds.{largest}
 use Rattle.rules.specs.Instructions.{has, iso, displayed}
 use Rattle.rules.specs.Working.{buying, beyond, lockingPrice, absent, adjusted, oneCentLessAggressive, seeks}
 use Rattle.pricing.proofs.LawsBound.{not-not}
@@ -59,7 +60,7 @@ module _ (c : tie.After-has2) where
 less-aggressive-requires : tie.Need-less-aggressive-requires
 less-aggressive-requires c κs =
     let k = c .before .before .before .before .before .before in
-    let below : k .before .before .locking-price .result .0 < 4294967295 = rw (locking-is k) (k .before .before .before .before .before .pre) in
+    let below : k .before .before .locking-price .result .0 < largest = rw (locking-is k) (k .before .before .before .before .before .pre) in
     below
 
 adjust-requires : tie.Need-adjust-requires

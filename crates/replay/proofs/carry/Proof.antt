@@ -3,31 +3,32 @@ use Prim.Native.Nat.{ℕ, _+_, _-_, _≤_, _<_, min}
 use mathlib.Core.Bool.{true, false, _&&_}
 use mathlib.Core.Logic.{⊎-elim}
 use mathlib.Core.Path.{_≡_}
-use lib.Dec.{ltb}
+use lib.Dec.{leb, ltb}
 use lib.ListN.{length, length-set}
 use native.Mathlib.Omega.{arith}
 use borrow.Author.Needs.{needs}
-use borrow.Author.Tests.{ltb-true, ltb-false}
+use borrow.Author.Tests.{leb-true, leb-false, ltb-true, ltb-false}
 use denote.Ref.{now}
 use Rattle.basics.specs.Lists.{moved}
 use Rattle.basics.proofs.LawsChoice.{holds-or-not, and-left, and-right}
 use Rattle.basics.proofs.LawsLists.{moved-start, moved-step}
+use Rattle.rules.specs.CommandLines.{longestLine}
 use Rattle.replay.specs.Pieces.{partKept}
 use Rattle.replay.proofs.carry.Statement.{statement}
 use Rattle.replay.proofs.carry.Tie as tie
 
 -- the loop's test tells whether a byte is still to be moved
 module _ (i from end : ℕ) where
-  goes-on : (ltb i end && ltb (i - from) partKept) ≡ true → (i < end) × (i - from < partKept)
+  goes-on : (ltb i end && leb (i - from) longestLine) ≡ true → (i < end) × (i - from ≤ longestLine)
   goes-on t = (
-    ltb-true i end (and-left (ltb i end) (ltb (i - from) partKept) t),
-    ltb-true (i - from) partKept (and-right (ltb i end) (ltb (i - from) partKept) t),
+    ltb-true i end (and-left (ltb i end) (leb (i - from) longestLine) t),
+    leb-true (i - from) longestLine (and-right (ltb i end) (leb (i - from) longestLine) t),
   )
 
-  ended : from ≤ i → i ≤ end → i ≤ from + partKept → (ltb i end && ltb (i - from) partKept) ≡ false → i ≡ min end (from + partKept)
+  ended : from ≤ i → i ≤ end → i ≤ from + partKept → (ltb i end && leb (i - from) longestLine) ≡ false → i ≡ min end (from + partKept)
   ended l m n t =
       ⊎-elim
-      (λ (h : ltb i end ≡ true). let k : partKept ≤ i - from = ltb-false (i - from) partKept (rw h at t) in omega arith)
+      (λ (h : ltb i end ≡ true). let k : longestLine < i - from = leb-false (i - from) longestLine (rw h at t) in omega arith)
       (λ (h : ltb i end ≡ false). let k : end ≤ i = ltb-false i end h in omega arith)
       (holds-or-not (ltb i end))
 

@@ -10,7 +10,8 @@ use Rattle.basics.proofs.LawsLists.{map-drop}
 use Rattle.rules.specs.Book.{placesASide}
 use Rattle.rules.specs.Working.{isNumber}
 use Rattle.rows.specs.Table.{side, orderOf}
-use Rattle.side.proofs.LawsPlaces.{ahead, where-end, where-found, where-next}
+use Rattle.rows.proofs.LawsTable.{ahead}
+use Rattle.side.proofs.LawsPlaces.{where-end, where-found, where-next}
 use Rattle.side.proofs.find.Statement.{statement}
 use Rattle.side.proofs.find.Tie as tie
 

@@ -9,7 +9,8 @@ use denote.Ref.{now}
 use Rattle.basics.specs.Lists.{firstWhere}
 use Rattle.rules.specs.Book.{placesASide, ranksBefore}
 use Rattle.rows.specs.Table.{side}
-use Rattle.side.proofs.LawsPlaces.{ahead, where-end, where-found, where-next}
+use Rattle.rows.proofs.LawsTable.{ahead}
+use Rattle.side.proofs.LawsPlaces.{where-end, where-found, where-next}
 use Rattle.side.proofs.place.Statement.{statement}
 use Rattle.side.proofs.place.Tie as tie
 

@@ -8,7 +8,7 @@ use Rattle.kinds.specs.declared.Cents.{Cents}
 use Rattle.rows.specs.Table.{side}
 use Rattle.rules.specs.Instructions.{fok, postOnly, has}
 use Rattle.rules.specs.Working.{buying}
-use Rattle.side.specs.Walk.{isWithin, stopOf}
+use Rattle.walk.specs.Walk.{isWithin, stopOf}
 use Rattle.work.specs.Stopping.{stopFor, walkStop}
 use Rattle.work.proofs.stop_of.Statement.{statement}
 use Rattle.work.proofs.stop_of.Tie as tie

@@ -1,0 +1,3 @@
+pub mod LawsCancelled
+pub mod LawsDone
+pub mod Determined

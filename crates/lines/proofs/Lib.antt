@@ -1,0 +1,3 @@
+pub mod LawsLines
+pub mod LawsFirst
+pub mod Determined

@@ -1,0 +1,3 @@
+pub mod LawsReady
+pub mod LawsEntered
+pub mod Determined

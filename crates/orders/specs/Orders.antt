@@ -1,0 +1,26 @@
+-- What an order leaves in a header.
+use Prim.Native.Nat.{ℕ}
+use mathlib.Core.Bool.{Bool}
+use lib.Dec.{eqb}
+use Rattle.basics.specs.Choice.{if_then_else_}
+use Rattle.kinds.specs.declared.Number.{Number}
+use Rattle.matching.specs.declared.Matched.{Matched}
+use Rattle.tables.specs.declared.Head.{Head}
+use Rattle.tables.specs.declared.Step.{Step}
+
+-- the header after a match: what each side of the market holds, by the side that the order is of
+abbrev pub settled : Head → Number → ℕ → Bool → Matched → Step
+settled h n time buy r =
+    if eqb (r .refusal) 0 then record {
+      refusal = 0;
+      head = record {
+        last = n;
+        time = time;
+        away = h .away;
+        closed = h .closed;
+        buys = if buy then r .own else r .opposite;
+        sells = if buy then r .opposite else r .own;
+      };
+      length = r .length;
+    }
+    else record { refusal = r .refusal; head = h; length = 0 }

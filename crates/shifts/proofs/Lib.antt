@@ -1,0 +1,2 @@
+pub mod LawsShifts
+pub mod Determined

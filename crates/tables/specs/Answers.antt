@@ -1,0 +1,36 @@
+-- A command to a sound book that stands in a header and two tables, with room for its lines: the answer of 01, and the same in a
+-- header and numbers.
+use Prim.Native.Nat.{ℕ}
+use mathlib.Core.Bool.{true}
+use mathlib.Core.List.{List}
+use mathlib.Core.Path.{_≡_}
+use lib.ListN.{length}
+use Rattle.kinds.specs.declared.Number.{Number}
+use Rattle.rows.specs.Table.{Holds}
+use Rattle.rules.specs.declared.Body.{Body}
+use Rattle.rules.specs.declared.Command.{Command}
+use Rattle.rules.specs.declared.Reading.the-variants as reading
+use Rattle.rules.specs.Book.{Book, sound}
+use Rattle.rules.specs.EventLines.{eventLines}
+use Rattle.rules.specs.Refusals.{firstOf, bodyRefusals, lineRefusals}
+use Rattle.rules.specs.Step.{Answer, answer}
+use Rattle.tables.specs.declared.Head.{Head}
+use Rattle.tables.specs.Tables.{bookOn, headOf}
+use Rattle.tables.specs.declared.Step.{Step}
+
+-- the answer to a command, 4 to 11 or 0
+unfoldable pub answerOf : Command → Book → Answer
+answerOf c b = answer (firstOf (lineRefusals b (reading.Is c))) (reading.Is c) b
+
+-- the answer to a command whose header is in order, 8 to 11 or 0
+unfoldable pub bodyAnswer : Number → ℕ → Body → Book → Answer
+bodyAnswer n time body b = answer (firstOf (bodyRefusals b body)) (reading.Is (record { number = n; time = time; body = body })) b
+
+abbrev pub stepOf : Answer → Step
+stepOf a = record { refusal = a .refusal; head = headOf (a .book); length = length (eventLines (a .events)) }
+
+-- a sound book stands in a header and two tables
+pub record Stands (h : Head) (t u : List (List ℕ)) : Type 0 where
+  pub buys : Holds (h .buys) t
+  pub sells : Holds (h .sells) u
+  pub isSound : sound (bookOn h t u) ≡ true

@@ -1,0 +1,2 @@
+pub mod LawsWalk
+pub mod Determined
