@@ -27,7 +27,7 @@ use Rattle.rules.specs.declared.Resting.{Resting}
 use Rattle.rules.specs.Book.{Book, sound}
 use Rattle.rules.specs.CommandLines.{Fitting, empty, fits, headerForm, orderForm, numbersOf, formOf, commandIn}
 use Rattle.rules.specs.Day.{linesIn, printed, printedOf}
-use Rattle.rules.specs.EventLines.{executedKind, restedKind, cancelledKind, byCommand, iocRemainder, fokKilled, cancelledBack, noPriceInRange, postOnlyMeets, atClose}
+use Rattle.rules.specs.EventLines.{FitsEvent, executedKind, restedKind, cancelledKind, byCommand, iocRemainder, fokKilled, cancelledBack, noPriceInRange, postOnlyMeets, atClose}
 use Rattle.rules.specs.Instructions.{ioc, fok, has}
 use Rattle.rules.specs.Step.{doneBy, answer, answerTo}
 use Rattle.rules.specs.Working.{buying, oppositeSide, remainder, executions, endingWith, ending, lastLine, accept, cancels, isNumber, cancel, quote, close, does}
@@ -40,7 +40,7 @@ use Rattle.demands.specs.Once.{acts, numberIn}
 use Rattle.demands.specs.Run.{eventsOf}
 use Rattle.demands.specs.ShareOut.{Each, empty, with}
 use Rattle.demands.specs.Told.{eventsOn, eventsIn}
-use Rattle.demands.proofs.LawsEventLines.{FitsEvent, events-read, refusal-read}
+use Rattle.demands.proofs.LawsEventLines.{events-read, refusal-read}
 use Rattle.demands.proofs.LawsHeld.{NoMore, takings-no-more}
 use Rattle.demands.proofs.LawsOnce.{refused-book, refused-events, next-acts}
 
@@ -171,7 +171,7 @@ module _ (b : Book) (line : List ℕ) (s : sound b ≡ true) (l : b .last .0 < 2
       does-fits b s l (c .number) (header-number (f .header)) (c .time) (c .body) (f .body)
 
   -- a line that acts gives events that fit
-  acting-fits : acts b line ≡ true → All FitsEvent (answerTo b line .events)
+  pub acting-fits : acts b line ≡ true → All FitsEvent (answerTo b line .events)
   unfolding answerTo answer
   acting-fits t = rw t (done-fits (commandIn line) refl)
 

@@ -4,47 +4,34 @@ use Prim.Native.Nat.{ℕ, _+_}
 use mathlib.Core.Bool.{Bool, false, _&&_}
 use mathlib.Core.List.{List, [], _∷_, _++_}
 use lib.Dec.{eqb}
-use lib.ListN.{getD}
 use Rattle.basics.specs.Choice.{if_then_else_}
 use Rattle.basics.specs.Lists.{any, sumOf}
-use Rattle.kinds.specs.Kinds.{cents, shares, number}
+use Rattle.kinds.specs.Kinds.{shares, number}
 use Rattle.kinds.specs.declared.Cents.{Cents}
 use Rattle.kinds.specs.declared.Number.{Number}
 use Rattle.rules.specs.declared.Event.{Event}
 use Rattle.rules.specs.declared.Event.the-variants.{Executed, Rested, Cancelled}
+use Rattle.rules.specs.declared.EventReading.{EventReading}
+use Rattle.rules.specs.declared.EventReading.the-variants.{Is, UnknownKind, Short, TrailingBytes, BadDigitOrEnding}
 use Rattle.rules.specs.declared.Resting.{Resting}
 use Rattle.rules.specs.Book.{Book}
-use Rattle.rules.specs.CommandLines.{Numbers, are, none, numbersFrom, digitsIn, isEnded}
 use Rattle.rules.specs.Day.{linesIn}
-use Rattle.rules.specs.EventLines.{executedKind, restedKind, cancelledKind, executedForm, restedForm, cancelledForm, fokKilled}
+use Rattle.rules.specs.EventLines.{fokKilled}
+use Rattle.rules.specs.EventReading.{eventIn}
 
 -- ── Reading event lines ──
 
--- the event of a kind that the numbers of its form make; none where they are of another kind, or where a field is no number
-abbrev pub ofKind : ℕ → (List ℕ → Event) → Numbers → List Event
-ofKind kind make (are ns) = if eqb (getD ns 0 0) kind then make ns ∷ [] else []
-ofKind kind make none = []
-
-abbrev pub executedOf : List ℕ → Event
-executedOf ns = Executed (number (getD ns 1 0)) (number (getD ns 2 0)) (cents (getD ns 3 0)) (shares (getD ns 4 0))
-
-abbrev pub restedOf : List ℕ → Event
-restedOf ns = Rested (number (getD ns 1 0)) (cents (getD ns 2 0)) (shares (getD ns 3 0))
-
-abbrev pub cancelledOf : List ℕ → Event
-cancelledOf ns = Cancelled (number (getD ns 1 0)) (shares (getD ns 2 0)) (getD ns 3 0)
-
--- the event that a line is, by its length; none where it is no event line, as that of a refusal
-unfoldable pub eventIn : List ℕ → List Event
-eventIn line =
-    if isEnded (digitsIn executedForm) line then ofKind executedKind executedOf (numbersFrom 0 executedForm line)
-    else if isEnded (digitsIn restedForm) line then ofKind restedKind restedOf (numbersFrom 0 restedForm line)
-    else if isEnded (digitsIn cancelledForm) line then ofKind cancelledKind cancelledOf (numbersFrom 0 cancelledForm line)
-    else []
+-- the event that a line was read as (02, W1); none where it is no event line, as that of a refusal
+abbrev pub readAs : EventReading → List Event
+readAs (Is e) = e ∷ []
+readAs UnknownKind = []
+readAs Short = []
+readAs TrailingBytes = []
+readAs BadDigitOrEnding = []
 
 unfoldable pub eventsOn : List (List ℕ) → List Event
 eventsOn [] = []
-eventsOn (l ∷ ls) = eventIn l ++ eventsOn ls
+eventsOn (l ∷ ls) = readAs (eventIn l) ++ eventsOn ls
 
 -- the events that an output tells, line by line
 abbrev pub eventsIn : List ℕ → List Event

@@ -1,11 +1,14 @@
 // Where the first line of some bytes ends, and what it reads as (01, Command lines). A line that is a command is read before its
-// line feed is looked for.
+// line feed is looked for. A part of a line that a piece of input ends with is moved to the front, for the next piece to go on with.
 use rules::Reading;
 ghost use mathlib.Core.Path.{_≡_};
+ghost use Prim.Native.Nat.{_+_, _≤_, min};
 ghost use lib.Dec.{eqb};
-ghost use Rattle.basics.specs.Lists.{firstWhere};
+ghost use lib.ListN.{length};
+ghost use Rattle.basics.specs.Lists.{firstWhere, moved};
 ghost use Rattle.rules.specs.CommandLines.{lineFeed};
 ghost use Rattle.lines.specs.Lines.{digitsAfter, firstLine, otherLine};
+ghost use Rattle.lines.specs.Pieces.{partKept};
 
 // The first line of some bytes: how many stand before its line feed, and what it reads as.
 pub struct Line {
@@ -27,7 +30,7 @@ fn digits_after(c: u8) -> usize
 }
 
 // The place of the first line feed, or the length where there is none.
-fn scan_line(s: &[u8]) -> usize
+pub fn scan_line(s: &[u8]) -> usize
     ensures { λ r. ⌜ r ≡ firstWhere (λ c. eqb c lineFeed) (now (s .entry)) ⌝ }
 {
     let mut i = 0;
@@ -70,4 +73,21 @@ pub fn first_line(s: &[u8]) -> Line
         digits: n,
         reading: Reading::Is(c),
     }
+}
+
+// ── A part of a line ──
+
+// Moves the part of a line that stands from `from` to `end` to the front, of which no more is kept than one byte over the longest
+// line, and tells how many bytes these are.
+pub fn carry(input: &mut [u8], from: usize, end: usize) -> usize
+    requires { ⌜ (from ≤ end) × (end ≤ length (now input)) ⌝ }
+    ensures { λ r. ⌜ from + r ≡ min end (from + partKept) ⌝ }
+    ensures { λ _. ⌜ now (input .exit) ≡ moved (now (input .entry)) from (min end (from + partKept)) ⌝ }
+{
+    let mut i = from;
+    while (i < end) & (i - from <= rules::LONGEST_LINE) {
+        input[i - from] = input[i];
+        i += 1;
+    }
+    i - from
 }

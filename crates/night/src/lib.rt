@@ -1,5 +1,5 @@
 // A day from standard input to standard output (01, Examples from the desk: the program), for the programs that run one: pieces
-// are read, fed and written. All that is said of the bytes is said of `replay`.
+// are read, fed and written. All that is said of the bytes is said of `replay` and `lines`.
 use libc::STDIN_FILENO;
 use libc::STDOUT_FILENO;
 use rows::PLACES;
@@ -8,7 +8,7 @@ ghost use mathlib.Core.List.{[]};
 ghost use mathlib.Core.Path.{_≡_};
 ghost use Prim.Native.Nat.{_≤_, _<_};
 ghost use lib.ListN.{length};
-ghost use Rattle.replay.specs.Pieces.{partKept};
+ghost use Rattle.lines.specs.Pieces.{partKept};
 ghost use Rattle.rows.specs.Table.{tableOf};
 ghost use Rattle.tables.specs.Answers.{Stands};
 
@@ -139,7 +139,7 @@ fn take_turn(
     }
     let piece = work_piece(h, &input[..end], buys, sells, out);
     let head = piece.head;
-    let part = replay::carry(input, piece.at, end);
+    let part = lines::carry(input, piece.at, end);
     Turn {
         head: head,
         have: part,

@@ -27,7 +27,7 @@ fn limit_of(o: Order) -> Cents
         return price;
     }
     if o.side == 0 {
-        return Cents(Cents::LARGEST);
+        return Cents(kinds::LARGEST);
     }
     Cents(0)
 }

@@ -10,17 +10,22 @@ use denote.Ref.{now}
 use lib.ListN.{length}
 use Rattle.basics.specs.Bytes.{onto}
 use Rattle.basics.specs.Lists.{distinct}
+use Rattle.kinds.specs.declared.Number.{Number}
 use Rattle.rules.specs.declared.Command.{Command}
+use Rattle.rules.specs.declared.Event.{Event}
+use Rattle.rules.specs.declared.EventReading.the-variants as event
 use Rattle.rules.specs.declared.Order.{Order}
 use Rattle.rules.specs.declared.Reading.the-variants as reading
 use Rattle.rules.specs.Book.{Book, BookRecord, fresh, sound, recordOf}
 use Rattle.rules.specs.CommandLines.{commandIn, lineOf, Fits}
 use Rattle.rules.specs.Day.{printed, bookAfter, printedOf, output}
-use Rattle.rules.specs.EventLines.{eventLines}
+use Rattle.rules.specs.EventLines.{FitsEvent, eventLine, eventLines}
+use Rattle.rules.specs.EventReading.{eventIn}
 use Rattle.rules.specs.Instructions.{has, postOnly}
 use Rattle.rules.specs.Refusals.{leastRoom}
 use Rattle.rules.specs.Step.{answerTo, step}
 use Rattle.rules.specs.Working.{does}
+use Rattle.rules.proofs.LawsEventReading.{eventIn-eventLine, eventIn-is}
 use Rattle.rules.proofs.LawsLines.{commandIn-lineOf, commandIn-is, lineOf-once}
 use Rattle.soundness.proofs.LawsKept.{fresh-sound, after-sound}
 use Rattle.demands.specs.Once.{EventLines, Refused, endOf, eventLinesOf, actingNumbers, struckOut, noneRefused, acts, byLine, Call, byCall}
@@ -33,8 +38,13 @@ use Rattle.book.specs.declared.Reply.{Reply}
 use Rattle.book.specs.Record.{recordIn, replyOf}
 use Rattle.book.proofs.Book.answer.Reads as answer
 use Rattle.book.proofs.Determined.{answer-determined}
-use Rattle.replay.specs.Pieces.{begun, allOf, printedOfPieces}
+use Rattle.lines.specs.Pieces.{allOf}
+use Rattle.replay.specs.Pieces.{begun, printedOfPieces}
 use Rattle.replay.proofs.LawsPieces.{cut-anywhere}
+use Rattle.tally.specs.declared.Stop.the-variants.{Going}
+use Rattle.tally.specs.Tally.{tallyOf, tallyOfPieces}
+use Rattle.tally.proofs.LawsAgree.{tally-agrees}
+use Rattle.tally.proofs.LawsLong.{tally-cut}
 
 -- ── Demand 1 ──
 
@@ -135,6 +145,37 @@ pub no-share-lost : (lines : List (List ℕ)) (stood : Book) (line : List ℕ) (
     ≡ executedIn (c .number) (eventsIn (printedOf fresh lines)) + cancelledIn (c .number) (eventsIn (printedOf fresh lines))
     + restingOf (c .number) (bookAfter fresh lines)
 no-share-lost = run-conserved
+
+-- ── W1: our own lines, read back ──
+
+-- "It is the exact opposite of the event writer": what is written of an event is read as that event ..
+pub one-line-an-event : (e : Event) → FitsEvent e → eventIn (eventLine e) ≡ event.Is e
+one-line-an-event = eventIn-eventLine
+
+-- .. and whatever is read as an event is the line that is written of it
+pub one-event-a-line : (line : List ℕ) (e : Event) → eventIn line ≡ event.Is e → (line ≡ eventLine e) × FitsEvent e
+one-event-a-line line e is = let read = eventIn-is line e is in (read .line-is, read .fits-are)
+
+-- the tally of a day's own lines "must agree with demand 3's sums": for each accepted order nothing stops it, and it gives just the
+-- executed and the cancelled shares that the sums above count
+pub the-tally-agrees : (lines : List (List ℕ)) (stood : Book) (line : List ℕ) (c : Command) (o : Order) → Enters fresh lines stood line c o
+    → (tallyOf (c .number) (printedOf fresh lines) .stop ≡ Going)
+    × (tallyOf (c .number) (printedOf fresh lines) .executed .0 ≡ executedIn (c .number) (eventsIn (printedOf fresh lines)))
+    × (tallyOf (c .number) (printedOf fresh lines) .cancelled .0 ≡ cancelledIn (c .number) (eventsIn (printedOf fresh lines)))
+the-tally-agrees lines stood line c o r = let has = tally-agrees lines stood line c o r in (has .going, has .executed-are, has .cancelled-are)
+
+-- so that shares entered = executed + cancelled + resting is read off the tally
+pub read-off-the-tally : (lines : List (List ℕ)) (stood : Book) (line : List ℕ) (c : Command) (o : Order) → Enters fresh lines stood line c o
+    → o .shares .0
+    ≡ tallyOf (c .number) (printedOf fresh lines) .executed .0 + tallyOf (c .number) (printedOf fresh lines) .cancelled .0
+    + restingOf (c .number) (bookAfter fresh lines)
+read-off-the-tally lines stood line c o r =
+    let has = tally-agrees lines stood line c o r in
+    rw (has .executed-are, has .cancelled-are) (run-conserved lines stood line c o r)
+
+-- and the tally of the pieces of an output is that of the whole output, however it is cut
+pub tally-however-cut : (n : Number) (pieces : List (List ℕ)) → tallyOfPieces n pieces ≡ tallyOf n (allOf pieces)
+tally-however-cut = tally-cut
 
 -- ── The code, and the program's step ──
 

@@ -15,6 +15,7 @@ use Rattle.rules.specs.Book.{fresh, ranksBefore, inRankOrder, apart, sound}
 use Rattle.rules.specs.CommandLines.{written, lineOf, numbersFrom, orderIn, cancelIn, quoteIn, closeIn, bodyIn, commandIn}
 use Rattle.rules.specs.Day.{joined, linesIn, printed, bookAfter, printedOf}
 use Rattle.rules.specs.EventLines.{eventLine, eventLines, refusalLine}
+use Rattle.rules.specs.EventReading.{ofFields, ofKind, eventIn}
 use Rattle.rules.specs.Instructions.{lawful}
 use Rattle.rules.specs.Refusals.{firstOf, restsOnFullSide, headerRefusals, bodyRefusals, lineRefusals, refusals}
 use Rattle.rules.specs.Step.{doneBy, answer, answerTo}
@@ -22,7 +23,7 @@ use Rattle.rules.specs.Working.{nothing, walk, walked, takings, remainder, exec
 use Rattle.demands.specs.Once.{actingNumbers, struckOut, byLine}
 use Rattle.demands.specs.Run.{Enters, now, later}
 use Rattle.demands.specs.ShareOut.{Given, given, Lawful, Fills}
-use Rattle.demands.specs.Told.{eventIn, eventsOn, eventsIn, isKilled, executedIn, cancelledIn, restingOf}
+use Rattle.demands.specs.Told.{eventsOn, eventsIn, isKilled, executedIn, cancelledIn, restingOf}
 use Rattle.promises.proofs.Promises.{executes-the-greatest, no-share-lost}
 use Rattle.promises.specs.Night.{night, nightStruckOut, nightEvents, killed, greedy, resting, theKilled, theGreedy, theResting}
 
@@ -40,7 +41,7 @@ night-struck-out = refl
 -- ── What the night tells ──
 
 night-tells : eventsIn (printedOf fresh night) ≡ nightEvents
-unfolding ones onesIn onto every any distinct total digits nibbleOf allDigits numberAfter numberIn ranksBefore inRankOrder apart sound written lineOf numbersFrom orderIn cancelIn quoteIn closeIn bodyIn commandIn joined linesIn printed bookAfter printedOf eventLine eventLines refusalLine lawful firstOf restsOnFullSide headerRefusals bodyRefusals lineRefusals refusals doneBy answer answerTo nothing walk walked takings remainder executions after seeks endingWith ending insert accept kept cancels cancel quote close does eventIn eventsOn
+unfolding ones onesIn onto every any distinct total digits nibbleOf allDigits numberAfter numberIn ranksBefore inRankOrder apart sound written lineOf numbersFrom orderIn cancelIn quoteIn closeIn bodyIn commandIn joined linesIn printed bookAfter printedOf eventLine eventLines refusalLine lawful firstOf restsOnFullSide headerRefusals bodyRefusals lineRefusals refusals doneBy answer answerTo nothing walk walked takings remainder executions after seeks endingWith ending insert accept kept cancels cancel quote close does ofFields ofKind eventIn eventsOn
 night-tells = refl
 
 -- ── Demand 3 ──
@@ -61,7 +62,7 @@ resting-enters = later (later (later (later (later (later (later (later (now ref
 
 -- 300 shares rest within the limit of the Fill-or-Kill, and yet no lawful share-out fills it, for 100 of them rest above the away offer
 kills : isKilled (number 5) (eventsIn (printed (answerTo (bookAfter fresh (take 5 night)) (lineOf theKilled)))) ≡ true
-unfolding ones onesIn onto every any distinct total digits nibbleOf allDigits numberAfter numberIn ranksBefore inRankOrder apart sound written lineOf numbersFrom orderIn cancelIn quoteIn closeIn bodyIn commandIn lawful firstOf restsOnFullSide headerRefusals bodyRefusals lineRefusals refusals doneBy answer answerTo nothing walk walked takings remainder executions after seeks endingWith ending insert accept kept cancels cancel quote close does bookAfter joined linesIn printed eventLine eventLines refusalLine eventIn eventsOn
+unfolding ones onesIn onto every any distinct total digits nibbleOf allDigits numberAfter numberIn ranksBefore inRankOrder apart sound written lineOf numbersFrom orderIn cancelIn quoteIn closeIn bodyIn commandIn lawful firstOf restsOnFullSide headerRefusals bodyRefusals lineRefusals refusals doneBy answer answerTo nothing walk walked takings remainder executions after seeks endingWith ending insert accept kept cancels cancel quote close does bookAfter joined linesIn printed eventLine eventLines refusalLine ofFields ofKind eventIn eventsOn
 kills = refl
 
 pub away-price-kills : Fills killed (bookAfter fresh (take 5 night) .away) (bookAfter fresh (take 5 night) .sells) → ⊥
@@ -70,11 +71,11 @@ away-price-kills =
 
 -- the next order executes 200 shares, and no lawful share-out gives it more
 takes-200 : executedIn (number 6) (eventsIn (printed (answerTo (bookAfter fresh (take 6 night)) (lineOf theGreedy)))) ≡ 200
-unfolding ones onesIn onto every any distinct total digits nibbleOf allDigits numberAfter numberIn ranksBefore inRankOrder apart sound written lineOf numbersFrom orderIn cancelIn quoteIn closeIn bodyIn commandIn lawful firstOf restsOnFullSide headerRefusals bodyRefusals lineRefusals refusals doneBy answer answerTo nothing walk walked takings remainder executions after seeks endingWith ending insert accept kept cancels cancel quote close does bookAfter joined linesIn printed eventLine eventLines refusalLine eventIn eventsOn sumOf
+unfolding ones onesIn onto every any distinct total digits nibbleOf allDigits numberAfter numberIn ranksBefore inRankOrder apart sound written lineOf numbersFrom orderIn cancelIn quoteIn closeIn bodyIn commandIn lawful firstOf restsOnFullSide headerRefusals bodyRefusals lineRefusals refusals doneBy answer answerTo nothing walk walked takings remainder executions after seeks endingWith ending insert accept kept cancels cancel quote close does bookAfter joined linesIn printed eventLine eventLines refusalLine ofFields ofKind eventIn eventsOn sumOf
 takes-200 = refl
 
 lives : isKilled (number 6) (eventsIn (printed (answerTo (bookAfter fresh (take 6 night)) (lineOf theGreedy)))) ≡ false
-unfolding ones onesIn onto every any distinct total digits nibbleOf allDigits numberAfter numberIn ranksBefore inRankOrder apart sound written lineOf numbersFrom orderIn cancelIn quoteIn closeIn bodyIn commandIn lawful firstOf restsOnFullSide headerRefusals bodyRefusals lineRefusals refusals doneBy answer answerTo nothing walk walked takings remainder executions after seeks endingWith ending insert accept kept cancels cancel quote close does bookAfter joined linesIn printed eventLine eventLines refusalLine eventIn eventsOn
+unfolding ones onesIn onto every any distinct total digits nibbleOf allDigits numberAfter numberIn ranksBefore inRankOrder apart sound written lineOf numbersFrom orderIn cancelIn quoteIn closeIn bodyIn commandIn lawful firstOf restsOnFullSide headerRefusals bodyRefusals lineRefusals refusals doneBy answer answerTo nothing walk walked takings remainder executions after seeks endingWith ending insert accept kept cancels cancel quote close does bookAfter joined linesIn printed eventLine eventLines refusalLine ofFields ofKind eventIn eventsOn
 lives = refl
 
 pub nobody-gives-more : (gs : List Given) → Lawful greedy (bookAfter fresh (take 6 night) .away) (bookAfter fresh (take 6 night) .sells) gs

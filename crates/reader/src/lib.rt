@@ -12,7 +12,7 @@ use rules::Order;
 use rules::Reading;
 ghost use mathlib.Core.Path.{_≡_};
 ghost use Prim.Native.Nat.{_<_};
-ghost use Rattle.rules.specs.CommandLines.{numberAt, isEnded, orderIn, cancelIn, quoteIn, closeIn, bodyIn, commandIn};
+ghost use Rattle.rules.specs.CommandLines.{isEnded, orderIn, cancelIn, quoteIn, closeIn, bodyIn, commandIn};
 
 // Whether `n` digits are followed by one line feed, and by no more.
 fn is_ended(s: &[u8], n: usize) -> bool
@@ -25,55 +25,22 @@ fn is_ended(s: &[u8], n: usize) -> bool
     s[n] == 10
 }
 
-// The number of one byte that stands from digit `at` on; bad where the line is too short for it.
-fn one_at(s: &[u8], at: usize) -> Value
-    requires { ⌜ at < 64 ⌝ }
-    ensures { λ r. ⌜ r ≡ numberAt 1 at (now (s .entry)) ⌝ }
-{
-    if s.len() < at + 2 {
-        return Value::Bad;
-    }
-    digits::read_one(&s[at..at + 2])
-}
-
-// The same of two bytes.
-fn two_at(s: &[u8], at: usize) -> Value
-    requires { ⌜ at < 64 ⌝ }
-    ensures { λ r. ⌜ r ≡ numberAt 2 at (now (s .entry)) ⌝ }
-{
-    if s.len() < at + 4 {
-        return Value::Bad;
-    }
-    digits::read_two(&s[at..at + 4])
-}
-
-// The same of four bytes.
-fn four_at(s: &[u8], at: usize) -> Value
-    requires { ⌜ at < 64 ⌝ }
-    ensures { λ r. ⌜ r ≡ numberAt 4 at (now (s .entry)) ⌝ }
-{
-    if s.len() < at + 8 {
-        return Value::Bad;
-    }
-    digits::read_four(&s[at..at + 8])
-}
-
 fn read_order(s: &[u8]) -> BodyReading
     ensures { λ r. ⌜ r ≡ orderIn (now (s .entry)) ⌝ }
 {
     if !is_ended(s, 22) {
         return BodyReading::Bad;
     }
-    let Value::Is(side) = one_at(s, 0) else {
+    let Value::Is(side) = fields::one_at(s, 0) else {
         return BodyReading::Bad;
     };
-    let Value::Is(word) = two_at(s, 2) else {
+    let Value::Is(word) = fields::two_at(s, 2) else {
         return BodyReading::Bad;
     };
-    let Value::Is(price) = four_at(s, 6) else {
+    let Value::Is(price) = fields::four_at(s, 6) else {
         return BodyReading::Bad;
     };
-    let Value::Is(shares) = four_at(s, 14) else {
+    let Value::Is(shares) = fields::four_at(s, 14) else {
         return BodyReading::Bad;
     };
     BodyReading::Is(Body::Order(Order {
@@ -90,7 +57,7 @@ fn read_cancel(s: &[u8]) -> BodyReading
     if !is_ended(s, 8) {
         return BodyReading::Bad;
     }
-    let Value::Is(number) = four_at(s, 0) else {
+    let Value::Is(number) = fields::four_at(s, 0) else {
         return BodyReading::Bad;
     };
     BodyReading::Is(Body::Cancel(Number(number)))
@@ -102,10 +69,10 @@ fn read_quote(s: &[u8]) -> BodyReading
     if !is_ended(s, 16) {
         return BodyReading::Bad;
     }
-    let Value::Is(bid) = four_at(s, 0) else {
+    let Value::Is(bid) = fields::four_at(s, 0) else {
         return BodyReading::Bad;
     };
-    let Value::Is(offer) = four_at(s, 8) else {
+    let Value::Is(offer) = fields::four_at(s, 8) else {
         return BodyReading::Bad;
     };
     BodyReading::Is(Body::Quote(Away {
@@ -143,13 +110,13 @@ pub fn read_command(s: &[u8]) -> Reading
     if s.len() < 18 {
         return Reading::Bad;
     }
-    let Value::Is(kind) = one_at(s, 0) else {
+    let Value::Is(kind) = fields::one_at(s, 0) else {
         return Reading::Bad;
     };
-    let Value::Is(number) = four_at(s, 2) else {
+    let Value::Is(number) = fields::four_at(s, 2) else {
         return Reading::Bad;
     };
-    let Value::Is(time) = four_at(s, 10) else {
+    let Value::Is(time) = fields::four_at(s, 10) else {
         return Reading::Bad;
     };
     let BodyReading::Is(body) = read_body(kind, &s[18..]) else {

@@ -1,14 +1,11 @@
 -- Each public contract determines its result, both tables and the bytes: any two outcomes that meet it are equal. A contract is
 -- read here as the checker reads it from the source (`Post`), not from a copy. Assumes nothing.
-use Prim.Native.Nat.{ℕ, _+_}
 use mathlib.Core.Path.{_≡_, sym, _∙_}
-use native.Mathlib.Omega.{arith}
 use denote.Ref.{now}
 use Rattle.tables.specs.declared.Head.{Head}
 use Rattle.replay.specs.declared.Fed.{Fed}
 use Rattle.replay.proofs.begin.Reads as begin
 use Rattle.replay.proofs.feed.Reads as feed
-use Rattle.replay.proofs.carry.Reads as carry
 
 pub begin-determined : (κs : _) (a : _) (r r′ : Head) (s s′ : _) → begin.Post κs a r s → begin.Post κs a r′ s′ → r ≡ r′
 begin-determined κs a r r′ s s′ p q = p ∙ sym q
@@ -20,9 +17,3 @@ pub feed-determined : (κs : _) (a : _) (r r′ : Fed) (s s′ : _) → feed.Pos
     × (now (s .1 .1 .1 .1 .0) ≡ now (s′ .1 .1 .1 .1 .0))
 feed-determined κs a r r′ s s′ p q =
     (p .0 ∙ sym (q .0), p .1 .0 ∙ sym (q .1 .0), p .1 .1 .0 ∙ sym (q .1 .1 .0), p .1 .1 .1 .0 ∙ sym (q .1 .1 .1 .0))
-
-same-sum : (k m n : ℕ) → k + m ≡ k + n → m ≡ n
-same-sum k m n e = omega (arith, e)
-
-pub carry-determined : (κs : _) (a : _) (r r′ : ℕ) (s s′ : _) → carry.Post κs a r s → carry.Post κs a r′ s′ → (r ≡ r′) × (now (s .0) ≡ now (s′ .0))
-carry-determined κs a r r′ s s′ p q = (same-sum _ r r′ (p .0 ∙ sym (q .0)), p .1 ∙ sym (q .1))

@@ -13,6 +13,8 @@ use Rattle.basics.specs.Lists.{firstWhere}
 use Rattle.basics.proofs.LawsBytes.{onto-none, onto-after, onto-part}
 use Rattle.lines.specs.declared.Line.{Line}
 use Rattle.lines.specs.Lines.{isLineFeed, firstLine}
+use Rattle.lines.specs.Pieces.{Cut, cut}
+use Rattle.lines.proofs.LawsCut.{cut-line, cut-none}
 use Rattle.rows.specs.Table.{tableOf}
 use Rattle.rows.proofs.LawsTable.{length-side, side-tableOf, holds-tableOf}
 use Rattle.rules.specs.Book.{Book, sound}
@@ -27,8 +29,6 @@ use Rattle.tables.specs.Answers.{Stands}
 use Rattle.tables.specs.Tables.{bookOn, headOf}
 use Rattle.replay.specs.declared.Fed.{Fed}
 use Rattle.replay.specs.Feed.{answerFor, Worked, nothingOf, behind, worked, fedBy}
-use Rattle.replay.specs.Pieces.{Cut, cut}
-use Rattle.replay.proofs.LawsCut.{cut-line, cut-none}
 
 -- ── A sound book in its header and tables ──
 

@@ -7,10 +7,10 @@ use rules::Away;
 use rules::Reading;
 use tables::Head;
 ghost use mathlib.Core.Path.{_≡_};
-ghost use Prim.Native.Nat.{_+_, _≤_, min};
+ghost use Prim.Native.Nat.{_≤_};
 ghost use lib.ListN.{length};
 ghost use Rattle.basics.specs.Bytes.{onto};
-ghost use Rattle.basics.specs.Lists.{moved};
+ghost use Rattle.lines.specs.Pieces.{cut};
 ghost use Rattle.rows.specs.Table.{tableOf};
 ghost use Rattle.rules.specs.Book.{fresh};
 ghost use Rattle.rules.specs.Day.{printed};
@@ -18,7 +18,6 @@ ghost use Rattle.rules.specs.Refusals.{leastRoom};
 ghost use Rattle.tables.specs.Answers.{Stands};
 ghost use Rattle.tables.specs.Tables.{bookOn, headOf};
 ghost use Rattle.replay.specs.Feed.{worked, answerFor, printedStep, fedBy};
-ghost use Rattle.replay.specs.Pieces.{cut, partKept};
 
 // What a line leaves: the header, and the length of what is printed of it.
 pub struct Printed {
@@ -129,19 +128,4 @@ pub fn feed(
         at: at,
         length: length,
     }
-}
-
-// Moves the part of a line that stands from `from` to `end` to the front, of which no more is kept than one byte over the longest
-// line, and tells how many bytes these are.
-pub fn carry(input: &mut [u8], from: usize, end: usize) -> usize
-    requires { ⌜ (from ≤ end) × (end ≤ length (now input)) ⌝ }
-    ensures { λ r. ⌜ from + r ≡ min end (from + partKept) ⌝ }
-    ensures { λ _. ⌜ now (input .exit) ≡ moved (now (input .entry)) from (min end (from + partKept)) ⌝ }
-{
-    let mut i = from;
-    while (i < end) & (i - from <= rules::LONGEST_LINE) {
-        input[i - from] = input[i];
-        i += 1;
-    }
-    i - from
 }

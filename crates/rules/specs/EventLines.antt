@@ -1,7 +1,7 @@
 -- Event lines and the line of a refusal (01, What the machine says back).
 use Prim.Native.Nat.{ℕ}
 use mathlib.Core.List.{List, [], _∷_, _++_}
-use Rattle.rules.specs.CommandLines.{line}
+use Rattle.rules.specs.CommandLines.{Fitting, line}
 use Rattle.rules.specs.declared.Event.{Event}
 use Rattle.rules.specs.declared.Event.the-variants.{Executed, Rested, Cancelled}
 
@@ -16,28 +16,36 @@ restedKind = 0x12
 abbrev pub cancelledKind : ℕ
 cancelledKind = 0x13
 
--- the widths of a line's fields in bytes, its kind first. "`11` execution (incoming number, resting number, price, shares)"
-abbrev pub executedForm : List ℕ
-executedForm = 1 ∷ 4 ∷ 4 ∷ 4 ∷ 4 ∷ []
+-- the widths in bytes of the fields behind a line's kind. "`11` execution (incoming number, resting number, price, shares)"
+abbrev pub executedFields : List ℕ
+executedFields = 4 ∷ 4 ∷ 4 ∷ 4 ∷ []
 
 -- "`12` rested (number, price, shares)"
-abbrev pub restedForm : List ℕ
-restedForm = 1 ∷ 4 ∷ 4 ∷ 4 ∷ []
+abbrev pub restedFields : List ℕ
+restedFields = 4 ∷ 4 ∷ 4 ∷ []
 
 -- "`13` cancelled (number, shares, reason in 1 byte)". "All other fields have 4 bytes."
-abbrev pub cancelledForm : List ℕ
-cancelledForm = 1 ∷ 4 ∷ 4 ∷ 1 ∷ []
+abbrev pub cancelledFields : List ℕ
+cancelledFields = 4 ∷ 4 ∷ 1 ∷ []
+
+-- the form of a line, its kind first
+abbrev pub withKind : List ℕ → List ℕ
+withKind fields = 1 ∷ fields
 
 abbrev pub eventForm : Event → List ℕ
-eventForm (Executed incoming resting price shares) = executedForm
-eventForm (Rested number price shares) = restedForm
-eventForm (Cancelled number shares reason) = cancelledForm
+eventForm (Executed incoming resting price shares) = withKind executedFields
+eventForm (Rested number price shares) = withKind restedFields
+eventForm (Cancelled number shares reason) = withKind cancelledFields
 
 -- "The number in `12` and `13` is the order's own, never the cancelling command's."
 abbrev pub eventNumbers : Event → List ℕ
 eventNumbers (Executed incoming resting price shares) = executedKind ∷ incoming .0 ∷ resting .0 ∷ price .0 ∷ shares .0 ∷ []
 eventNumbers (Rested number price shares) = restedKind ∷ number .0 ∷ price .0 ∷ shares .0 ∷ []
 eventNumbers (Cancelled number shares reason) = cancelledKind ∷ number .0 ∷ shares .0 ∷ reason ∷ []
+
+-- an event whose fields their widths hold; every event that the machine holds is so
+abbrev pub FitsEvent : Event → Type 0
+FitsEvent e = Fitting (eventForm e) (eventNumbers e)
 
 -- ── Lines ──
 

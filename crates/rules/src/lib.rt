@@ -45,6 +45,13 @@ pub const CLOSE_DIGITS: usize = 18;
 // The bytes of the longest command line, an order's, with its line feed: a longer one is refused whatever its bytes are.
 pub const LONGEST_LINE: usize = ORDER_DIGITS + 1;
 
+// The bytes of an event line of each kind, 11, 12 and 13, with its line feed.
+pub const EXECUTED_LENGTH: usize = 35;
+
+pub const RESTED_LENGTH: usize = 27;
+
+pub const CANCELLED_LENGTH: usize = 21;
+
 // "Output room below 4,096 bytes" is refusal 1.
 pub const LEAST_ROOM: usize = 4096;
 
@@ -94,6 +101,15 @@ pub enum Ending {
     Filled,
     Rests(Cents),
     Cancels(u8),
+}
+
+// What reading an event line finds: an event, or why the line is none, in the order in which these are tried (02, W1).
+pub enum EventReading {
+    Is(Event),
+    UnknownKind,
+    Short,
+    TrailingBytes,
+    BadDigitOrEnding,
 }
 
 // What an event line says. The number of a rested or cancelled order is its own, never the cancelling command's.

@@ -3,7 +3,7 @@ use Prim.Native.Nat.{_≤_}
 use mathlib.Core.Path.{_≡_, refl}
 use lib.ListN.{length}
 use denote.Ref.{now}
-use Rattle.replay.specs.Pieces.{partKept}
+use Rattle.lines.specs.Pieces.{partKept}
 use Rattle.replay.proofs.LawsFeed.{stands-back}
 use Rattle.rules.specs.Book.{fresh}
 use Rattle.soundness.proofs.LawsKept.{fresh-sound}

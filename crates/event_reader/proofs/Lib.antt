@@ -1,0 +1,2 @@
+pub mod LawsEventReader
+pub mod Determined

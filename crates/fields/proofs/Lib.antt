@@ -1,0 +1,2 @@
+pub mod LawsFields
+pub mod Determined

@@ -1,0 +1,104 @@
+-- The two orders of an execution are two: on a day of our own no line names one number twice, so counting a line once or once for each
+-- role comes to the same. Assumes nothing.
+use Prim.Native.Nat.{ℕ, _+_}
+use mathlib.Core.Bool.{Bool, true, false}
+use mathlib.Core.List.{List, [], _∷_}
+use mathlib.Core.Logic.{_≢_, ⊎-elim}
+use mathlib.Core.Path.{_≡_, refl, sym, _∙_}
+use lib.Dec.{eqb}
+use native.Mathlib.Omega.{arith}
+use borrow.Author.Tests.{ne-eqb, eqb-true}
+use Rattle.basics.specs.Lists.{sumOf, All, none, also}
+use Rattle.basics.proofs.LawsChoice.{holds-or-not}
+use Rattle.basics.proofs.LawsLists.{all-alike, all-both}
+use Rattle.kinds.specs.declared.Number.{Number}
+use Rattle.rules.specs.declared.Body.{Body}
+use Rattle.rules.specs.declared.Body.the-variants as body
+use Rattle.rules.specs.declared.Ending.{Ending}
+use Rattle.rules.specs.declared.Ending.the-variants.{Filled, Rests, Cancels}
+use Rattle.rules.specs.declared.Event.{Event}
+use Rattle.rules.specs.declared.Event.the-variants.{Executed, Rested, Cancelled}
+use Rattle.rules.specs.declared.Reading.{Reading}
+use Rattle.rules.specs.declared.Reading.the-variants as reading
+use Rattle.rules.specs.declared.Resting.{Resting}
+use Rattle.rules.specs.Book.{Book, sound}
+use Rattle.rules.specs.CommandLines.{commandIn}
+use Rattle.rules.specs.EventLines.{byCommand, atClose}
+use Rattle.rules.specs.Step.{doneBy, answer, answerTo}
+use Rattle.rules.specs.Working.{buying, oppositeSide, executions, lastLine, takings, remainder, ending, cancels, isNumber, accept, cancel, quote, close, does}
+use Rattle.soundness.proofs.LawsSides.{sides-of}
+use Rattle.soundness.proofs.LawsSound.{sound-is}
+use Rattle.demands.specs.Once.{numberIn, acts}
+use Rattle.demands.specs.Told.{executedBy}
+use Rattle.demands.proofs.LawsOnce.{next-acts}
+use Rattle.tally.specs.Tally.{executedShares}
+
+abbrev pub TwoParties : Event → Type 0
+TwoParties (Executed incoming resting price shares) = incoming .0 ≢ resting .0
+TwoParties (Rested number price shares) = Unit {0}
+TwoParties (Cancelled number shares reason) = Unit {0}
+
+-- ── Counted once, and once for each role ──
+
+same-shares : (n : Number) (e : Event) → TwoParties e → executedShares n e ≡ executedBy n e
+same-shares n (Executed incoming resting price shares) two =
+    ⊎-elim
+    (λ (t : eqb (n .0) (incoming .0) ≡ true).
+    let e = eqb-true (n .0) (incoming .0) t in
+    rw (t, ne-eqb (n .0) (resting .0) (λ z. two (sym e ∙ z))) (omega arith))
+    (λ (t : eqb (n .0) (incoming .0) ≡ false). rw t (omega arith))
+    (holds-or-not (eqb (n .0) (incoming .0)))
+same-shares n (Rested number price shares) two = refl
+same-shares n (Cancelled number shares reason) two = refl
+
+pub same-sums : (n : Number) {es : List Event} → All TwoParties es → sumOf (executedShares n) es ≡ sumOf (executedBy n) es
+unfolding sumOf
+same-sums n none = refl
+same-sums n (also {x = e} two a) = rw (same-shares n e two, same-sums n a) refl
+
+-- ── The events of a line ──
+
+executions-two : (m : Number) {s : List Resting} (ts : List ℕ) → All (λ (h : Resting). m .0 ≢ h .number .0) s → All TwoParties (executions m s ts)
+unfolding executions
+executions-two m ts none = none
+executions-two m [] (also d a) = none
+executions-two m (t ∷ ts) (also d a) =
+    ⊎-elim
+    (λ (z : eqb t 0 ≡ true). rw z (executions-two m ts a))
+    (λ (z : eqb t 0 ≡ false). rw z (also d (executions-two m ts a)))
+    (holds-or-not (eqb t 0))
+
+cancels-two : (reason : ℕ) (gone : Resting → Bool) (s : List Resting) → All TwoParties (cancels reason gone s)
+unfolding cancels
+cancels-two reason gone [] = none
+cancels-two reason gone (h ∷ s) =
+    ⊎-elim
+    (λ (t : gone h ≡ true). rw t (also tt (cancels-two reason gone s)))
+    (λ (t : gone h ≡ false). rw t (cancels-two reason gone s))
+    (holds-or-not (gone h))
+
+last-two : (n : Number) (left : ℕ) (e : Ending) → All TwoParties (lastLine n left e)
+last-two n left Filled = none
+last-two n left (Rests price) = also tt none
+last-two n left (Cancels reason) = also tt none
+
+-- the number of an accepted command is above that of every resting order
+does-two : (b : Book) (n : Number) (time : ℕ) (c : Body) → sound b ≡ true → n .0 ≡ b .last .0 + 1 → All TwoParties (does n time c b .events)
+unfolding does accept cancel quote close
+does-two b n time (body.Order o) s next =
+    let opposite = oppositeSide (buying o) b in
+    let sides = sides-of (buying o) b (sound-is b s) in
+    let new : All (λ (h : Resting). n .0 ≢ h .number .0) opposite = all-alike (λ h r. λ (z : n .0 ≡ h .number .0). omega (arith, z, r .upToLast, next)) (sides .oppositeInRange) in
+    all-both (executions-two n (takings o (b .away) opposite) new) (last-two n (remainder o (b .away) opposite) (ending o (b .away) opposite))
+does-two b n time (body.Cancel of) s next = all-both (cancels-two byCommand (isNumber of) (b .buys)) (cancels-two byCommand (isNumber of) (b .sells))
+does-two b n time (body.Quote away) s next = none
+does-two b n time body.Close s next = all-both (cancels-two atClose (λ h. true) (b .buys)) (cancels-two atClose (λ h. true) (b .sells))
+
+done-two : (b : Book) (r : Reading) → sound b ≡ true → numberIn r ≡ b .last .0 + 1 → All TwoParties (doneBy r b .events)
+unfolding doneBy
+done-two b reading.Bad s next = none
+done-two b (reading.Is c) s next = does-two b (c .number) (c .time) (c .body) s next
+
+pub line-two : (b : Book) (line : List ℕ) → sound b ≡ true → acts b line ≡ true → All TwoParties (answerTo b line .events)
+unfolding answerTo answer
+line-two b line s t = rw t (done-two b (commandIn line) s (next-acts b line t .0))

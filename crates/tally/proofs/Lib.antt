@@ -1,0 +1,5 @@
+pub mod LawsParties
+pub mod LawsAgree
+pub mod LawsLong
+pub mod LawsFed
+pub mod Determined
