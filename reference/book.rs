@@ -1,9 +1,12 @@
-//! The order book of paper 01: command lines read, orders worked, event lines written.
+//! The order book of paper 01 with request W2 of paper 02: command lines read, orders
+//! worked, hidden orders moved by a quote, event lines written.
 //!
 //! Shared by `ordinary.rs` (the program) and `days.rs` (the generator of test days).
 //! Written for speed: no allocation per command, digits by arithmetic eight at a time,
 //! each side one sorted vector with its best order last. The book is its own and room is
 //! always there, so refusals 1 and 2 cannot occur and soundness is not tested.
+
+use std::cmp::Reverse;
 
 /// Limit and resting prices, in cents.
 pub const MIN_PRICE: u32 = 100;
@@ -83,18 +86,25 @@ pub struct Order {
     pub shares: u32,
 }
 
-/// A resting order. `rank` holds price, display and number, and the lower rank is first.
+/// A resting order. `rank` holds price, display and stamp, and the lower rank is first.
 #[derive(Clone, Copy)]
 pub struct Resting {
     rank: u64,
+    /// The number of the command that entered it.
+    pub number: u32,
     pub price: u32,
     pub shares: u32,
+    pub hidden: bool,
+    pub cancel_back: bool,
 }
 
-impl Resting {
-    pub fn number(&self) -> u32 {
-        self.rank as u32
-    }
+/// What decides at one price and display, the lower first: the command that put the order
+/// there, and the place among that command's moves. Moves count from 1; an order has
+/// place 0 at the price where it first rests.
+#[derive(Clone, Copy)]
+struct Stamp {
+    command: u32,
+    place: u8, // a quote moves at most both sides, 128 orders
 }
 
 pub struct Book {
@@ -142,6 +152,9 @@ impl Book {
                 }
                 self.away_bid = bid;
                 self.away_offer = offer;
+                let mut stamp = Stamp { command: command.number, place: 0 };
+                move_hidden::<true>(&mut self.buys, offer, &mut stamp, events);
+                move_hidden::<false>(&mut self.sells, bid, &mut stamp, events);
             }
             Body::Close => self.close(events),
         }
@@ -243,13 +256,13 @@ impl Book {
         // Executions come first, each at the resting order's price.
         let untouched = opposite.len() - whole;
         for resting in opposite[untouched..].iter().rev() {
-            write_execution(events, number, resting.number(), resting.price, resting.shares);
+            write_execution(events, number, resting.number, resting.price, resting.shares);
         }
         opposite.truncate(untouched);
         if part > 0 {
             let resting = &mut opposite[untouched - 1];
             resting.shares -= part;
-            write_execution(events, number, resting.number(), resting.price, part);
+            write_execution(events, number, resting.number, resting.price, part);
         }
 
         // Then at most one rested or cancelled line.
@@ -257,11 +270,13 @@ impl Book {
             match fate {
                 Ok(price) => {
                     // 6. Otherwise it rests.
-                    let rank = rank::<BUY>(price, word & NON_DISPLAYED != 0, number);
+                    let hidden = word & NON_DISPLAYED != 0;
+                    let cancel_back = word & CANCEL_BACK != 0;
+                    let rank = rank::<BUY>(price, hidden, Stamp { command: number, place: 0 });
                     // From the best down, as most orders come near the best.
                     let worse = own.iter().rposition(|resting| resting.rank > rank);
                     let place = worse.map_or(0, |worse| worse + 1);
-                    own.insert(place, Resting { rank, price, shares: remainder });
+                    own.insert(place, Resting { rank, number, price, shares: remainder, hidden, cancel_back });
                     write_rested(events, number, price, remainder);
                 }
                 Err(reason) => write_cancelled(events, number, remainder, reason),
@@ -273,7 +288,7 @@ impl Book {
     /// Cancel of a resting order, on whichever side it is.
     fn cancel(&mut self, number: u32, events: &mut Vec<u8>) -> Result<(), Refusal> {
         for side in [&mut self.buys, &mut self.sells] {
-            if let Some(place) = side.iter().position(|resting| resting.number() == number) {
+            if let Some(place) = side.iter().position(|resting| resting.number == number) {
                 let resting = side.remove(place);
                 write_cancelled(events, number, resting.shares, Reason::ByCommand);
                 return Ok(());
@@ -286,7 +301,7 @@ impl Book {
     fn close(&mut self, events: &mut Vec<u8>) {
         for side in [&mut self.buys, &mut self.sells] {
             for resting in side.iter().rev() {
-                write_cancelled(events, resting.number(), resting.shares, Reason::Close);
+                write_cancelled(events, resting.number, resting.shares, Reason::Close);
             }
             side.clear();
         }
@@ -301,10 +316,42 @@ fn reaches<const BUY: bool>(bound: u32, price: u32) -> bool {
 }
 
 /// Better price first (higher buy, lower sell); at one price displayed before
-/// non-displayed; then lower number.
-fn rank<const BUY: bool>(price: u32, hidden: bool, number: u32) -> u64 {
+/// non-displayed; then lower stamp.
+fn rank<const BUY: bool>(price: u32, hidden: bool, stamp: Stamp) -> u64 {
     let distance = if BUY { MAX_PRICE - price } else { price };
-    (distance as u64) << 33 | (hidden as u64) << 32 | number as u64
+    (distance as u64) << 41 | (hidden as u64) << 40 | (stamp.command as u64) << 8 | stamp.place as u64
+}
+
+/// A quote and one side: each hidden order that would now cross the Locking Price (0 for
+/// none) is set at it with the next stamp, or cancelled if it is Cancel Back, in the order
+/// of their ranks. Displayed orders stay.
+fn move_hidden<const BUY: bool>(side: &mut Vec<Resting>, locking: u32, stamp: &mut Stamp, events: &mut Vec<u8>) {
+    if locking == 0 {
+        return;
+    }
+    let mut changed = false;
+    for resting in side.iter_mut().rev() {
+        if resting.price == locking || !reaches::<BUY>(resting.price, locking) {
+            break; // it does not cross, nor does any behind it
+        }
+        if !resting.hidden {
+            continue;
+        }
+        changed = true;
+        if resting.cancel_back {
+            write_cancelled(events, resting.number, resting.shares, Reason::CancelBack);
+            resting.shares = 0; // to be taken out below
+        } else {
+            stamp.place += 1;
+            resting.price = locking;
+            resting.rank = rank::<BUY>(locking, true, *stamp);
+            write_moved(events, resting.number, locking, resting.shares);
+        }
+    }
+    if changed {
+        side.retain(|resting| resting.shares > 0);
+        side.sort_unstable_by_key(|resting| Reverse(resting.rank));
+    }
 }
 
 /// Step 4: the price a Day remainder rests at, or the reason why it is cancelled.
@@ -459,7 +506,18 @@ fn write_execution(events: &mut Vec<u8>, incoming: u32, resting: u32, price: u32
 
 #[inline]
 fn write_rested(events: &mut Vec<u8>, number: u32, price: u32, shares: u32) {
-    let mut line = *b"12------------------------\n";
+    write_price_and_shares(events, *b"12", number, price, shares);
+}
+
+#[inline]
+fn write_moved(events: &mut Vec<u8>, number: u32, price: u32, shares: u32) {
+    write_price_and_shares(events, *b"14", number, price, shares);
+}
+
+#[inline]
+fn write_price_and_shares(events: &mut Vec<u8>, kind: [u8; 2], number: u32, price: u32, shares: u32) {
+    let mut line = *b"--------------------------\n";
+    line[..2].copy_from_slice(&kind);
     line[2..10].copy_from_slice(&field_digits(number));
     line[10..18].copy_from_slice(&field_digits(price));
     line[18..26].copy_from_slice(&field_digits(shares));

@@ -8,6 +8,8 @@
 //!   full      both sides kept at or near 64 resting orders
 //!   crossing  sweeps, FOK just fillable and just not, Post Only that meets, ISO, locked and
 //!             crossed away quotes, Price Adjust at the edges of the price range
+//!   moving    quotes that move or cancel hidden orders, from one to whole sides at once, and
+//!             small orders after them that show the new ranks
 //!   short     a few lines (at most 12, and at most LINES) of one of the kinds above
 //! The last line is the close in all but the nasty days.
 //!
@@ -29,11 +31,15 @@ const SELL: u8 = 1;
 const SESSION: u64 = (SESSION_END - SESSION_START) as u64;
 /// Day, Displayed, Price Adjust: the ordinary word.
 const ORDINARY: u16 = DAY | DISPLAYED | PRICE_ADJUST;
+/// Day, Non-Displayed, Price Adjust: moved by a quote.
+const HIDDEN: u16 = DAY | NON_DISPLAYED | PRICE_ADJUST;
+/// Day, Non-Displayed, Cancel Back: cancelled by a quote.
+const HIDDEN_BACK: u16 = DAY | NON_DISPLAYED | CANCEL_BACK;
 
 fn main() -> ExitCode {
     let arguments: Vec<String> = std::env::args().skip(1).collect();
     let Some((kind, seed, lines)) = read_arguments(&arguments) else {
-        eprintln!("usage: days plain|nasty|full|crossing|short SEED LINES");
+        eprintln!("usage: days plain|nasty|full|crossing|moving|short SEED LINES");
         return ExitCode::from(2);
     };
     let mut output = BufWriter::with_capacity(64 * 1024, io::stdout().lock());
@@ -52,6 +58,7 @@ enum Kind {
     Nasty,
     Full,
     Crossing,
+    Moving,
     Short,
 }
 
@@ -62,6 +69,7 @@ fn read_arguments(arguments: &[String]) -> Option<(Kind, u64, u64)> {
         "nasty" => Kind::Nasty,
         "full" => Kind::Full,
         "crossing" => Kind::Crossing,
+        "moving" => Kind::Moving,
         "short" => Kind::Short,
         _ => return None,
     };
@@ -72,7 +80,7 @@ fn print_day(kind: Kind, seed: u64, lines: u64, output: &mut impl Write) -> io::
     let mut random = Random(seed);
     let (kind, lines) = match kind {
         Kind::Short => {
-            let kinds = [Kind::Plain, Kind::Nasty, Kind::Nasty, Kind::Full, Kind::Crossing];
+            let kinds = [Kind::Plain, Kind::Nasty, Kind::Nasty, Kind::Full, Kind::Crossing, Kind::Moving, Kind::Moving];
             (random.pick(&kinds), random.below(13).min(lines))
         }
         kind => (kind, lines),
@@ -85,7 +93,8 @@ fn print_day(kind: Kind, seed: u64, lines: u64, output: &mut impl Write) -> io::
             _ if is_last => day.closing_line(),
             Kind::Plain => day.plain_line(),
             Kind::Full => day.full_line(),
-            Kind::Crossing | Kind::Short => day.crossing_line(),
+            Kind::Crossing => day.crossing_line(),
+            Kind::Moving | Kind::Short => day.moving_line(),
         };
         output.write_all(&line)?;
         // A refused command changes nothing and leaves its number free: the next line takes it.
@@ -202,7 +211,7 @@ impl Day {
             return None;
         }
         let place = self.random.below(count) as usize;
-        let order = self.side(side)[place].number();
+        let order = self.side(side)[place].number;
         Some(self.command(Body::Cancel { order }))
     }
 
@@ -298,7 +307,7 @@ impl Day {
     fn plain_maker(&mut self, side: u8) -> Command {
         let word = match self.random.below(100) {
             0..=64 => ORDINARY,
-            65..=79 => DAY | NON_DISPLAYED | PRICE_ADJUST,
+            65..=79 => HIDDEN,
             80..=87 => DAY | DISPLAYED | CANCEL_BACK,
             88..=97 => ORDINARY | POST_ONLY,
             _ => ORDINARY | ISO,
@@ -384,7 +393,7 @@ impl Day {
             12..=24 if !self.side(side).is_empty() => self.cancel(side).expect("not empty"),
             _ => {
                 let word = self.lawful_word();
-                let word = self.random.pick(&[ORDINARY, DAY | NON_DISPLAYED | PRICE_ADJUST, word]);
+                let word = self.random.pick(&[ORDINARY, HIDDEN, word]);
                 let price = self.middle.saturating_sub(4) + self.random.between(0, 8);
                 let shares = self.random.pick(&[1, 10, 50, 100, 1_000_000]);
                 let less = self.random.between(0, 9);
@@ -447,7 +456,7 @@ impl Day {
                     let anything = self.random.next() as u16;
                     let words = [
                         ORDINARY | POST_ONLY | ISO,
-                        DAY | NON_DISPLAYED | PRICE_ADJUST | POST_ONLY,
+                        HIDDEN | POST_ONLY,
                         IOC | DISPLAYED | PRICE_ADJUST | POST_ONLY,
                         FOK | DISPLAYED | CANCEL_BACK | POST_ONLY,
                         FOK | DISPLAYED | PRICE_ADJUST | ISO,
@@ -534,7 +543,7 @@ impl Day {
         let steps = self.random.between(1, 30);
         let passive = self.passive(side, steps);
         let shares = self.random.between(1, 60);
-        let word = self.random.pick(&[ORDINARY, ORDINARY, DAY | NON_DISPLAYED | PRICE_ADJUST, DAY | DISPLAYED | CANCEL_BACK, ORDINARY | POST_ONLY, ORDINARY | ISO]);
+        let word = self.random.pick(&[ORDINARY, ORDINARY, HIDDEN, HIDDEN, HIDDEN_BACK, DAY | DISPLAYED | CANCEL_BACK, ORDINARY | POST_ONLY, ORDINARY | ISO]);
         let choice = self.random.below(100);
         let command = if resting > self.hold && choice < 60 {
             self.cancel(side).expect("more than the hold rest")
@@ -564,8 +573,8 @@ impl Day {
                     self.order(side, word, limit, shares)
                 }
                 80..=87 => {
-                    let bid = self.random.pick(&[0, self.middle - 1, self.middle, self.middle - 10]);
-                    let offer = self.random.pick(&[0, self.middle + 1, self.middle, self.middle + 10, 100]);
+                    let bid = self.random.pick(&[0, self.middle - 1, self.middle, self.middle - 10, self.middle + 5]);
+                    let offer = self.random.pick(&[0, self.middle + 1, self.middle, self.middle + 10, self.middle - 5, 100]);
                     self.quote(bid, offer)
                 }
                 // A cancel of an order that has gone, mostly.
@@ -604,7 +613,7 @@ impl Day {
                 // Small orders at a few prices, for others to sweep.
                 let steps = self.random.between(0, 8);
                 let price = self.passive(side, steps);
-                let word = self.random.pick(&[ORDINARY, ORDINARY, DAY | NON_DISPLAYED | PRICE_ADJUST, ORDINARY | ISO, DAY | NON_DISPLAYED | CANCEL_BACK]);
+                let word = self.random.pick(&[ORDINARY, ORDINARY, HIDDEN, ORDINARY | ISO, HIDDEN_BACK]);
                 let shares = self.random.between(1, 40);
                 if self.side(side).len() == PLACES && self.random.percent(90) {
                     self.cancel(side).expect("a full side is not empty")
@@ -643,11 +652,11 @@ impl Day {
                     IOC | NON_DISPLAYED | CANCEL_BACK | MARKET,
                     IOC | DISPLAYED | PRICE_ADJUST | ISO,
                     ORDINARY | ISO,
-                    DAY | NON_DISPLAYED | PRICE_ADJUST | ISO,
+                    HIDDEN | ISO,
                     ORDINARY,
                     DAY | DISPLAYED | CANCEL_BACK,
-                    DAY | NON_DISPLAYED | PRICE_ADJUST,
-                    DAY | NON_DISPLAYED | CANCEL_BACK,
+                    HIDDEN,
+                    HIDDEN_BACK,
                 ];
                 let word = self.random.pick(&words);
                 let limit = self.opposite_price(side);
@@ -683,6 +692,98 @@ impl Day {
             (MAX_PRICE - near, MIN_PRICE + near),
         ];
         let (bid, offer) = self.random.pick(&quotes);
+        self.quote(bid, offer)
+    }
+
+    // Moving days.
+
+    fn moving_line(&mut self) -> Vec<u8> {
+        if self.printed % 150 == 0 {
+            self.middle = self.random.pick(&[1500, 1500, 3000, 104, 199_996]);
+        }
+        let side = self.any_side();
+        let command = match self.random.below(100) {
+            0..=54 => self.moving_maker(side),
+            55..=74 => self.moving_quote(),
+            // Small orders into the other side, which tell the rank of what stands there.
+            75..=89 => {
+                let limit = self.opposite_price(side);
+                let shares = self.random.between(1, 60);
+                let words = [
+                    IOC | DISPLAYED | PRICE_ADJUST,
+                    IOC | DISPLAYED | PRICE_ADJUST | ISO,
+                    IOC | DISPLAYED | PRICE_ADJUST | ISO,
+                    IOC | NON_DISPLAYED | CANCEL_BACK | MARKET,
+                    FOK | DISPLAYED | PRICE_ADJUST,
+                    ORDINARY,
+                    HIDDEN,
+                ];
+                let word = self.random.pick(&words);
+                self.order(side, word, limit, shares)
+            }
+            _ => match self.cancel(side) {
+                Some(cancel) => cancel,
+                None => self.moving_quote(),
+            },
+        };
+        write_command(&command)
+    }
+
+    /// An order to be moved, cancelled or passed over by the quotes that follow.
+    fn moving_maker(&mut self, side: u8) -> Command {
+        if self.side(side).len() == PLACES && self.random.percent(90) {
+            return self.cancel(side).expect("a full side is not empty");
+        }
+        let words = [
+            HIDDEN,
+            HIDDEN,
+            HIDDEN,
+            HIDDEN_BACK,
+            HIDDEN_BACK,
+            HIDDEN | ISO,
+            HIDDEN | ISO,
+            HIDDEN_BACK | ISO,
+            ORDINARY,
+            ORDINARY | ISO,
+            DAY | DISPLAYED | CANCEL_BACK,
+            ORDINARY | POST_ONLY,
+        ];
+        let word = self.random.pick(&words);
+        // Few prices, so that many orders meet at one; now and then the Locking Price itself.
+        let steps = self.random.between(0, 5);
+        let locking = if side == BUY { self.book.away_offer } else { self.book.away_bid };
+        let price = match self.random.below(8) {
+            0 if locking != 0 => locking,
+            _ => self.passive(side, steps),
+        };
+        let shares = self.random.between(1, 40);
+        self.order(side, word, price, shares)
+    }
+
+    /// A quote at, just short of or just past the price of a resting order, on one side or on
+    /// both; or the quote held before once more; or one that lets all orders stand.
+    fn moving_quote(&mut self) -> Command {
+        let (held_bid, held_offer) = (self.book.away_bid, self.book.away_offer);
+        // The away bid is judged against our sells, the away offer against our buys.
+        let bid = self.opposite_price(BUY) - 1 + self.random.between(0, 2);
+        let offer = self.opposite_price(SELL) - 1 + self.random.between(0, 2);
+        let quotes = [
+            (0, 0),
+            (self.middle - 4, self.middle + 4),
+            (held_bid, held_offer),
+            (held_bid, offer),
+            (bid, held_offer),
+            (bid, 0),
+            (0, offer),
+            (bid, offer),
+            (bid, offer),
+            (self.middle, self.middle),
+            (MAX_PRICE, 0),
+            (self.middle - 3, MIN_PRICE),
+        ];
+        // The last two move whole sides, and all that comes after them; so they are rare.
+        let choice = if self.random.percent(2) { 10 + self.random.below(2) } else { self.random.below(10) };
+        let (bid, offer) = quotes[choice as usize];
         self.quote(bid, offer)
     }
 }

@@ -1,5 +1,6 @@
 //! An ordinary order book: command lines on standard input to its end, event lines on
-//! standard output, from the fresh book. Paper 01 is its law; the book itself is `book.rs`.
+//! standard output, from the fresh book. Its law is paper 01 with W2 of paper 02; the book
+//! itself is `book.rs`.
 //!
 //! Compile: rustc -O --edition 2021 ordinary.rs
 
@@ -14,7 +15,7 @@ use std::process::ExitCode;
 const PIECE: usize = 64 * 1024;
 /// The longest command line has 40 digits and a line feed.
 const LONGEST_LINE: usize = 41;
-/// More than the event lines of any one command (a close of 128 orders: 2,688 bytes).
+/// More than the event lines of any one command (a quote that moves 128 orders: 3,456 bytes).
 const ROOM: usize = 4096;
 
 fn main() -> ExitCode {

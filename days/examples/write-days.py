@@ -206,8 +206,8 @@ day('buy-200-at-1015-over-away-1010', 'the mirror of P6 and P7',
 
 # ------------------------------------------------------------------ quotes
 part('Quotes')
-day('quote-moves-no-resting-order', '"Quote writes nothing, and moves no resting order in this build"',
-    'a buy rests at 1001; away offer 1000 writes nothing; a sell at 999 executes against it at 1001',
+day('quote-moves-no-displayed-order', '"Quote writes nothing, and moves no resting order", which W2 keeps for displayed ones (hidden ones: `days/w2`)',
+    'a displayed buy rests at 1001; away offer 1000 writes nothing; a sell at 999 executes against it at 1001',
     (buy(1, 100, 1001), R(1, 100, 1001)),
     (quote(2, 0, 1000),),
     (sell(3, 40, 999), X(3, 1, 40, 1001)),

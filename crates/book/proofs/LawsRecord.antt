@@ -12,7 +12,7 @@ use Rattle.basics.proofs.LawsChoice.{and-left, and-right}
 use Rattle.basics.proofs.LawsLists.{map-append, map-take}
 use Rattle.kinds.specs.Kinds.{cents, shares, number}
 use Rattle.rules.specs.declared.Resting.{Resting}
-use Rattle.rules.specs.Book.{Book, Places, placesASide, unused, isUnused, placesSound, placesOf, bookIn, recordOf, sound, recordSound}
+use Rattle.rules.specs.Book.{Book, Places, placesASide, stamp, unused, isUnused, placesSound, placesOf, bookIn, recordOf, sound, recordSound}
 use Rattle.rows.specs.Table.{orderOf, rowOf, noRow, side, tableOf, Holds}
 use Rattle.rows.proofs.LawsTable.{orders-rows}
 use Rattle.tables.specs.declared.Head.{Head}
@@ -40,16 +40,29 @@ book-loaded b = rw (side-loaded (b .buys .used) (b .buys .places), side-loaded (
 -- a place that passes for unused is all zero
 is-zero : (o : Resting) → isUnused o ≡ true → o ≡ unused
 is-zero o e =
-    let l = and-left (eqb (o .number .0) 0 && eqb (o .price .0) 0 && eqb (o .shares .0) 0) (not (o .displayed)) e in
-    let m = and-left (eqb (o .number .0) 0 && eqb (o .price .0) 0) (eqb (o .shares .0) 0) l in
-    let n : o .number .0 ≡ 0 = eqb-true (o .number .0) 0 (and-left (eqb (o .number .0) 0) (eqb (o .price .0) 0) m) in
-    let p : o .price .0 ≡ 0 = eqb-true (o .price .0) 0 (and-right (eqb (o .number .0) 0) (eqb (o .price .0) 0) m) in
-    let s : o .shares .0 ≡ 0 = eqb-true (o .shares .0) 0 (and-right (eqb (o .number .0) 0 && eqb (o .price .0) 0) (eqb (o .shares .0) 0) l) in
-    let d : o .displayed ≡ false = not-true (o .displayed) (and-right (eqb (o .number .0) 0 && eqb (o .price .0) 0 && eqb (o .shares .0) 0) (not (o .displayed)) e) in
-    made (o .number .0) (o .price .0) (o .shares .0) (o .displayed) n p s d
+    let numbered = eqb (o .number .0) 0 in
+    let priced = numbered && eqb (o .price .0) 0 in
+    let counted = priced && eqb (o .shares .0) 0 in
+    let shown = counted && not (o .displayed) in
+    let chosen = shown && not (o .back) in
+    let stamped = chosen && eqb (o .stamp .command .0) 0 in
+    let byStamped : stamped ≡ true = and-left stamped (eqb (o .stamp .place) 0) e in
+    let byChosen : chosen ≡ true = and-left chosen (eqb (o .stamp .command .0) 0) byStamped in
+    let byShown : shown ≡ true = and-left shown (not (o .back)) byChosen in
+    let byCounted : counted ≡ true = and-left counted (not (o .displayed)) byShown in
+    let byPriced : priced ≡ true = and-left priced (eqb (o .shares .0) 0) byCounted in
+    made
+    (eqb-true (o .number .0) 0 (and-left numbered (eqb (o .price .0) 0) byPriced))
+    (eqb-true (o .price .0) 0 (and-right numbered (eqb (o .price .0) 0) byPriced))
+    (eqb-true (o .shares .0) 0 (and-right priced (eqb (o .shares .0) 0) byCounted))
+    (not-true (o .displayed) (and-right counted (not (o .displayed)) byShown))
+    (not-true (o .back) (and-right shown (not (o .back)) byChosen))
+    (eqb-true (o .stamp .command .0) 0 (and-right chosen (eqb (o .stamp .command .0) 0) byStamped))
+    (eqb-true (o .stamp .place) 0 (and-right stamped (eqb (o .stamp .place) 0) e))
   where
-    made : (n p s : ℕ) (d : Bool) → n ≡ 0 → p ≡ 0 → s ≡ 0 → d ≡ false → record { number = number n; price = cents p; shares = shares s; displayed = d } ≡ unused
-    made n p s d e f g h = rw (e, f, g, h)
+    made : {n p s c k : ℕ} {d b : Bool} → n ≡ 0 → p ≡ 0 → s ≡ 0 → d ≡ false → b ≡ false → c ≡ 0 → k ≡ 0
+        → record { number = number n; price = cents p; shares = shares s; displayed = d; back = b; stamp = stamp (number c) k } ≡ unused
+    made e f g h i j l = rw (e, f, g, h, i, j, l)
 
 all-zero : (s : List Resting) → every isUnused s ≡ true → map rowOf s ≡ replicate (length s) noRow
 unfolding every

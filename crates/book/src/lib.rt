@@ -3,6 +3,7 @@
 use kinds::Cents;
 use kinds::Number;
 use rows::PLACES;
+use rows::WORDS;
 use rules::Away;
 use rules::Body;
 use rules::Command;
@@ -98,7 +99,7 @@ impl Book {
         }
     }
 
-    fn load(self, buys: &mut [[u32; 4]; PLACES], sells: &mut [[u32; 4]; PLACES])
+    fn load(self, buys: &mut [[u32; WORDS]; PLACES], sells: &mut [[u32; WORDS]; PLACES])
         ensures { λ _. ⌜ now (buys .exit) ≡ map rowOf (self .buys .places) ⌝ }
         ensures { λ _. ⌜ now (sells .exit) ≡ map rowOf (self .sells .places) ⌝ }
     {
@@ -110,7 +111,7 @@ impl Book {
         tables::load(sells, places);
     }
 
-    fn save(h: Head, buys: &[[u32; 4]; PLACES], sells: &[[u32; 4]; PLACES]) -> Book
+    fn save(h: Head, buys: &[[u32; WORDS]; PLACES], sells: &[[u32; WORDS]; PLACES]) -> Book
         ensures { λ r. ⌜ r ≡ bookWith (recordOn h (now (buys .entry)) (now (sells .entry))) ⌝ }
     {
         let last = h.last;
@@ -138,8 +139,8 @@ impl Book {
     pub fn is_sound(self) -> bool
         ensures { λ r. ⌜ r ≡ recordSound (recordIn self) ⌝ }
     {
-        let mut buys = [[0u32; 4]; PLACES];
-        let mut sells = [[0u32; 4]; PLACES];
+        let mut buys = [[0u32; WORDS]; PLACES];
+        let mut sells = [[0u32; WORDS]; PLACES];
         self.load(&mut buys, &mut sells);
         inspection::is_sound(self.head(), &buys, &sells)
     }
@@ -176,8 +177,8 @@ impl Book {
         ensures { λ r. ⌜ r ≡ replyOf (stepOn (recordIn self) (reading.Is c) (now (out .entry))) ⌝ }
         ensures { λ _. ⌜ now (out .exit) ≡ stepOn (recordIn self) (reading.Is c) (now (out .entry)) .out ⌝ }
     {
-        let mut buys = [[0u32; 4]; PLACES];
-        let mut sells = [[0u32; 4]; PLACES];
+        let mut buys = [[0u32; WORDS]; PLACES];
+        let mut sells = [[0u32; WORDS]; PLACES];
         self.load(&mut buys, &mut sells);
         let step = commands::apply(self.head(), c, &mut buys, &mut sells, out);
         if step.refusal != 0 {

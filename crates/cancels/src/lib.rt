@@ -2,6 +2,7 @@
 // among the sells.
 use kinds::Number;
 use rows::PLACES;
+use rows::WORDS;
 use tables::Head;
 use tables::Step;
 ghost use mathlib.Core.Bool.{true};
@@ -20,7 +21,7 @@ ghost use Rattle.tables.specs.Answers.{bodyAnswer, stepOf, Stands};
 ghost use Rattle.tables.specs.Tables.{bookOn};
 
 // Takes the order of a number off a side and writes its line; the length of the line, or 0 where the side has no such order.
-fn take_off(t: &mut [[u32; 4]; PLACES], n: usize, number: Number, out: &mut [u8]) -> usize
+fn take_off(t: &mut [[u32; WORDS]; PLACES], n: usize, number: Number, out: &mut [u8]) -> usize
     requires { ⌜ Holds n (now t) × (distinct (numbers (side n (now t))) ≡ true) × (leastRoom ≤ length (now out)) ⌝ }
     ensures { λ r. ⌜ r ≡ length (eventLines (cancels byCommand (isNumber number) (side n (now (t .entry))))) ⌝ }
     ensures { λ _. ⌜ now (t .exit) ≡ tableOf (kept (isNumber number) (side n (now (t .entry)))) ⌝ }
@@ -62,8 +63,8 @@ pub fn cancel(
     number: Number,
     time: u32,
     of: Number,
-    buys: &mut [[u32; 4]; PLACES],
-    sells: &mut [[u32; 4]; PLACES],
+    buys: &mut [[u32; WORDS]; PLACES],
+    sells: &mut [[u32; WORDS]; PLACES],
     out: &mut [u8],
 ) -> Step
     requires { ⌜ Stands h (now buys) (now sells) × (leastRoom ≤ length (now out)) ⌝ }

@@ -1,32 +1,20 @@
 -- A command is judged by its header, and then by its body alone. Assumes nothing.
 use Prim.Native.Nat.{ℕ, _<_}
-use mathlib.Core.Bool.{true, false, not, _&&_}
 use mathlib.Core.List.{List, _++_}
-use mathlib.Core.Logic.{⊎-elim}
 use mathlib.Core.Path.{_≡_, refl, sym, ap, _∙_}
 use native.Mathlib.Omega.{arith}
-use borrow.Author.Tests.{ne-eqb}
-use Rattle.basics.specs.Lists.{every}
-use Rattle.basics.proofs.LawsBytes.{onto-none}
-use Rattle.basics.proofs.LawsChoice.{holds-or-not}
+use lib.Dec.{leb}
+use borrow.Author.Tests.{ne-eqb, leb-false}
 use Rattle.judge.specs.Judge.{bookWith, acceptedBy}
-use Rattle.kinds.specs.declared.Number.{Number}
-use Rattle.rules.specs.declared.Away.{Away}
 use Rattle.rules.specs.declared.Body.{Body}
-use Rattle.rules.specs.declared.Body.the-variants as body
 use Rattle.rules.specs.declared.Command.{Command}
-use Rattle.rules.specs.Book.{Book, awayInRange}
-use Rattle.rules.specs.EventLines.{eventLines}
+use Rattle.rules.specs.Book.{Book}
 use Rattle.rules.specs.Refusals.{firstOf, lastRefusal, headerRefusals, bodyRefusals, lineRefusals}
-use Rattle.rules.proofs.LawsRefusals.{first-given, first-passed, header-numbered}
+use Rattle.rules.proofs.LawsRefusals.{none-given, first-given, first-passed, header-numbered}
 use Rattle.rules.specs.Step.{answer}
-use Rattle.rules.specs.Working.{quote}
-use Rattle.tables.specs.declared.Head.{Head}
 use Rattle.tables.specs.declared.Step.{Step}
-use Rattle.tables.specs.Answers.{answerOf, bodyAnswer, stepOf, Stands}
-use Rattle.tables.specs.Tables.{bookOn}
+use Rattle.tables.specs.Answers.{answerOf, bodyAnswer}
 use Rattle.tables.proofs.LawsAnswers.{refusedWith, Left}
-use Rattle.commands.proofs.LawsDone.{quote-refused, quoted}
 
 -- ── The header ──
 
@@ -56,18 +44,7 @@ left-passed c b k s q e z r t u out′ out l =
     header-passed c b (sym z ∙ e) ∙ ap (λ (x : Body). bodyAnswer (c .number) (c .time) x b) q in
     rw p l
 
--- ── A quote leaves both tables and every byte as they were, refused or not ──
-
-pub left-quoted : (h : Head) (t u : List (List ℕ)) → Stands h t u → (n : Number) (time : ℕ) (away : Away) (out : List ℕ) (r : Step)
-    → r ≡ stepOf (bodyAnswer n time (body.Quote away) (bookOn h t u)) → Left r t u out out (bodyAnswer n time (body.Quote away) (bookOn h t u))
-unfolding quote eventLines
-left-quoted h t u stands n time away out r e =
-    let b = bookOn h t u in (
-      e,
-      ⊎-elim
-          (λ (f : not (awayInRange (away .bid) && awayInRange (away .offer)) ≡ true).
-          rw (quote-refused n time away b f) (stands .buys .table, (stands .sells .table, onto-none out)))
-          (λ (f : not (awayInRange (away .bid) && awayInRange (away .offer)) ≡ false).
-          rw (quoted n time away b f) (stands .buys .table, (stands .sells .table, onto-none out)))
-          (holds-or-not (not (awayInRange (away .bid) && awayInRange (away .offer)))),
-    )
+-- and its number is above the last
+pub header-next : (c : Command) (b : Book) (k : ℕ) → k ≡ firstOf (headerRefusals (bookWith (acceptedBy b)) c) → k ≡ 0 → b .last .0 < c .number .0
+unfolding headerRefusals
+header-next c b k e z = leb-false (c .number .0) (b .last .0) (none-given 4 (leb (c .number .0) (b .last .0)) _ (omega arith) (sym e ∙ z) .0)

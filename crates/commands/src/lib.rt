@@ -3,7 +3,7 @@
 use judge::Accepted;
 use kinds::Number;
 use rows::PLACES;
-use rules::Away;
+use rows::WORDS;
 use rules::Body;
 use rules::Command;
 use tables::Head;
@@ -19,45 +19,14 @@ ghost use Rattle.rules.specs.declared.Body.the-variants as body;
 ghost use Rattle.tables.specs.Answers.{answerOf, bodyAnswer, stepOf, Stands};
 ghost use Rattle.tables.specs.Tables.{bookOn};
 
-// ── A quote ──
-
-fn quote(
-    h: Head,
-    number: Number,
-    time: u32,
-    away: Away,
-    buys: &[[u32; 4]; PLACES],
-    sells: &[[u32; 4]; PLACES],
-) -> Step
-    requires { ⌜ Stands h (now buys) (now sells) ⌝ }
-    ensures { λ r. ⌜ r ≡ stepOf (bodyAnswer number time (body.Quote away) (bookOn h (now (buys .entry)) (now (sells .entry)))) ⌝ }
-{
-    let bid = away.bid;
-    let offer = away.offer;
-    if !(judge::away_in_range(bid) & judge::away_in_range(offer)) {
-        return tables::refuse(h, 9);
-    }
-    let head = Head {
-        last: number,
-        time: time,
-        away: away,
-        ..h
-    };
-    Step {
-        refusal: 0,
-        head: head,
-        length: 0,
-    }
-}
-
 // ── A close ──
 
 fn close(
     h: Head,
     number: Number,
     time: u32,
-    buys: &mut [[u32; 4]; PLACES],
-    sells: &mut [[u32; 4]; PLACES],
+    buys: &mut [[u32; WORDS]; PLACES],
+    sells: &mut [[u32; WORDS]; PLACES],
     out: &mut [u8],
 ) -> Step
     requires { ⌜ Stands h (now buys) (now sells) × (leastRoom ≤ length (now out)) ⌝ }
@@ -92,8 +61,8 @@ fn close(
 pub fn apply(
     h: Head,
     c: Command,
-    buys: &mut [[u32; 4]; PLACES],
-    sells: &mut [[u32; 4]; PLACES],
+    buys: &mut [[u32; WORDS]; PLACES],
+    sells: &mut [[u32; WORDS]; PLACES],
     out: &mut [u8],
 ) -> Step
     requires { ⌜ Stands h (now buys) (now sells) × (leastRoom ≤ length (now out)) ⌝ }
@@ -118,7 +87,7 @@ pub fn apply(
     match body {
         Body::Order(o) => orders::enter(h, number, time, o, buys, sells, out),
         Body::Cancel(of) => cancels::cancel(h, number, time, of, buys, sells, out),
-        Body::Quote(away) => quote(h, number, time, away, buys, sells),
+        Body::Quote(away) => quotes::quote(h, number, time, away, buys, sells, out),
         Body::Close => close(h, number, time, buys, sells, out),
     }
 }

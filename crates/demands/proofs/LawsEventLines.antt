@@ -4,9 +4,8 @@ use Prim.Native.Nat.{ℕ}
 use mathlib.Core.List.{List, [], _∷_, _++_, append-assoc}
 use mathlib.Core.Path.{_≡_, refl, ap, _∙_}
 use Rattle.basics.specs.Lists.{All, none, also}
-use Rattle.digits.specs.Digits.{digits}
 use Rattle.rules.specs.declared.Event.{Event}
-use Rattle.rules.specs.CommandLines.{are, written, line, lineFeed}
+use Rattle.rules.specs.CommandLines.{written, line, lineFeed}
 use Rattle.rules.specs.Day.{joined, linesIn}
 use Rattle.rules.specs.EventLines.{FitsEvent, eventForm, eventNumbers, eventLine, eventLines, refusalKind, refusalForm, refusalLine}
 use Rattle.rules.specs.EventReading.{eventIn}

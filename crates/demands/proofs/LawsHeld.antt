@@ -1,7 +1,7 @@
--- Demand 3, the sums of one command: what executing, cancelling and resting do to the shares that a side holds of an order.
+-- Demand 3, the sums of one command: what executing, cancelling, moving and resting do to the shares that a side holds of an order.
 -- Assumes nothing.
 use Prim.Native.Nat.{ℕ, _+_, _-_, _≤_, min}
-use mathlib.Core.Bool.{Bool, true, false, not, true≢false}
+use mathlib.Core.Bool.{Bool, true, false, true≢false}
 use mathlib.Core.List.{List, [], _∷_}
 use mathlib.Core.Logic.{_≢_, ⊎-elim}
 use mathlib.Core.Path.{_≡_, refl, sym, ap, _∙_}
@@ -11,18 +11,18 @@ use borrow.Author.Tests.{eq-eqb, ne-eqb, eqb-true}
 use Rattle.basics.specs.Lists.{total, sumOf}
 use Rattle.basics.proofs.LawsChoice.{holds-or-not}
 use Rattle.kinds.specs.declared.Number.{Number}
-use Rattle.kinds.specs.Kinds.{shares}
 use Rattle.rules.specs.declared.Away.{Away}
 use Rattle.rules.specs.declared.Ending.{Ending}
 use Rattle.rules.specs.declared.Ending.the-variants.{Filled, Rests, Cancels}
 use Rattle.rules.specs.declared.Order.{Order}
 use Rattle.rules.specs.declared.Resting.{Resting}
-use Rattle.rules.specs.Book.{ranksBefore}
-use Rattle.rules.specs.Instructions.{ioc, fok, displayed, postOnly, has}
+use Rattle.rules.specs.Instructions.{ioc, fok, postOnly, has}
 use Rattle.rules.proofs.LawsTakings.{nothing-total}
-use Rattle.rules.specs.Working.{buying, mayTouch, nothing, walk, smaller, walked, takings, remainder, executions, after, endingWith, ending, lastLine, insert, withRemainder, kept, cancels}
+use Rattle.rules.specs.Working.{buying, mayTouch, nothing, walk, smaller, walked, takings, remainder, executions, after, endingWith, ending, lastLine, remainderOf, withRemainder, kept, cancels, wouldNowCross, moveLines, afterMoves}
 use Rattle.demands.specs.ShareOut.{Each, empty, with}
 use Rattle.soundness.proofs.LawsEndings.{chosen, sought-is}
+use Rattle.soundness.proofs.LawsInsert.{added-insert, added-sum}
+use Rattle.soundness.proofs.LawsMoves.{ofBack, moves-counted}
 use Rattle.demands.specs.Told.{countedIf, executedIn, cancelledIn, restsOn}
 use Rattle.demands.proofs.LawsWalked.{taken, walk-at-most}
 
@@ -165,17 +165,47 @@ cancels-execute-none n reason gone (h ∷ s) =
     (λ (t : gone h ≡ false). rw t (cancels-execute-none n reason gone s))
     (holds-or-not (gone h))
 
--- ── What rests ──
+-- ── What a quote moves ──
 
-insert-sum : (n : Number) (buy : Bool) (x : Resting) (s : List Resting)
-    → restsOn n (insert buy x s) ≡ countedIf n (x .number) (x .shares .0) + restsOn n s
-unfolding insert sumOf
-insert-sum n buy x [] = refl
-insert-sum n buy x (y ∷ s) =
+-- an order that it cancels is told with its shares; one that it sets anew keeps them
+moves-cancelled : (n : Number) (buy : Bool) (away : Away) (s : List Resting)
+    → cancelledIn n (moveLines buy away s) ≡ sumOf (ofBack buy away (λ (h : Resting). countedIf n (h .number) (h .shares .0))) s
+unfolding moveLines sumOf
+moves-cancelled n buy away [] = refl
+moves-cancelled n buy away (h ∷ s) =
     ⊎-elim
-    (λ (t : ranksBefore buy x y ≡ true). rw t refl)
-    (λ (t : ranksBefore buy x y ≡ false). rw t (omega (arith, insert-sum n buy x s)))
-    (holds-or-not (ranksBefore buy x y))
+    (λ (t : wouldNowCross buy away h ≡ true).
+    ⊎-elim
+    (λ (c : h .back ≡ true). rw (t, c) (omega (arith, moves-cancelled n buy away s)))
+    (λ (c : h .back ≡ false). rw (t, c) (omega (arith, moves-cancelled n buy away s)))
+    (holds-or-not (h .back)))
+    (λ (t : wouldNowCross buy away h ≡ false). rw t (omega (arith, moves-cancelled n buy away s)))
+    (holds-or-not (wouldNowCross buy away h))
+
+pub moves-sum : (n m : Number) (k : ℕ) (buy : Bool) (away : Away) (s : List Resting)
+    → cancelledIn n (moveLines buy away s) + restsOn n (afterMoves m k buy away s) ≡ restsOn n s
+moves-sum n m k buy away s =
+    omega (
+      arith,
+      moves-cancelled n buy away s,
+      moves-counted (λ (h : Resting). countedIf n (h .number) (h .shares .0)) (λ h price anew. refl) m buy away k s,
+    )
+
+-- .. and executes nothing
+pub moves-execute-none : (n : Number) (buy : Bool) (away : Away) (s : List Resting) → executedIn n (moveLines buy away s) ≡ 0
+unfolding moveLines sumOf
+moves-execute-none n buy away [] = refl
+moves-execute-none n buy away (h ∷ s) =
+    ⊎-elim
+    (λ (t : wouldNowCross buy away h ≡ true).
+    ⊎-elim
+    (λ (c : h .back ≡ true). rw (t, c) (omega (arith, moves-execute-none n buy away s)))
+    (λ (c : h .back ≡ false). rw (t, c) (omega (arith, moves-execute-none n buy away s)))
+    (holds-or-not (h .back)))
+    (λ (t : wouldNowCross buy away h ≡ false). rw t (moves-execute-none n buy away s))
+    (holds-or-not (wouldNowCross buy away h))
+
+-- ── What rests ──
 
 -- an order is filled only if nothing is left of it
 abbrev pub Leaves : ℕ → Ending → Type 0
@@ -187,7 +217,7 @@ pub ending-sum : (n m : Number) (o : Order) (left : ℕ) (e : Ending) (own : Lis
 unfolding sumOf
 ending-sum n m o left Filled own f = omega (arith, counted-none n m left (f refl))
 ending-sum n m o left (Rests price) own f =
-    omega (arith, insert-sum n (buying o) (record { number = m; price = price; shares = shares left; displayed = has (o .word) displayed }) own)
+    omega (arith, added-sum (λ (h : Resting). countedIf n (h .number) (h .shares .0)) (added-insert (buying o) (remainderOf m o left price) own))
 ending-sum n m o left (Cancels reason) own f = omega arith
 
 -- ── An order of which something is left is not filled ──

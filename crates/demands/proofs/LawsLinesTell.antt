@@ -20,13 +20,13 @@ use Rattle.rules.specs.declared.Away.{Away}
 use Rattle.rules.specs.declared.Ending.{Ending}
 use Rattle.rules.specs.declared.Ending.the-variants.{Filled, Rests, Cancels}
 use Rattle.rules.specs.declared.Event.{Event}
-use Rattle.rules.specs.declared.Event.the-variants.{Executed, Rested, Cancelled}
+use Rattle.rules.specs.declared.Event.the-variants.{Executed, Rested, Cancelled, Moved}
 use Rattle.rules.specs.declared.Order.{Order}
 use Rattle.rules.specs.declared.Resting.{Resting}
 use Rattle.rules.specs.Book.{numbers, ranksBefore, inRankOrder, unused}
 use Rattle.rules.specs.EventLines.{fokKilled}
 use Rattle.rules.specs.Instructions.{ioc, fok, has}
-use Rattle.rules.specs.Working.{isNumber, executions, seeks, endingWith, ending, lastLine}
+use Rattle.rules.specs.Working.{isNumber, executions, endingWith, lastLine}
 use Rattle.soundness.proofs.LawsRank.{ranks-not-itself, ranked-first, ranked-rest, ranks-transitive}
 use Rattle.soundness.proofs.LawsSides.{bothSides, Sides, all-holding, sides-thinned}
 use Rattle.soundness.proofs.LawsThinned.{thinned-none, thinned-same}
@@ -49,6 +49,7 @@ between-more n h s (Executed incoming resting price shares) b = (b .0, rw (b .1)
     or-true false = refl
 between-more n h s (Rested m price shares) b = tt
 between-more n h s (Cancelled m shares reason) b = tt
+between-more n h s (Moved m price shares) b = tt
 
 pub executions-between : (n : Number) (s : List Resting) (ts : List ℕ) → All (Between n s) (executions n s ts)
 unfolding executions any

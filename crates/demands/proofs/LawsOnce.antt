@@ -1,7 +1,7 @@
 -- Demand 1: a refusal hands back the same record and writes no byte; each command number acts at most once in a day; and the day with
 -- its refused commands struck out ends with the same book and the same event lines. Assumes nothing.
 use Prim.Native.Nat.{ℕ, zero, suc, _+_, _≤_}
-use mathlib.Core.Bool.{true, false, not}
+use mathlib.Core.Bool.{true, false}
 use mathlib.Core.List.{List, [], _∷_, _++_}
 use mathlib.Core.Logic.{_≢_, _⊎_, ⊎-elim}
 use mathlib.Core.Path.{_≡_, refl, sym, ap, _∙_, subst}

@@ -1,7 +1,7 @@
--- The lines of an accepted command fit the room that refusal 1 asks for: at most 64 executions and one line more, or one cancel line
--- for each order of the book. Assumes nothing.
+-- The lines of an accepted command fit the room that refusal 1 asks for: at most 64 executions and one line more, or one line
+-- for each order of the book that is cancelled or, by a quote, moved. Assumes nothing.
 use Prim.Native.Nat.{ℕ, _+_, _*_, _≤_}
-use mathlib.Core.Bool.{Bool, true, false, not, _&&_}
+use mathlib.Core.Bool.{Bool, true, false, _&&_}
 use mathlib.Core.List.{List, _++_}
 use mathlib.Core.Path.{_≡_}
 use lib.ListN.{length, length-append}
@@ -18,10 +18,9 @@ use Rattle.rules.specs.Book.{Book, BookRecord, placesASide, bookIn, sound, plac
 use Rattle.rules.specs.EventLines.{eventLines, byCommand, atClose}
 use Rattle.rules.specs.Refusals.{leastRoom, firstOf, lineRefusals, refusals}
 use Rattle.rules.specs.Step.{doneBy}
-use Rattle.rules.specs.Working.{takings, remainder, ending, executions, lastLine, isNumber, buying, oppositeSide, cancels, accept, cancel, quote, close, does}
-use Rattle.rules.proofs.LawsEvents.{eventLines-append, none-long, executions-long, cancels-long, last-long}
+use Rattle.rules.specs.Working.{takings, remainder, ending, executions, lastLine, isNumber, buying, oppositeSide, cancels, accept, cancel, moveLines, quote, close, does}
+use Rattle.rules.proofs.LawsEvents.{eventLines-append, none-long, executions-long, cancels-long, moves-long, last-long}
 use Rattle.rules.proofs.LawsRefusals.{fit-facts}
-use Rattle.rules.proofs.LawsWriting.{none}
 use Rattle.soundness.proofs.LawsSound.{sound-is}
 
 -- ── A command ──
@@ -50,7 +49,11 @@ does-long n time (body.Order o) b s =
 does-long n time (body.Cancel of) b s =
     let f = sound-is b s in
     omega (arith, cancels-both byCommand (isNumber of) (b .buys) (b .sells), f .buysFit, f .sellsFit)
-does-long n time (body.Quote away) b s = omega (arith, none-long)
+does-long n time (body.Quote away) b s =
+    let f = sound-is b s in
+    let moves = both-long (moveLines true away (b .buys)) (moveLines false away (b .sells)) (27 * length (b .buys)) (27 * length (b .sells))
+    (moves-long true away (b .buys)) (moves-long false away (b .sells)) in
+    omega (arith, moves, f .buysFit, f .sellsFit)
 does-long n time body.Close b s =
     let f = sound-is b s in
     omega (arith, cancels-both atClose (λ h. true) (b .buys) (b .sells), f .buysFit, f .sellsFit)

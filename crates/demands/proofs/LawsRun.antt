@@ -10,10 +10,15 @@ use native.Mathlib.Omega.{arith}
 use borrow.Author.Tests.{le-ltb}
 use Rattle.basics.specs.Bytes.{onto}
 use Rattle.basics.specs.Choice.{if_then_else_}
+use Rattle.basics.specs.Lists.{All}
 use Rattle.basics.proofs.LawsChoice.{holds-or-not}
+use Rattle.kinds.specs.declared.Number.{Number}
+use Rattle.rules.specs.declared.Away.{Away}
+use Rattle.rules.specs.declared.Body.the-variants as body
 use Rattle.rules.specs.declared.Command.{Command}
 use Rattle.rules.specs.declared.Order.{Order}
 use Rattle.rules.specs.declared.Reading.the-variants as reading
+use Rattle.rules.specs.declared.Resting.{Resting}
 use Rattle.rules.specs.Book.{Book, fresh, sound, recordOf}
 use Rattle.rules.specs.CommandLines.{commandIn}
 use Rattle.rules.specs.Day.{printed, bookAfter, printedOf}
@@ -21,8 +26,9 @@ use Rattle.rules.specs.EventLines.{eventLines}
 use Rattle.rules.specs.Instructions.{postOnly, has}
 use Rattle.rules.specs.Refusals.{leastRoom, firstOf, lineRefusals, refusals}
 use Rattle.rules.specs.Step.{doneBy, answer, answerTo, step, stepOn}
-use Rattle.rules.specs.Working.{does}
+use Rattle.rules.specs.Working.{wouldNowCross, setAnew, firstMove, quote, does}
 use Rattle.soundness.proofs.LawsKept.{answer-sound, fresh-sound, book-record, record-sound}
+use Rattle.soundness.proofs.LawsMoves.{moves-stay}
 use Rattle.demands.specs.Executes.{Executes}
 use Rattle.demands.specs.Once.{acts}
 use Rattle.demands.specs.Run.{eventsOf, Enters, now, later}
@@ -61,6 +67,16 @@ pub accepted-does : (b : Book) (line : List ℕ) (c : Command) → commandIn lin
     × (answerTo b line .events ≡ does (c .number) (c .time) (c .body) b .events)
 unfolding answerTo answer doneBy
 accepted-does b line c is t = (rw (t, is) refl, rw (t, is) refl)
+
+-- after an accepted quote no order would cross it (02, W2)
+pub quote-crossed-by-none : (b : Book) (line : List ℕ) (n : Number) (time : ℕ) (away : Away)
+    → commandIn line ≡ reading.Is (record { number = n; time = time; body = body.Quote away }) → acts b line ≡ true
+    → All (λ (h : Resting). wouldNowCross true away h ≡ false) (answerTo b line .book .buys)
+    × All (λ (h : Resting). wouldNowCross false away h ≡ false) (answerTo b line .book .sells)
+unfolding does quote
+quote-crossed-by-none b line n time away is t =
+    let d = accepted-does b line (record { number = n; time = time; body = body.Quote away }) is t in
+    rw (d .0) (moves-stay true away n firstMove (b .buys), moves-stay false away n (firstMove + length (setAnew n firstMove true away (b .buys))) (b .sells))
 
 -- ── Demand 3 ──
 

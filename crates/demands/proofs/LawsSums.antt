@@ -5,6 +5,7 @@ use mathlib.Core.Bool.{true, false}
 use mathlib.Core.List.{List, [], _∷_, _++_}
 use mathlib.Core.Logic.{_≢_, ⊎-elim}
 use mathlib.Core.Path.{_≡_, refl, _∙_, subst}
+use lib.ListN.{length}
 use native.Mathlib.Omega.{arith}
 use Rattle.basics.specs.Lists.{total, sumOf, All, none, also}
 use Rattle.basics.proofs.LawsChoice.{holds-or-not}
@@ -24,14 +25,14 @@ use Rattle.rules.specs.CommandLines.{commandIn}
 use Rattle.rules.specs.Day.{bookAfter}
 use Rattle.rules.specs.EventLines.{byCommand, atClose}
 use Rattle.rules.specs.Step.{doneBy, answer, answerTo}
-use Rattle.rules.specs.Working.{buying, takings, remainder, executions, after, ending, lastLine, withRemainder, accept, cancels, isNumber, cancel, quote, close, does}
+use Rattle.rules.specs.Working.{buying, takings, remainder, executions, after, ending, lastLine, withRemainder, accept, cancels, isNumber, cancel, setAnew, moveLines, firstMove, quote, close, does}
 use Rattle.soundness.proofs.LawsKept.{answer-sound, fresh-sound}
 use Rattle.soundness.proofs.LawsSides.{InRange, sides-of}
 use Rattle.soundness.proofs.LawsSound.{sound-is}
 use Rattle.demands.specs.Once.{numberIn, acts}
 use Rattle.demands.specs.Run.{eventsOf, Enters, now, later}
 use Rattle.demands.specs.Told.{executedBy, cancelledBy, countedIf, executedIn, cancelledIn, restsOn, restingOf}
-use Rattle.demands.proofs.LawsHeld.{counted-same, counted-other, counted-split, takings-no-more, takings-at-most, executions-sum, executions-cancel-none, cancels-sum, cancels-all, cancels-execute-none, ending-sum, ending-leaves}
+use Rattle.demands.proofs.LawsHeld.{counted-same, counted-other, counted-split, takings-no-more, takings-at-most, executions-sum, executions-cancel-none, cancels-sum, cancels-all, cancels-execute-none, moves-sum, moves-execute-none, ending-sum, ending-leaves}
 use Rattle.demands.proofs.LawsOnce.{refused-book, refused-events, next-acts, answer-rises}
 
 -- ── One command ──
@@ -99,7 +100,16 @@ does-sum n m time (body.Cancel of) b =
       cancels-execute-none n byCommand (isNumber of) (b .buys),
       cancels-execute-none n byCommand (isNumber of) (b .sells),
     )
-does-sum n m time (body.Quote away) b = omega arith
+does-sum n m time (body.Quote away) b =
+    let after = firstMove + length (setAnew m firstMove true away (b .buys)) in
+    omega (
+      arith,
+      gone-append n (moveLines true away (b .buys)) (moveLines false away (b .sells)),
+      moves-sum n m firstMove true away (b .buys),
+      moves-sum n m after false away (b .sells),
+      moves-execute-none n true away (b .buys),
+      moves-execute-none n false away (b .sells),
+    )
 does-sum n m time body.Close b =
     omega (
       arith,

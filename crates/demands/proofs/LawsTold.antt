@@ -25,12 +25,12 @@ use Rattle.rules.specs.declared.Reading.{Reading}
 use Rattle.rules.specs.declared.Reading.the-variants as reading
 use Rattle.rules.specs.declared.Resting.{Resting}
 use Rattle.rules.specs.Book.{Book, sound}
-use Rattle.rules.specs.CommandLines.{Fitting, empty, fits, headerForm, orderForm, numbersOf, formOf, commandIn}
+use Rattle.rules.specs.CommandLines.{Fitting, empty, fits, headerForm, orderForm, quoteForm, numbersOf, formOf, commandIn}
 use Rattle.rules.specs.Day.{linesIn, printed, printedOf}
-use Rattle.rules.specs.EventLines.{FitsEvent, executedKind, restedKind, cancelledKind, byCommand, iocRemainder, fokKilled, cancelledBack, noPriceInRange, postOnlyMeets, atClose}
+use Rattle.rules.specs.EventLines.{FitsEvent, executedKind, restedKind, cancelledKind, movedKind, byCommand, iocRemainder, fokKilled, cancelledBack, noPriceInRange, postOnlyMeets, atClose}
 use Rattle.rules.specs.Instructions.{ioc, fok, has}
 use Rattle.rules.specs.Step.{doneBy, answer, answerTo}
-use Rattle.rules.specs.Working.{buying, oppositeSide, remainder, executions, endingWith, ending, lastLine, accept, cancels, isNumber, cancel, quote, close, does}
+use Rattle.rules.specs.Working.{buying, lockingPrice, oppositeSide, remainder, executions, endingWith, ending, lastLine, accept, cancels, isNumber, cancel, wouldNowCross, moveLines, quote, close, does}
 use Rattle.rules.proofs.LawsLines.{commandIn-is}
 use Rattle.soundness.proofs.LawsEndings.{chosen, sought-is}
 use Rattle.soundness.proofs.LawsKept.{answer-sound}
@@ -84,6 +84,24 @@ cancels-fit reason l gone (also {x = h} r a) =
     (λ (t : gone h ≡ false). rw t (cancels-fit reason l gone a))
     (holds-or-not (gone h))
 
+-- ── Moves ──
+
+-- each line is of a resting order with all of its shares, that of a move with the Locking Price
+moves-fit : (buy : Bool) (away : Away) → lockingPrice buy away .0 < 2 ^ 32 → {s : List Resting} → All Small s → All FitsEvent (moveLines buy away s)
+unfolding moveLines
+moves-fit buy away l none = none
+moves-fit buy away l (also {x = h} r a) =
+    ⊎-elim
+    (λ (t : wouldNowCross buy away h ≡ true).
+    ⊎-elim
+    (λ (c : h .back ≡ true).
+    rw (t, c) (also (fits 1 cancelledKind (omega arith) (fits 4 (h .number .0) (r .number) (fits 4 (h .shares .0) (r .shares) (fits 1 cancelledBack (omega arith) empty)))) (moves-fit buy away l a)))
+    (λ (c : h .back ≡ false).
+    rw (t, c) (also (fits 1 movedKind (omega arith) (fits 4 (h .number .0) (r .number) (fits 4 (lockingPrice buy away .0) l (fits 4 (h .shares .0) (r .shares) empty)))) (moves-fit buy away l a)))
+    (holds-or-not (h .back)))
+    (λ (t : wouldNowCross buy away h ≡ false). rw t (moves-fit buy away l a))
+    (holds-or-not (wouldNowCross buy away h))
+
 -- ── The ending of an order ──
 
 -- the price at which it rests fits in four bytes, the reason for which it is cancelled in one
@@ -131,12 +149,17 @@ module _ (b : Book) (s : sound b ≡ true) (l : b .last .0 < 2 ^ 32) (n : Number
   order-fits : (o : Order) → Fitting orderForm (numbersOf (body.Order o)) → All FitsEvent (accept n time o b .events)
   order-fits o (fits w side i (fits x word j (fits y price p (fits z size q empty)))) = accept-fits o p q
 
+  -- an away quote that was read has prices of four bytes
+  quote-fits : (away : Away) → Fitting quoteForm (numbersOf (body.Quote away)) → All FitsEvent (quote n time away b .events)
+  unfolding quote
+  quote-fits away (fits w bid p (fits x offer q empty)) = all-both (moves-fit true away q (opposite-small false)) (moves-fit false away p (opposite-small true))
+
   -- whatever a command that was read does, its events fit
   does-fits : (c : Body) → Fitting (formOf c) (numbersOf c) → All FitsEvent (does n time c b .events)
   unfolding does cancel quote close
   does-fits (body.Order o) f = order-fits o f
   does-fits (body.Cancel of) f = all-cancels-fit byCommand (omega arith) (isNumber of)
-  does-fits (body.Quote away) f = none
+  does-fits (body.Quote away) f = quote-fits away f
   does-fits body.Close f = all-cancels-fit atClose (omega arith) (λ h. true)
 
 -- ── One line ──

@@ -8,7 +8,7 @@ use Rattle.kinds.specs.declared.Cents.{Cents}
 use Rattle.kinds.specs.declared.Number.{Number}
 use Rattle.rules.specs.declared.Command.{Command}
 use Rattle.rules.specs.declared.Event.{Event}
-use Rattle.rules.specs.declared.Event.the-variants.{Executed, Rested, Cancelled}
+use Rattle.rules.specs.declared.Event.the-variants.{Executed, Rested, Cancelled, Moved}
 use Rattle.rules.specs.declared.Order.{Order}
 use Rattle.rules.specs.declared.Resting.{Resting}
 use Rattle.rules.specs.Book.{Book, ranksBefore}
@@ -32,6 +32,7 @@ abbrev pub Between : Number → List Resting → Event → Type 0
 Between n s (Executed incoming resting price shares) = (incoming ≡ n) × (any (isNumber resting) s ≡ true) × (1 ≤ shares .0)
 Between n s (Rested m price shares) = Unit {0}
 Between n s (Cancelled m shares reason) = Unit {0}
+Between n s (Moved m price shares) = Unit {0}
 
 -- what an order, entered by a command on the book that stood then, executes as its event lines tell it
 pub record Executes (stood : Book) (c : Command) (o : Order) (es : List Event) : Type 0 where

@@ -10,7 +10,7 @@ use Rattle.kinds.specs.Kinds.{shares, number}
 use Rattle.kinds.specs.declared.Cents.{Cents}
 use Rattle.kinds.specs.declared.Number.{Number}
 use Rattle.rules.specs.declared.Event.{Event}
-use Rattle.rules.specs.declared.Event.the-variants.{Executed, Rested, Cancelled}
+use Rattle.rules.specs.declared.Event.the-variants.{Executed, Rested, Cancelled, Moved}
 use Rattle.rules.specs.declared.EventReading.{EventReading}
 use Rattle.rules.specs.declared.EventReading.the-variants.{Is, UnknownKind, Short, TrailingBytes, BadDigitOrEnding}
 use Rattle.rules.specs.declared.Resting.{Resting}
@@ -39,6 +39,8 @@ eventsIn bytes = eventsOn (linesIn bytes)
 
 -- ── Shares, summed from events ──
 
+-- A move changes no order's shares (02, W2), so its line counts for nothing in any of these sums.
+
 -- k where the two numbers are one, else nothing
 abbrev pub countedIf : Number → Number → ℕ → ℕ
 countedIf n m k = if eqb (n .0) (m .0) then k else 0
@@ -48,17 +50,20 @@ abbrev pub executedBy : Number → Event → ℕ
 executedBy n (Executed incoming resting price shares) = countedIf n incoming (shares .0) + countedIf n resting (shares .0)
 executedBy n (Rested m price shares) = 0
 executedBy n (Cancelled m shares reason) = 0
+executedBy n (Moved m price shares) = 0
 
 -- those that it gives as the resting one
 abbrev pub givenBy : Number → Event → ℕ
 givenBy n (Executed incoming resting price shares) = countedIf n resting (shares .0)
 givenBy n (Rested m price shares) = 0
 givenBy n (Cancelled m shares reason) = 0
+givenBy n (Moved m price shares) = 0
 
 abbrev pub cancelledBy : Number → Event → ℕ
 cancelledBy n (Executed incoming resting price shares) = 0
 cancelledBy n (Rested m price shares) = 0
 cancelledBy n (Cancelled m shares reason) = countedIf n m (shares .0)
+cancelledBy n (Moved m price shares) = 0
 
 abbrev pub executedIn : Number → List Event → ℕ
 executedIn n es = sumOf (executedBy n) es
@@ -75,12 +80,14 @@ pricesIn n [] = []
 pricesIn n (Executed incoming resting price shares ∷ es) = if eqb (n .0) (resting .0) then price ∷ pricesIn n es else pricesIn n es
 pricesIn n (Rested m price shares ∷ es) = pricesIn n es
 pricesIn n (Cancelled m shares reason ∷ es) = pricesIn n es
+pricesIn n (Moved m price shares ∷ es) = pricesIn n es
 
 -- the line that kills a Fill-or-Kill has reason 3; that it cancels "the whole order" is said beside it
 abbrev pub kills : Number → Event → Bool
 kills n (Executed incoming resting price shares) = false
 kills n (Rested m price shares) = false
 kills n (Cancelled m shares reason) = eqb (n .0) (m .0) && eqb reason fokKilled
+kills n (Moved m price shares) = false
 
 abbrev pub isKilled : Number → List Event → Bool
 isKilled n es = any (kills n) es

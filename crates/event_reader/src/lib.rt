@@ -1,5 +1,5 @@
-// The reader of our own event lines, kinds 11, 12 and 13, over any bytes (02, W1). Refusals are tried in this order: unknown kind,
-// short (also below two bytes), trailing bytes, bad digit or ending.
+// The reader of our own event lines, kinds 11 to 14, over any bytes (02, W1 and W2). Refusals are tried in this order: unknown kind, short
+// (also below two bytes), trailing bytes, bad digit or ending.
 use digits::Value;
 use kinds::Cents;
 use kinds::Number;
@@ -7,22 +7,19 @@ use kinds::Shares;
 use rules::Event;
 use rules::EventReading;
 ghost use mathlib.Core.Path.{_≡_};
+ghost use Prim.Native.Nat.{_≤_};
+ghost use Rattle.basics.specs.Choice.{if_then_else_};
+ghost use Rattle.rules.specs.CommandLines.{numbersFrom};
 ghost use Rattle.rules.specs.EventLines.{executedFields, restedFields, cancelledFields};
-ghost use Rattle.rules.specs.EventReading.{executedOf, restedOf, cancelledOf, ofFields, eventIn};
+ghost use Rattle.rules.specs.EventReading.{executedOf, restedOf, cancelledOf, movedOf, eventOf, eventIn};
+ghost use Rattle.event_reader.specs.Ended.{whenEnded};
 
-// A line of kind 11: its length, then its line feed, then its fields.
+// ── The fields behind a kind ──
+
+// Those of kind 11.
 fn read_executed(s: &[u8]) -> EventReading
-    ensures { λ r. ⌜ r ≡ ofFields executedFields executedOf (now (s .entry)) ⌝ }
+    ensures { λ r. ⌜ r ≡ eventOf executedOf (numbersFrom 2 executedFields (now (s .entry))) ⌝ }
 {
-    if s.len() < rules::EXECUTED_LENGTH {
-        return EventReading::Short;
-    }
-    if rules::EXECUTED_LENGTH < s.len() {
-        return EventReading::TrailingBytes;
-    }
-    if s[rules::EXECUTED_LENGTH - 1] != 10 {
-        return EventReading::BadDigitOrEnding;
-    }
     let Value::Is(incoming) = fields::four_at(s, 2) else {
         return EventReading::BadDigitOrEnding;
     };
@@ -43,19 +40,10 @@ fn read_executed(s: &[u8]) -> EventReading
     })
 }
 
-// The same of kind 12.
-fn read_rested(s: &[u8]) -> EventReading
-    ensures { λ r. ⌜ r ≡ ofFields restedFields restedOf (now (s .entry)) ⌝ }
+// The same of kinds 12 and 14, which are alike: an order at a price.
+fn read_at_price(s: &[u8], moved: bool) -> EventReading
+    ensures { λ r. ⌜ r ≡ eventOf (if moved then movedOf else restedOf) (numbersFrom 2 restedFields (now (s .entry))) ⌝ }
 {
-    if s.len() < rules::RESTED_LENGTH {
-        return EventReading::Short;
-    }
-    if rules::RESTED_LENGTH < s.len() {
-        return EventReading::TrailingBytes;
-    }
-    if s[rules::RESTED_LENGTH - 1] != 10 {
-        return EventReading::BadDigitOrEnding;
-    }
     let Value::Is(number) = fields::four_at(s, 2) else {
         return EventReading::BadDigitOrEnding;
     };
@@ -65,6 +53,13 @@ fn read_rested(s: &[u8]) -> EventReading
     let Value::Is(shares) = fields::four_at(s, 18) else {
         return EventReading::BadDigitOrEnding;
     };
+    if moved {
+        return EventReading::Is(Event::Moved {
+            number: Number(number),
+            price: Cents(price),
+            shares: Shares(shares),
+        });
+    }
     EventReading::Is(Event::Rested {
         number: Number(number),
         price: Cents(price),
@@ -74,17 +69,8 @@ fn read_rested(s: &[u8]) -> EventReading
 
 // The same of kind 13.
 fn read_cancelled(s: &[u8]) -> EventReading
-    ensures { λ r. ⌜ r ≡ ofFields cancelledFields cancelledOf (now (s .entry)) ⌝ }
+    ensures { λ r. ⌜ r ≡ eventOf cancelledOf (numbersFrom 2 cancelledFields (now (s .entry))) ⌝ }
 {
-    if s.len() < rules::CANCELLED_LENGTH {
-        return EventReading::Short;
-    }
-    if rules::CANCELLED_LENGTH < s.len() {
-        return EventReading::TrailingBytes;
-    }
-    if s[rules::CANCELLED_LENGTH - 1] != 10 {
-        return EventReading::BadDigitOrEnding;
-    }
     let Value::Is(number) = fields::four_at(s, 2) else {
         return EventReading::BadDigitOrEnding;
     };
@@ -101,6 +87,25 @@ fn read_cancelled(s: &[u8]) -> EventReading
     })
 }
 
+// ── A line ──
+
+// What was read of the fields, where the line has its size and its line feed.
+fn when_ended(s: &[u8], size: usize, read: EventReading) -> EventReading
+    requires { ⌜ 1 ≤ size ⌝ }
+    ensures { λ r. ⌜ r ≡ whenEnded size (now (s .entry)) read ⌝ }
+{
+    if s.len() < size {
+        return EventReading::Short;
+    }
+    if size < s.len() {
+        return EventReading::TrailingBytes;
+    }
+    if s[size - 1] != 10 {
+        return EventReading::BadDigitOrEnding;
+    }
+    read
+}
+
 // The event that a line is, or why it is none.
 pub fn read_event(s: &[u8]) -> EventReading
     ensures { λ r. ⌜ r ≡ eventIn (now (s .entry)) ⌝ }
@@ -112,9 +117,10 @@ pub fn read_event(s: &[u8]) -> EventReading
         return EventReading::UnknownKind;
     };
     match kind {
-        0x11 => read_executed(s),
-        0x12 => read_rested(s),
-        0x13 => read_cancelled(s),
+        0x11 => when_ended(s, rules::EXECUTED_LENGTH, read_executed(s)),
+        0x12 => when_ended(s, rules::RESTED_LENGTH, read_at_price(s, false)),
+        0x13 => when_ended(s, rules::CANCELLED_LENGTH, read_cancelled(s)),
+        0x14 => when_ended(s, rules::MOVED_LENGTH, read_at_price(s, true)),
         _ => EventReading::UnknownKind,
     }
 }

@@ -2,6 +2,7 @@
 // with it. A line that begins with `#` names the day whose lines come next; tools/gather-days writes the input and the output.
 use libc::STDOUT_FILENO;
 use rows::PLACES;
+use rows::WORDS;
 ghost use mathlib.Core.Path.{_≡_};
 ghost use Prim.Native.Nat.{_≤_, _<_};
 ghost use lib.ListN.{length};
@@ -43,8 +44,8 @@ fn day_end(days: &[u8], at: usize, start: usize, end: usize) -> usize
 fn run_day(day: &[u8], out: &mut [u8]) -> bool
     requires { ⌜ 5 ≤ length (now out) ⌝ }
 {
-    let mut buys = [[0u32; 4]; PLACES];
-    let mut sells = [[0u32; 4]; PLACES];
+    let mut buys = [[0u32; WORDS]; PLACES];
+    let mut sells = [[0u32; WORDS]; PLACES];
     let piece = night::work_piece(replay::begin(), day, &mut buys, &mut sells, out);
     if piece.is_written {
         night::finish(day.len() - piece.at, out);

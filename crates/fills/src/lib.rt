@@ -1,7 +1,7 @@
 // What a walk executes: its lines, and the opposite side after it.
 use kinds::Number;
-use kinds::Shares;
 use rows::PLACES;
+use rows::WORDS;
 use walk::Stop;
 ghost use mathlib.Core.Path.{_≡_};
 ghost use Prim.Native.Nat.{_≤_};
@@ -15,7 +15,7 @@ ghost use Rattle.walk.specs.Walk.{tookTo};
 ghost use Rattle.fills.specs.Fills.{StopsIn};
 
 // The orders before the place leave, and the one there keeps what it did not give.
-pub fn use_up(t: &mut [[u32; 4]; PLACES], n: usize, stop: Stop)
+pub fn use_up(t: &mut [[u32; WORDS]; PLACES], n: usize, stop: Stop)
     requires { ⌜ Holds n (now t) × StopsIn (side n (now t)) stop ⌝ }
     ensures { λ _. ⌜ now (t .exit) ≡ tableOf (after (side n (now (t .entry))) (tookTo (stop .at) (stop .part .0) (side n (now (t .entry))))) ⌝ }
 {
@@ -30,7 +30,13 @@ pub fn use_up(t: &mut [[u32; 4]; PLACES], n: usize, stop: Stop)
 }
 
 // A line for each order that gives, in rank order; the length of the lines.
-pub fn report(t: &[[u32; 4]; PLACES], n: usize, stop: Stop, number: Number, out: &mut [u8]) -> usize
+pub fn report(
+    t: &[[u32; WORDS]; PLACES],
+    n: usize,
+    stop: Stop,
+    number: Number,
+    out: &mut [u8],
+) -> usize
     requires { ⌜ Holds n (now t) × StopsIn (side n (now t)) stop × (leastRoom ≤ length (now out)) ⌝ }
     ensures { λ r. ⌜ r ≡ length (eventLines (executions number (side n (now (t .entry))) (tookTo (stop .at) (stop .part .0) (side n (now (t .entry)))))) ⌝ }
     ensures { λ _. ⌜ now (out .exit) ≡ onto (eventLines (executions number (side n (now (t .entry))) (tookTo (stop .at) (stop .part .0) (side n (now (t .entry)))))) (now (out .entry)) ⌝ }

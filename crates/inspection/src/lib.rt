@@ -1,6 +1,7 @@
 // Whether a book is sound (01, The book), decided on its header and two lent tables of rows, whatever they hold.
 use kinds::Number;
 use rows::PLACES;
+use rows::WORDS;
 use rules::Resting;
 use tables::Head;
 ghost use mathlib.Core.Bool.{not};
@@ -17,18 +18,23 @@ ghost use Rattle.inspection.specs.Inspection.{headSound, sideSound};
 
 // ── One order ──
 
-// Fields in range; numbers from 1 to the last number.
+// Fields in range; numbers from 1 to the last number; a stamp set by a command from the order's own to the last.
 fn in_range(last: Number, o: Resting) -> bool
     ensures { λ r. ⌜ r ≡ restingInRange last o ⌝ }
 {
     let price = o.price;
     let shares = o.shares;
-    (1 <= o.number.0) & (o.number.0 <= last.0) & price.in_range() & shares.in_range()
+    let stamp = o.stamp;
+    (1 <= o.number.0)
+        & (o.number.0 <= last.0)
+        & price.in_range()
+        & shares.in_range()
+        & ((o.number.0 <= stamp.command.0) & (stamp.command.0 <= last.0))
 }
 
 // ── One side ──
 
-fn all_in_range(t: &[[u32; 4]; PLACES], n: usize, last: Number) -> bool
+fn all_in_range(t: &[[u32; WORDS]; PLACES], n: usize, last: Number) -> bool
     requires { ⌜ n ≤ placesASide ⌝ }
     ensures { λ r. ⌜ r ≡ every (restingInRange last) (side n (now (t .entry))) ⌝ }
 {
@@ -44,7 +50,7 @@ fn all_in_range(t: &[[u32; 4]; PLACES], n: usize, last: Number) -> bool
 }
 
 // Unused places are all zero.
-fn all_unused(t: &[[u32; 4]; PLACES], n: usize) -> bool
+fn all_unused(t: &[[u32; WORDS]; PLACES], n: usize) -> bool
     requires { ⌜ n ≤ placesASide ⌝ }
     ensures { λ r. ⌜ r ≡ every isUnused (drop n (map orderOf (now (t .entry)))) ⌝ }
 {
@@ -60,7 +66,7 @@ fn all_unused(t: &[[u32; 4]; PLACES], n: usize) -> bool
 }
 
 // Used places are in strict rank order.
-fn in_rank_order(t: &[[u32; 4]; PLACES], n: usize, buying: bool) -> bool
+fn in_rank_order(t: &[[u32; WORDS]; PLACES], n: usize, buying: bool) -> bool
     requires { ⌜ n ≤ placesASide ⌝ }
     ensures { λ r. ⌜ r ≡ inRankOrder buying (side n (now (t .entry))) ⌝ }
 {
@@ -78,7 +84,7 @@ fn in_rank_order(t: &[[u32; 4]; PLACES], n: usize, buying: bool) -> bool
 // ── Numbers ──
 
 // Whether an order from place `from` on has the number.
-fn has_number(t: &[[u32; 4]; PLACES], n: usize, from: usize, number: Number) -> bool
+fn has_number(t: &[[u32; WORDS]; PLACES], n: usize, from: usize, number: Number) -> bool
     requires { ⌜ (n ≤ placesASide) × (from ≤ n) ⌝ }
     ensures { λ r. ⌜ r ≡ any (eqb (number .0)) (drop from (numbers (side n (now (t .entry))))) ⌝ }
 {
@@ -95,7 +101,7 @@ fn has_number(t: &[[u32; 4]; PLACES], n: usize, from: usize, number: Number) -> 
 }
 
 // No number stands twice on a side.
-fn none_twice(t: &[[u32; 4]; PLACES], n: usize) -> bool
+fn none_twice(t: &[[u32; WORDS]; PLACES], n: usize) -> bool
     requires { ⌜ n ≤ placesASide ⌝ }
     ensures { λ r. ⌜ r ≡ distinct (numbers (side n (now (t .entry)))) ⌝ }
 {
@@ -112,7 +118,12 @@ fn none_twice(t: &[[u32; 4]; PLACES], n: usize) -> bool
 }
 
 // No number of the first side stands on the second.
-fn none_on_both(t: &[[u32; 4]; PLACES], n: usize, other: &[[u32; 4]; PLACES], m: usize) -> bool
+fn none_on_both(
+    t: &[[u32; WORDS]; PLACES],
+    n: usize,
+    other: &[[u32; WORDS]; PLACES],
+    m: usize,
+) -> bool
     requires { ⌜ (n ≤ placesASide) × (m ≤ placesASide) ⌝ }
     ensures { λ r. ⌜ r ≡ every (λ k. not (any (eqb k) (numbers (side m (now (other .entry)))))) (numbers (side n (now (t .entry)))) ⌝ }
 {
@@ -131,7 +142,12 @@ fn none_on_both(t: &[[u32; 4]; PLACES], n: usize, other: &[[u32; 4]; PLACES], m:
 // ── The book ──
 
 // The best buy is below the best sell.
-fn are_apart(buys: &[[u32; 4]; PLACES], n: usize, sells: &[[u32; 4]; PLACES], m: usize) -> bool
+fn are_apart(
+    buys: &[[u32; WORDS]; PLACES],
+    n: usize,
+    sells: &[[u32; WORDS]; PLACES],
+    m: usize,
+) -> bool
     requires { ⌜ (n ≤ placesASide) × (m ≤ placesASide) ⌝ }
     ensures { λ r. ⌜ r ≡ apart (side n (now (buys .entry))) (side m (now (sells .entry))) ⌝ }
 {
@@ -160,7 +176,7 @@ fn head_sound(h: Head) -> bool
 }
 
 // What sound says of one side alone, and of its unused places.
-fn side_sound(t: &[[u32; 4]; PLACES], n: usize, buying: bool, last: Number) -> bool
+fn side_sound(t: &[[u32; WORDS]; PLACES], n: usize, buying: bool, last: Number) -> bool
     requires { ⌜ n ≤ placesASide ⌝ }
     ensures { λ r. ⌜ r ≡ sideSound buying last n (now (t .entry)) ⌝ }
 {
@@ -171,7 +187,7 @@ fn side_sound(t: &[[u32; 4]; PLACES], n: usize, buying: bool, last: Number) -> b
     ranked & ranged & zero & once
 }
 
-pub fn is_sound(h: Head, buys: &[[u32; 4]; PLACES], sells: &[[u32; 4]; PLACES]) -> bool
+pub fn is_sound(h: Head, buys: &[[u32; WORDS]; PLACES], sells: &[[u32; WORDS]; PLACES]) -> bool
     ensures { λ r. ⌜ r ≡ recordSound (recordOn h (now (buys .entry)) (now (sells .entry))) ⌝ }
 {
     let last = h.last;

@@ -9,28 +9,27 @@ use borrow.Author.Tests.{le-leb, lt-leb}
 use Rattle.basics.specs.Choice.{if_then_else_}
 use Rattle.basics.specs.Lists.{All}
 use Rattle.kinds.specs.declared.Number.{Number}
+use Rattle.places.proofs.LawsPlaced.{length-insert}
 use Rattle.rules.specs.declared.Away.{Away}
 use Rattle.rules.specs.declared.Ending.{Ending}
 use Rattle.rules.specs.declared.Ending.the-variants.{Filled, Rests, Cancels}
 use Rattle.rules.specs.declared.Order.{Order}
 use Rattle.rules.specs.declared.Resting.{Resting}
 use Rattle.rules.specs.Book.{placesASide}
-use Rattle.rules.specs.Instructions.{displayed, has}
 use Rattle.rules.specs.Refusals.{isRest}
-use Rattle.rules.specs.Working.{buying, takings, remainder, endingWith, ending, executions, lastLine, withRemainder, after}
+use Rattle.rules.specs.Working.{buying, takings, remainder, endingWith, ending, executions, lastLine, remainderOf, withRemainder, after}
 use Rattle.walk.specs.declared.Stop.{Stop}
 use Rattle.walk.specs.Walk.{tookTo}
 use Rattle.work.specs.Stopping.{Workable, stopFor}
 use Rattle.work.proofs.LawsStopping.{stop-takings, stop-remainder}
 use Rattle.matching.specs.declared.Matched.{Matched}
 use Rattle.matching.specs.Matching.{Match, isFull, matchOf}
-use Rattle.matching.proofs.LawsMatching.{length-insert}
 
 -- a side takes at most one order more
 pub length-remainder : (n : Number) (o : Order) (left : ℕ) (end : Ending) (own : List Resting)
     → length (withRemainder n o left end own) ≡ length own + (if isRest end then 1 else 0)
 length-remainder n o left Filled own = omega arith
-length-remainder n o left (Rests price) own = omega (arith, length-insert (buying o) (record { number = n; price = price; shares = record { 0 = left }; displayed = has (o .word) displayed }) own)
+length-remainder n o left (Rests price) own = omega (arith, length-insert (buying o) (remainderOf n o left price) own)
 length-remainder n o left (Cancels reason) own = omega arith
 
 -- a side is too full for an ending exactly where it would hold more than its places

@@ -1,11 +1,15 @@
 // An order matched in place, on two lent tables: its own side and the opposite one (01, How an order is worked). One function for
 // both sides of the market.
+use kinds::Cents;
 use kinds::Number;
+use kinds::Shares;
 use rows::PLACES;
+use rows::WORDS;
 use rules::Away;
 use rules::Ending;
 use rules::Order;
 use rules::Resting;
+use rules::Stamp;
 use walk::Stop;
 ghost use mathlib.Core.List.{[], _∷_, _++_};
 ghost use mathlib.Core.Bool.{true, not};
@@ -21,7 +25,7 @@ ghost use Rattle.rows.specs.Table.{side, tableOf, Holds};
 ghost use Rattle.rules.specs.Book.{placesASide, inRankOrder};
 ghost use Rattle.rules.specs.EventLines.{eventLines};
 ghost use Rattle.rules.specs.Refusals.{isRest, leastRoom};
-ghost use Rattle.rules.specs.Working.{executions, after, insert, lastLine, withRemainder, buying, lockingPrice};
+ghost use Rattle.rules.specs.Working.{executions, after, insert, lastLine, remainderOf, withRemainder, buying, lockingPrice};
 ghost use Rattle.rules.specs.declared.Event.the-variants.{Rested, Cancelled};
 ghost use Rattle.walk.specs.Walk.{tookTo};
 ghost use Rattle.work.specs.Stopping.{Workable};
@@ -37,7 +41,7 @@ pub struct Matched {
 
 // The executions of a walk: their lines, and then the opposite side after them.
 fn execute(
-    t: &mut [[u32; 4]; PLACES],
+    t: &mut [[u32; WORDS]; PLACES],
     n: usize,
     stop: Stop,
     number: Number,
@@ -53,18 +57,9 @@ fn execute(
     len
 }
 
-// An order rests on its side, at its rank.
-fn rest(t: &mut [[u32; 4]; PLACES], n: usize, buy: bool, o: Resting)
-    requires { ⌜ Holds n (now t) × (n < placesASide) × (inRankOrder buy (side n (now t)) ≡ true) ⌝ }
-    ensures { λ _. ⌜ now (t .exit) ≡ tableOf (insert buy o (side n (now (t .entry)))) ⌝ }
-{
-    let at = side::place(t, n, buy, o);
-    shifts::insert(t, n, at, o);
-}
-
 // The executions of a walk, and then the shares left of the order are cancelled.
 fn execute_and_cancel(
-    t: &mut [[u32; 4]; PLACES],
+    t: &mut [[u32; WORDS]; PLACES],
     n: usize,
     stop: Stop,
     number: Number,
@@ -84,9 +79,9 @@ fn execute_and_cancel(
 
 // The executions of a walk, and then the shares left of the order rest on its own side.
 fn execute_and_rest(
-    own: &mut [[u32; 4]; PLACES],
+    own: &mut [[u32; WORDS]; PLACES],
     n: usize,
-    opposite: &mut [[u32; 4]; PLACES],
+    opposite: &mut [[u32; WORDS]; PLACES],
     m: usize,
     stop: Stop,
     buy: bool,
@@ -103,7 +98,7 @@ fn execute_and_rest(
     let price = order.price;
     let shares = order.shares;
     let len = execute(opposite, m, stop, number, out);
-    rest(own, n, buy, order);
+    places::rest(own, n, buy, order);
     let more = events::write_rested(&mut out[len..], number, price, shares);
     len + more
 }
@@ -120,15 +115,35 @@ fn places_after(end: Ending, n: usize) -> usize
     }
 }
 
+// What rests of an order.
+fn remainder_of(number: Number, o: Order, left: Shares, price: Cents) -> Resting
+    ensures { λ r. ⌜ r ≡ remainderOf number o (left .0) price ⌝ }
+{
+    let displayed = instructions::has(o.word, rules::DISPLAYED);
+    let back = instructions::has(o.word, rules::CANCEL_BACK);
+    let stamp = Stamp {
+        command: number,
+        place: 0,
+    };
+    Resting {
+        number: number,
+        price: price,
+        shares: left,
+        displayed: displayed,
+        back: back,
+        stamp: stamp,
+    }
+}
+
 // The executions of a walk, and then what becomes of the shares left of the order.
 fn finish(
     o: Order,
     number: Number,
     end: Ending,
     stop: Stop,
-    own: &mut [[u32; 4]; PLACES],
+    own: &mut [[u32; WORDS]; PLACES],
     n: usize,
-    opposite: &mut [[u32; 4]; PLACES],
+    opposite: &mut [[u32; WORDS]; PLACES],
     m: usize,
     out: &mut [u8],
 ) -> usize
@@ -142,14 +157,7 @@ fn finish(
         Ending::Filled => execute(opposite, m, stop, number, out),
         Ending::Cancels(reason) => execute_and_cancel(opposite, m, stop, number, reason, out),
         Ending::Rests(price) => {
-            let remainder = stop.left;
-            let displayed = instructions::has(o.word, rules::DISPLAYED);
-            let order = Resting {
-                number: number,
-                price: price,
-                shares: remainder,
-                displayed: displayed,
-            };
+            let order = remainder_of(number, o, stop.left, price);
             execute_and_rest(own, n, opposite, m, stop, o.side == 0, order, out)
         }
     }
@@ -160,9 +168,9 @@ pub fn match_order(
     o: Order,
     number: Number,
     away: Away,
-    own: &mut [[u32; 4]; PLACES],
+    own: &mut [[u32; WORDS]; PLACES],
     n: usize,
-    opposite: &mut [[u32; 4]; PLACES],
+    opposite: &mut [[u32; WORDS]; PLACES],
     m: usize,
     out: &mut [u8],
 ) -> Matched

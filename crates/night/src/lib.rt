@@ -3,6 +3,7 @@
 use libc::STDIN_FILENO;
 use libc::STDOUT_FILENO;
 use rows::PLACES;
+use rows::WORDS;
 use tables::Head;
 ghost use mathlib.Core.List.{[]};
 ghost use mathlib.Core.Path.{_≡_};
@@ -30,8 +31,8 @@ pub struct Piece {
 pub fn work_piece(
     h: Head,
     input: &[u8],
-    buys: &mut [[u32; 4]; PLACES],
-    sells: &mut [[u32; 4]; PLACES],
+    buys: &mut [[u32; WORDS]; PLACES],
+    sells: &mut [[u32; WORDS]; PLACES],
     out: &mut [u8],
 ) -> Piece
     requires { ⌜ Stands h (now buys) (now sells) ⌝ }
@@ -112,8 +113,8 @@ fn take_turn(
     h: Head,
     have: usize,
     input: &mut [u8],
-    buys: &mut [[u32; 4]; PLACES],
-    sells: &mut [[u32; 4]; PLACES],
+    buys: &mut [[u32; WORDS]; PLACES],
+    sells: &mut [[u32; WORDS]; PLACES],
     out: &mut [u8],
 ) -> Turn
     requires { ⌜ Stands h (now buys) (now sells) × (have ≤ partKept) × (partKept ≤ length (now input)) × (5 ≤ length (now out)) ⌝ }
@@ -151,8 +152,8 @@ fn take_turn(
 // are counted down from a number that no day uses up.
 pub fn run(
     input: &mut [u8],
-    buys: &mut [[u32; 4]; PLACES],
-    sells: &mut [[u32; 4]; PLACES],
+    buys: &mut [[u32; WORDS]; PLACES],
+    sells: &mut [[u32; WORDS]; PLACES],
     out: &mut [u8],
 )
     requires { ⌜ (now buys ≡ tableOf []) × (now sells ≡ tableOf []) × (partKept ≤ length (now input)) × (5 ≤ length (now out)) ⌝ }

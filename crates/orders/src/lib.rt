@@ -3,6 +3,7 @@
 use kinds::Number;
 use matching::Matched;
 use rows::PLACES;
+use rows::WORDS;
 use rules::Order;
 use tables::Head;
 use tables::Step;
@@ -58,8 +59,8 @@ pub fn enter(
     number: Number,
     time: u32,
     o: Order,
-    buys: &mut [[u32; 4]; PLACES],
-    sells: &mut [[u32; 4]; PLACES],
+    buys: &mut [[u32; WORDS]; PLACES],
+    sells: &mut [[u32; WORDS]; PLACES],
     out: &mut [u8],
 ) -> Step
     requires { ⌜ Stands h (now buys) (now sells) × (leastRoom ≤ length (now out)) ⌝ }

@@ -10,7 +10,7 @@ ghost use Rattle.kinds.specs.Kinds.{largest};
 ghost use Rattle.rules.specs.Working.{buying, lockingPrice, oneCentLessAggressive, adjusted, seeks};
 ghost use Rattle.pricing.specs.Bound.{farthest, boundOf};
 
-fn locking_price(buy: bool, away: Away) -> Cents
+pub fn locking_price(buy: bool, away: Away) -> Cents
     ensures { λ r. ⌜ r ≡ lockingPrice buy away ⌝ }
 {
     if buy { away.offer } else { away.bid }

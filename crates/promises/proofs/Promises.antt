@@ -9,13 +9,16 @@ use mathlib.Core.Path.{_≡_}
 use denote.Ref.{now}
 use lib.ListN.{length}
 use Rattle.basics.specs.Bytes.{onto}
-use Rattle.basics.specs.Lists.{distinct}
+use Rattle.basics.specs.Lists.{distinct, All}
 use Rattle.kinds.specs.declared.Number.{Number}
+use Rattle.rules.specs.declared.Away.{Away}
+use Rattle.rules.specs.declared.Body.the-variants as body
 use Rattle.rules.specs.declared.Command.{Command}
 use Rattle.rules.specs.declared.Event.{Event}
 use Rattle.rules.specs.declared.EventReading.the-variants as event
 use Rattle.rules.specs.declared.Order.{Order}
 use Rattle.rules.specs.declared.Reading.the-variants as reading
+use Rattle.rules.specs.declared.Resting.{Resting}
 use Rattle.rules.specs.Book.{Book, BookRecord, fresh, sound, recordOf}
 use Rattle.rules.specs.CommandLines.{commandIn, lineOf, Fits}
 use Rattle.rules.specs.Day.{printed, bookAfter, printedOf, output}
@@ -24,7 +27,7 @@ use Rattle.rules.specs.EventReading.{eventIn}
 use Rattle.rules.specs.Instructions.{has, postOnly}
 use Rattle.rules.specs.Refusals.{leastRoom}
 use Rattle.rules.specs.Step.{answerTo, step}
-use Rattle.rules.specs.Working.{does}
+use Rattle.rules.specs.Working.{wouldNowCross, does}
 use Rattle.rules.proofs.LawsEventReading.{eventIn-eventLine, eventIn-is}
 use Rattle.rules.proofs.LawsLines.{commandIn-lineOf, commandIn-is, lineOf-once}
 use Rattle.soundness.proofs.LawsKept.{fresh-sound, after-sound}
@@ -33,7 +36,7 @@ use Rattle.demands.specs.Run.{eventsOf, Enters}
 use Rattle.demands.specs.Told.{eventsIn, executedIn, cancelledIn, restingOf}
 use Rattle.demands.specs.Executes.{Executes}
 use Rattle.demands.proofs.LawsOnce.{lines-or-refusal, lines-once, lines-end, lines-tell, lines-act, lines-print, calls-once, calls-end, calls-tell, calls-act, repeat-refused}
-use Rattle.demands.proofs.LawsRun.{call-answers, accepted-does, run-executes, run-read, run-conserved}
+use Rattle.demands.proofs.LawsRun.{call-answers, accepted-does, quote-crossed-by-none, run-executes, run-read, run-conserved}
 use Rattle.book.specs.declared.Reply.{Reply}
 use Rattle.book.specs.Record.{recordIn, replyOf}
 use Rattle.book.proofs.Book.answer.Reads as answer
@@ -107,6 +110,14 @@ pub does-what-01-says : (b : Book) (line : List ℕ) (c : Command) → commandIn
     → (answerTo b line .book ≡ does (c .number) (c .time) (c .body) b .book)
     × (answerTo b line .events ≡ does (c .number) (c .time) (c .body) b .events)
 does-what-01-says = accepted-does
+
+-- "a non-displayed order that would now cross the away quote is set at the Locking Price" (02, W2), or cancelled: after an accepted
+-- quote none would cross it, on either side
+pub none-crosses-a-quote : (b : Book) (line : List ℕ) (n : Number) (time : ℕ) (away : Away)
+    → commandIn line ≡ reading.Is (record { number = n; time = time; body = body.Quote away }) → acts b line ≡ true
+    → All (λ (h : Resting). wouldNowCross true away h ≡ false) (answerTo b line .book .buys)
+    × All (λ (h : Resting). wouldNowCross false away h ≡ false) (answerTo b line .book .sells)
+none-crosses-a-quote = quote-crossed-by-none
 
 -- the book of a day is always sound
 pub sound-all-day : (lines : List (List ℕ)) → sound (bookAfter fresh lines) ≡ true

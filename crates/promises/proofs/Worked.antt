@@ -19,7 +19,7 @@ use Rattle.rules.specs.EventReading.{ofFields, ofKind, eventIn}
 use Rattle.rules.specs.Instructions.{lawful}
 use Rattle.rules.specs.Refusals.{firstOf, restsOnFullSide, headerRefusals, bodyRefusals, lineRefusals, refusals}
 use Rattle.rules.specs.Step.{doneBy, answer, answerTo}
-use Rattle.rules.specs.Working.{nothing, walk, walked, takings, remainder, executions, after, seeks, endingWith, ending, insert, accept, kept, cancels, cancel, quote, close, does}
+use Rattle.rules.specs.Working.{nothing, walk, walked, takings, remainder, executions, after, seeks, endingWith, ending, insert, accept, kept, cancels, cancel, setAnew, moveLines, insertAll, afterMoves, quote, close, does}
 use Rattle.demands.specs.Once.{actingNumbers, struckOut, byLine}
 use Rattle.demands.specs.Run.{Enters, now, later}
 use Rattle.demands.specs.ShareOut.{Given, given, Lawful, Fills}
@@ -31,17 +31,17 @@ use Rattle.promises.specs.Night.{night, nightStruckOut, nightEvents, kil
 
 -- nine of the twelve lines act, each number once; the line sent again, the empty one and the one that leaves out a number do not
 night-acts : actingNumbers byLine fresh night ≡ 1 ∷ 2 ∷ 3 ∷ 4 ∷ 5 ∷ 6 ∷ 7 ∷ 8 ∷ 9 ∷ []
-unfolding ones onesIn onto every any distinct total digits nibbleOf allDigits numberAfter numberIn ranksBefore inRankOrder apart sound written lineOf numbersFrom orderIn cancelIn quoteIn closeIn bodyIn commandIn lawful firstOf restsOnFullSide headerRefusals bodyRefusals lineRefusals refusals doneBy answer answerTo nothing walk walked takings remainder executions after seeks endingWith ending insert accept kept cancels cancel quote close does actingNumbers
+unfolding ones onesIn onto every any distinct total digits nibbleOf allDigits numberAfter numberIn ranksBefore inRankOrder apart sound written lineOf numbersFrom orderIn cancelIn quoteIn closeIn bodyIn commandIn lawful firstOf restsOnFullSide headerRefusals bodyRefusals lineRefusals refusals doneBy answer answerTo nothing walk walked takings remainder executions after seeks endingWith ending insert accept kept cancels cancel quote close does actingNumbers setAnew moveLines insertAll afterMoves
 night-acts = refl
 
 night-struck-out : struckOut byLine fresh night ≡ nightStruckOut
-unfolding ones onesIn onto every any distinct total digits nibbleOf allDigits numberAfter numberIn ranksBefore inRankOrder apart sound written lineOf numbersFrom orderIn cancelIn quoteIn closeIn bodyIn commandIn lawful firstOf restsOnFullSide headerRefusals bodyRefusals lineRefusals refusals doneBy answer answerTo nothing walk walked takings remainder executions after seeks endingWith ending insert accept kept cancels cancel quote close does struckOut
+unfolding ones onesIn onto every any distinct total digits nibbleOf allDigits numberAfter numberIn ranksBefore inRankOrder apart sound written lineOf numbersFrom orderIn cancelIn quoteIn closeIn bodyIn commandIn lawful firstOf restsOnFullSide headerRefusals bodyRefusals lineRefusals refusals doneBy answer answerTo nothing walk walked takings remainder executions after seeks endingWith ending insert accept kept cancels cancel quote close does struckOut setAnew moveLines insertAll afterMoves
 night-struck-out = refl
 
 -- ── What the night tells ──
 
 night-tells : eventsIn (printedOf fresh night) ≡ nightEvents
-unfolding ones onesIn onto every any distinct total digits nibbleOf allDigits numberAfter numberIn ranksBefore inRankOrder apart sound written lineOf numbersFrom orderIn cancelIn quoteIn closeIn bodyIn commandIn joined linesIn printed bookAfter printedOf eventLine eventLines refusalLine lawful firstOf restsOnFullSide headerRefusals bodyRefusals lineRefusals refusals doneBy answer answerTo nothing walk walked takings remainder executions after seeks endingWith ending insert accept kept cancels cancel quote close does ofFields ofKind eventIn eventsOn
+unfolding ones onesIn onto every any distinct total digits nibbleOf allDigits numberAfter numberIn ranksBefore inRankOrder apart sound written lineOf numbersFrom orderIn cancelIn quoteIn closeIn bodyIn commandIn joined linesIn printed bookAfter printedOf eventLine eventLines refusalLine lawful firstOf restsOnFullSide headerRefusals bodyRefusals lineRefusals refusals doneBy answer answerTo nothing walk walked takings remainder executions after seeks endingWith ending insert accept kept cancels cancel quote close does ofFields ofKind eventIn eventsOn setAnew moveLines insertAll afterMoves
 night-tells = refl
 
 -- ── Demand 3 ──
@@ -49,20 +49,20 @@ night-tells = refl
 -- three of the night's orders enter it: the Fill-or-Kill that the away price kills, the one that takes all it may, and the one whose
 -- remainder rests
 killed-enters : Enters fresh night (bookAfter fresh (take 5 night)) (lineOf theKilled) theKilled killed
-unfolding ones onesIn onto every any distinct total digits nibbleOf allDigits numberAfter numberIn ranksBefore inRankOrder apart sound written lineOf numbersFrom orderIn cancelIn quoteIn closeIn bodyIn commandIn lawful firstOf restsOnFullSide headerRefusals bodyRefusals lineRefusals refusals doneBy answer answerTo nothing walk walked takings remainder executions after seeks endingWith ending insert accept kept cancels cancel quote close does bookAfter
+unfolding ones onesIn onto every any distinct total digits nibbleOf allDigits numberAfter numberIn ranksBefore inRankOrder apart sound written lineOf numbersFrom orderIn cancelIn quoteIn closeIn bodyIn commandIn lawful firstOf restsOnFullSide headerRefusals bodyRefusals lineRefusals refusals doneBy answer answerTo nothing walk walked takings remainder executions after seeks endingWith ending insert accept kept cancels cancel quote close does bookAfter setAnew moveLines insertAll afterMoves
 killed-enters = later (later (later (later (later (now refl refl refl)))))
 
 greedy-enters : Enters fresh night (bookAfter fresh (take 6 night)) (lineOf theGreedy) theGreedy greedy
-unfolding ones onesIn onto every any distinct total digits nibbleOf allDigits numberAfter numberIn ranksBefore inRankOrder apart sound written lineOf numbersFrom orderIn cancelIn quoteIn closeIn bodyIn commandIn lawful firstOf restsOnFullSide headerRefusals bodyRefusals lineRefusals refusals doneBy answer answerTo nothing walk walked takings remainder executions after seeks endingWith ending insert accept kept cancels cancel quote close does bookAfter
+unfolding ones onesIn onto every any distinct total digits nibbleOf allDigits numberAfter numberIn ranksBefore inRankOrder apart sound written lineOf numbersFrom orderIn cancelIn quoteIn closeIn bodyIn commandIn lawful firstOf restsOnFullSide headerRefusals bodyRefusals lineRefusals refusals doneBy answer answerTo nothing walk walked takings remainder executions after seeks endingWith ending insert accept kept cancels cancel quote close does bookAfter setAnew moveLines insertAll afterMoves
 greedy-enters = later (later (later (later (later (later (now refl refl refl))))))
 
 resting-enters : Enters fresh night (bookAfter fresh (take 8 night)) (lineOf theResting) theResting resting
-unfolding ones onesIn onto every any distinct total digits nibbleOf allDigits numberAfter numberIn ranksBefore inRankOrder apart sound written lineOf numbersFrom orderIn cancelIn quoteIn closeIn bodyIn commandIn lawful firstOf restsOnFullSide headerRefusals bodyRefusals lineRefusals refusals doneBy answer answerTo nothing walk walked takings remainder executions after seeks endingWith ending insert accept kept cancels cancel quote close does bookAfter
+unfolding ones onesIn onto every any distinct total digits nibbleOf allDigits numberAfter numberIn ranksBefore inRankOrder apart sound written lineOf numbersFrom orderIn cancelIn quoteIn closeIn bodyIn commandIn lawful firstOf restsOnFullSide headerRefusals bodyRefusals lineRefusals refusals doneBy answer answerTo nothing walk walked takings remainder executions after seeks endingWith ending insert accept kept cancels cancel quote close does bookAfter setAnew moveLines insertAll afterMoves
 resting-enters = later (later (later (later (later (later (later (later (now refl refl refl))))))))
 
 -- 300 shares rest within the limit of the Fill-or-Kill, and yet no lawful share-out fills it, for 100 of them rest above the away offer
 kills : isKilled (number 5) (eventsIn (printed (answerTo (bookAfter fresh (take 5 night)) (lineOf theKilled)))) ≡ true
-unfolding ones onesIn onto every any distinct total digits nibbleOf allDigits numberAfter numberIn ranksBefore inRankOrder apart sound written lineOf numbersFrom orderIn cancelIn quoteIn closeIn bodyIn commandIn lawful firstOf restsOnFullSide headerRefusals bodyRefusals lineRefusals refusals doneBy answer answerTo nothing walk walked takings remainder executions after seeks endingWith ending insert accept kept cancels cancel quote close does bookAfter joined linesIn printed eventLine eventLines refusalLine ofFields ofKind eventIn eventsOn
+unfolding ones onesIn onto every any distinct total digits nibbleOf allDigits numberAfter numberIn ranksBefore inRankOrder apart sound written lineOf numbersFrom orderIn cancelIn quoteIn closeIn bodyIn commandIn lawful firstOf restsOnFullSide headerRefusals bodyRefusals lineRefusals refusals doneBy answer answerTo nothing walk walked takings remainder executions after seeks endingWith ending insert accept kept cancels cancel quote close does bookAfter joined linesIn printed eventLine eventLines refusalLine ofFields ofKind eventIn eventsOn setAnew moveLines insertAll afterMoves
 kills = refl
 
 pub away-price-kills : Fills killed (bookAfter fresh (take 5 night) .away) (bookAfter fresh (take 5 night) .sells) → ⊥
@@ -71,11 +71,11 @@ away-price-kills =
 
 -- the next order executes 200 shares, and no lawful share-out gives it more
 takes-200 : executedIn (number 6) (eventsIn (printed (answerTo (bookAfter fresh (take 6 night)) (lineOf theGreedy)))) ≡ 200
-unfolding ones onesIn onto every any distinct total digits nibbleOf allDigits numberAfter numberIn ranksBefore inRankOrder apart sound written lineOf numbersFrom orderIn cancelIn quoteIn closeIn bodyIn commandIn lawful firstOf restsOnFullSide headerRefusals bodyRefusals lineRefusals refusals doneBy answer answerTo nothing walk walked takings remainder executions after seeks endingWith ending insert accept kept cancels cancel quote close does bookAfter joined linesIn printed eventLine eventLines refusalLine ofFields ofKind eventIn eventsOn sumOf
+unfolding ones onesIn onto every any distinct total digits nibbleOf allDigits numberAfter numberIn ranksBefore inRankOrder apart sound written lineOf numbersFrom orderIn cancelIn quoteIn closeIn bodyIn commandIn lawful firstOf restsOnFullSide headerRefusals bodyRefusals lineRefusals refusals doneBy answer answerTo nothing walk walked takings remainder executions after seeks endingWith ending insert accept kept cancels cancel quote close does bookAfter joined linesIn printed eventLine eventLines refusalLine ofFields ofKind eventIn eventsOn sumOf setAnew moveLines insertAll afterMoves
 takes-200 = refl
 
 lives : isKilled (number 6) (eventsIn (printed (answerTo (bookAfter fresh (take 6 night)) (lineOf theGreedy)))) ≡ false
-unfolding ones onesIn onto every any distinct total digits nibbleOf allDigits numberAfter numberIn ranksBefore inRankOrder apart sound written lineOf numbersFrom orderIn cancelIn quoteIn closeIn bodyIn commandIn lawful firstOf restsOnFullSide headerRefusals bodyRefusals lineRefusals refusals doneBy answer answerTo nothing walk walked takings remainder executions after seeks endingWith ending insert accept kept cancels cancel quote close does bookAfter joined linesIn printed eventLine eventLines refusalLine ofFields ofKind eventIn eventsOn
+unfolding ones onesIn onto every any distinct total digits nibbleOf allDigits numberAfter numberIn ranksBefore inRankOrder apart sound written lineOf numbersFrom orderIn cancelIn quoteIn closeIn bodyIn commandIn lawful firstOf restsOnFullSide headerRefusals bodyRefusals lineRefusals refusals doneBy answer answerTo nothing walk walked takings remainder executions after seeks endingWith ending insert accept kept cancels cancel quote close does bookAfter joined linesIn printed eventLine eventLines refusalLine ofFields ofKind eventIn eventsOn setAnew moveLines insertAll afterMoves
 lives = refl
 
 pub nobody-gives-more : (gs : List Given) → Lawful greedy (bookAfter fresh (take 6 night) .away) (bookAfter fresh (take 6 night) .sells) gs

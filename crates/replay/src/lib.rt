@@ -3,6 +3,7 @@
 use kinds::Cents;
 use kinds::Number;
 use rows::PLACES;
+use rows::WORDS;
 use rules::Away;
 use rules::Reading;
 use tables::Head;
@@ -56,8 +57,8 @@ pub fn begin() -> Head
 fn print_line(
     h: Head,
     reading: Reading,
-    buys: &mut [[u32; 4]; PLACES],
-    sells: &mut [[u32; 4]; PLACES],
+    buys: &mut [[u32; WORDS]; PLACES],
+    sells: &mut [[u32; WORDS]; PLACES],
     out: &mut [u8],
 ) -> Printed
     requires { ⌜ Stands h (now buys) (now sells) × (leastRoom ≤ length (now out)) ⌝ }
@@ -94,8 +95,8 @@ fn print_line(
 pub fn feed(
     h: Head,
     input: &[u8],
-    buys: &mut [[u32; 4]; PLACES],
-    sells: &mut [[u32; 4]; PLACES],
+    buys: &mut [[u32; WORDS]; PLACES],
+    sells: &mut [[u32; WORDS]; PLACES],
     out: &mut [u8],
 ) -> Fed
     requires { ⌜ Stands h (now buys) (now sells) ⌝ }

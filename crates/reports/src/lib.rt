@@ -1,6 +1,7 @@
 // Event lines for orders of a side, one after the other into the rest of the output.
 use kinds::Number;
 use rows::PLACES;
+use rows::WORDS;
 ghost use mathlib.Core.List.{map};
 ghost use mathlib.Core.Path.{_≡_};
 ghost use Prim.Native.Nat.{_*_, _≤_};
@@ -12,7 +13,7 @@ ghost use Rattle.reports.specs.Reports.{takenWhole, cancelledFor};
 
 // Line 11 for each of the first `at` orders, which give all their shares; the length of the lines.
 pub fn report_whole(
-    t: &[[u32; 4]; PLACES],
+    t: &[[u32; WORDS]; PLACES],
     n: usize,
     at: usize,
     number: Number,
@@ -39,7 +40,7 @@ pub fn report_whole(
 }
 
 // Line 13 for each order of the side, in rank order; the length of the lines.
-pub fn report_cancelled(t: &[[u32; 4]; PLACES], n: usize, reason: u8, out: &mut [u8]) -> usize
+pub fn report_cancelled(t: &[[u32; WORDS]; PLACES], n: usize, reason: u8, out: &mut [u8]) -> usize
     requires { ⌜ Holds n (now t) × (21 * n ≤ length (now out)) ⌝ }
     ensures { λ r. ⌜ r ≡ 21 * n ⌝ }
     ensures { λ _. ⌜ now (out .exit) ≡ onto (eventLines (map (cancelledFor reason) (side n (now (t .entry))))) (now (out .entry)) ⌝ }

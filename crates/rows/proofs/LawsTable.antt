@@ -8,19 +8,18 @@ use lib.ListN.{length, getD, take, drop, replicate, length-append, length-take, 
 use lib.Seq.{take-at, getD-take}
 use native.Mathlib.Omega.{arith}
 use Rattle.basics.proofs.LawsLists.{ahead-none, ahead-cons}
-use Rattle.basics.specs.Choice.{if_then_else_}
 use Rattle.rules.specs.declared.Resting.{Resting}
 use Rattle.rules.specs.Book.{placesASide, unused}
-use Rattle.rows.specs.Table.{orderOf, rowOf, noRow, side, tableOf, Holds}
+use Rattle.rows.specs.Table.{flagOf, orderOf, rowOf, noRow, side, tableOf, Holds}
 
 -- ── An order and its row ──
 
-flag-back : (d : Bool) → not (eqb (if d then 1 else 0) 0) ≡ d
+flag-back : (d : Bool) → not (eqb (flagOf d) 0) ≡ d
 flag-back true = refl
 flag-back false = refl
 
 pub order-row : (o : Resting) → orderOf (rowOf o) ≡ o
-order-row o = rw (flag-back (o .displayed))
+order-row o = rw (flag-back (o .displayed), flag-back (o .back))
 
 pub orders-rows : (s : List Resting) → map orderOf (map rowOf s) ≡ s
 orders-rows [] = refl

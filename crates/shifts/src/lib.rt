@@ -2,6 +2,7 @@
 use kinds::Shares;
 use rows::PLACES;
 use rows::UNUSED;
+use rows::WORDS;
 use rules::Resting;
 ghost use mathlib.Core.Path.{_≡_};
 ghost use Prim.Native.Nat.{_≤_, _<_};
@@ -12,7 +13,7 @@ ghost use Rattle.rows.specs.Table.{noRow, side, tableOf, Holds};
 ghost use Rattle.rules.specs.Book.{placesASide, unused};
 ghost use Rattle.rules.specs.Working.{reducedBy};
 
-fn move_row(t: &mut [[u32; 4]; PLACES], to: usize, from: usize)
+fn move_row(t: &mut [[u32; WORDS]; PLACES], to: usize, from: usize)
     requires { ⌜ (to < placesASide) × (from < placesASide) ⌝ }
     ensures { λ _. ⌜ now (t .exit) ≡ set (now (t .entry)) to (getD (now (t .entry)) from []) ⌝ }
 {
@@ -21,7 +22,7 @@ fn move_row(t: &mut [[u32; 4]; PLACES], to: usize, from: usize)
 }
 
 // The side with one more order, at place `at`.
-pub fn insert(t: &mut [[u32; 4]; PLACES], n: usize, at: usize, o: Resting)
+pub fn insert(t: &mut [[u32; WORDS]; PLACES], n: usize, at: usize, o: Resting)
     requires { ⌜ Holds n (now t) × (at ≤ n) × (n < placesASide) ⌝ }
     ensures { λ _. ⌜ now (t .exit) ≡ tableOf (insertAt at o (side n (now (t .entry)))) ⌝ }
 {
@@ -35,7 +36,7 @@ pub fn insert(t: &mut [[u32; 4]; PLACES], n: usize, at: usize, o: Resting)
 }
 
 // The side without the order at place `at`.
-pub fn remove(t: &mut [[u32; 4]; PLACES], n: usize, at: usize)
+pub fn remove(t: &mut [[u32; WORDS]; PLACES], n: usize, at: usize)
     requires { ⌜ Holds n (now t) × (at < n) ⌝ }
     ensures { λ _. ⌜ now (t .exit) ≡ tableOf (removeAt at (side n (now (t .entry)))) ⌝ }
 {
@@ -49,7 +50,7 @@ pub fn remove(t: &mut [[u32; 4]; PLACES], n: usize, at: usize)
 }
 
 // The rows from `k` to `n` moved to the front.
-fn move_down(t: &mut [[u32; 4]; PLACES], n: usize, k: usize)
+fn move_down(t: &mut [[u32; WORDS]; PLACES], n: usize, k: usize)
     requires { ⌜ (k ≤ n) × (n ≤ placesASide) ⌝ }
     ensures { λ _. ⌜ now (t .exit) ≡ moved (now (t .entry)) k n ⌝ }
 {
@@ -60,7 +61,7 @@ fn move_down(t: &mut [[u32; 4]; PLACES], n: usize, k: usize)
 }
 
 // The rows from `m` to `n` made zero.
-fn zero_rows(t: &mut [[u32; 4]; PLACES], m: usize, n: usize)
+fn zero_rows(t: &mut [[u32; WORDS]; PLACES], m: usize, n: usize)
     requires { ⌜ (m ≤ n) × (n ≤ placesASide) ⌝ }
     ensures { λ _. ⌜ now (t .exit) ≡ zeroed noRow (now (t .entry)) m n ⌝ }
 {
@@ -71,7 +72,7 @@ fn zero_rows(t: &mut [[u32; 4]; PLACES], m: usize, n: usize)
 }
 
 // The side without its first `k` orders.
-pub fn drop_first(t: &mut [[u32; 4]; PLACES], n: usize, k: usize)
+pub fn drop_first(t: &mut [[u32; WORDS]; PLACES], n: usize, k: usize)
     requires { ⌜ Holds n (now t) × (k ≤ n) ⌝ }
     ensures { λ _. ⌜ now (t .exit) ≡ tableOf (drop k (side n (now (t .entry)))) ⌝ }
 {
@@ -84,7 +85,7 @@ pub fn drop_first(t: &mut [[u32; 4]; PLACES], n: usize, k: usize)
 }
 
 // The side with `part` shares fewer in the order at place `at`, which keeps some.
-pub fn reduce(t: &mut [[u32; 4]; PLACES], n: usize, at: usize, part: Shares)
+pub fn reduce(t: &mut [[u32; WORDS]; PLACES], n: usize, at: usize, part: Shares)
     requires { ⌜ Holds n (now t) × (at < n) × (part .0 ≤ getD (side n (now t)) at unused .shares .0) ⌝ }
     ensures { λ _. ⌜ now (t .exit) ≡ tableOf (set (side n (now (t .entry))) at (reducedBy (part .0) (getD (side n (now (t .entry))) at unused))) ⌝ }
 {

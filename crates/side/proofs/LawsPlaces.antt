@@ -1,7 +1,7 @@
 -- Laws of a loop that looks for an order of a side, and of rank by values. Assumes nothing.
 use Prim.Native.Nat.{ℕ, _+_, _≤_, _<_}
 use mathlib.Core.Bool.{Bool, true, false, not, _&&_, _||_, Bool·beq}
-use mathlib.Core.List.{List, []}
+use mathlib.Core.List.{List, [], _∷_}
 use mathlib.Core.Logic.{⊎-elim}
 use mathlib.Core.Path.{_≡_, refl, ap, _∙_}
 use lib.Dec.{eqb, ltb}
@@ -14,7 +14,8 @@ use Rattle.basics.proofs.LawsChoice.{holds-or-not, or-neither}
 use Rattle.rows.specs.Table.{orderOf}
 use Rattle.rows.proofs.LawsTable.{ahead, ahead-end, ahead-next}
 use Rattle.rules.specs.declared.Resting.{Resting}
-use Rattle.rules.specs.Book.{ranksBefore}
+use Rattle.rules.specs.declared.Stamp.{Stamp}
+use Rattle.rules.specs.Book.{earlier, ranksBefore}
 
 -- ── A loop that looks for the first order that passes a test ──
 
@@ -32,6 +33,16 @@ module _ (n : ℕ) (t : List (List ℕ)) (i : ℕ) (whole : n ≤ length t) (tes
       → i + firstWhere test (ahead n t i) ≡ i + 1 + firstWhere test (ahead n t (i + 1))
   unfolding firstWhere
   where-next l o e p = rw (ahead-next n t i whole l o e, p) (omega arith)
+
+-- the place is one of the side's, or the one behind its last
+pub firstWhere-within : (test : Resting → Bool) (s : List Resting) → firstWhere test s ≤ length s
+unfolding firstWhere
+firstWhere-within test [] = omega arith
+firstWhere-within test (h ∷ s) =
+    ⊎-elim
+    (λ (t : test h ≡ true). rw t (omega arith))
+    (λ (t : test h ≡ false). rw t (omega (arith, firstWhere-within test s)))
+    (holds-or-not (test h))
 
 -- a turn that passes four orders
 pub where-four : (n : ℕ) (t : List (List ℕ)) (i : ℕ) → n ≤ length t → i + 4 ≤ n → (test : Resting → Bool)
@@ -54,10 +65,24 @@ where-four n t i whole l test none =
 
 -- ── Rank by values ──
 
+pub earlier-by-values : (s t : Stamp)
+    → (ltb (s .command .0) (t .command .0) || eqb (s .command .0) (t .command .0) && ltb (s .place) (t .place)) ≡ earlier s t
+earlier-by-values s t =
+    ⊎-elim
+    (λ (e : eqb (s .command .0) (t .command .0) ≡ true).
+    let same : s .command .0 ≡ t .command .0 = eqb-true (s .command .0) (t .command .0) e in
+    rw (e, le-ltb (s .command .0) (t .command .0) (omega arith)))
+    (λ (e : eqb (s .command .0) (t .command .0) ≡ false). rw e (or-none (ltb (s .command .0) (t .command .0))))
+    (holds-or-not (eqb (s .command .0) (t .command .0)))
+  where
+    or-none : (b : Bool) → (b || false) ≡ b
+    or-none true = refl
+    or-none false = refl
+
 pub ranks-by-values : (buy : Bool) (x y : Resting)
     → (buy && ltb (y .price .0) (x .price .0) || not buy && ltb (x .price .0) (y .price .0)
     || eqb (x .price .0) (y .price .0)
-    && (x .displayed && not (y .displayed) || (x .displayed || not (y .displayed)) && ltb (x .number .0) (y .number .0)))
+    && (x .displayed && not (y .displayed) || (x .displayed || not (y .displayed)) && earlier (x .stamp) (y .stamp)))
     ≡ ranksBefore buy x y
 unfolding ranksBefore
 ranks-by-values buy x y =
@@ -65,7 +90,7 @@ ranks-by-values buy x y =
     (λ (t : eqb (x .price .0) (y .price .0) ≡ true).
     let e : x .price .0 ≡ y .price .0 = eqb-true (x .price .0) (y .price .0) t in
     rw (t, le-ltb (y .price .0) (x .price .0) (omega arith), le-ltb (x .price .0) (y .price .0) (omega arith))
-    (at-one-price buy (x .displayed) (y .displayed) (ltb (x .number .0) (y .number .0))))
+    (at-one-price buy (x .displayed) (y .displayed) (earlier (x .stamp) (y .stamp))))
     (λ (t : eqb (x .price .0) (y .price .0) ≡ false). rw t (apart-prices buy (ltb (y .price .0) (x .price .0)) (ltb (x .price .0) (y .price .0))))
     (holds-or-not (eqb (x .price .0) (y .price .0)))
   where

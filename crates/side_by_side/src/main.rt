@@ -7,16 +7,22 @@ use book::Side;
 use libc::STDOUT_FILENO;
 use rows::PLACES;
 use rules::Resting;
+use rules::Stamp;
 ghost use mathlib.Core.Path.{_≡_};
 ghost use lib.ListN.{length};
 
 // ── Two books compared ──
 
+fn same_stamp(a: Stamp, b: Stamp) -> bool {
+    (a.command.0 == b.command.0) & (a.place == b.place)
+}
+
 fn same_order(a: Resting, b: Resting) -> bool {
     let same_number = a.number.0 == b.number.0;
     let same_price = a.price.0 == b.price.0;
     let same_shares = a.shares.0 == b.shares.0;
-    same_number & same_price & same_shares & (a.displayed == b.displayed)
+    let same_choices = (a.displayed == b.displayed) & (a.back == b.back);
+    same_number & same_price & same_shares & same_choices & same_stamp(a.stamp, b.stamp)
 }
 
 // The unused places are compared too: the core leaves them zero.

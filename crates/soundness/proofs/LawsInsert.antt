@@ -1,16 +1,17 @@
 -- A new order that takes its place by rank keeps what a sound book says of the resting orders. Assumes nothing.
-use Prim.Native.Nat.{ℕ, suc}
+use Prim.Native.Nat.{ℕ, suc, _+_}
 use mathlib.Core.Bool.{Bool, true, false, not}
 use mathlib.Core.List.{List, [], _∷_, _++_}
-use mathlib.Core.Logic.{_≢_, ⊎-elim}
+use mathlib.Core.Logic.{⊎-elim}
 use mathlib.Core.Path.{_≡_, refl, sym, ap}
 use lib.Dec.{eqb}
 use lib.ListN.{length}
+use native.Mathlib.Omega.{arith}
 use borrow.Author.Tests.{ne-eqb, eqb-false, not-true}
-use Rattle.basics.specs.Lists.{any, distinct, All, also}
+use Rattle.basics.specs.Lists.{any, distinct, sumOf, All, also}
 use Rattle.basics.proofs.LawsChoice.{holds-or-not, and-left, and-right, or-neither}
 use Rattle.rules.specs.declared.Resting.{Resting}
-use Rattle.rules.specs.Book.{numbers, ranksBefore, inRankOrder}
+use Rattle.rules.specs.Book.{numbers, earlier, ranksBefore, inRankOrder}
 use Rattle.rules.specs.Working.{insert}
 use Rattle.soundness.proofs.LawsRank.{ranks-total, ranked-first, ranked-rest, ranked-more}
 
@@ -42,6 +43,11 @@ pub added-length : {x : Resting} {s r : List Resting} → Added x s r → length
 added-length here = refl
 added-length (later a) = ap suc (added-length a)
 
+pub added-sum : (count : Resting → ℕ) {x : Resting} {s r : List Resting} → Added x s r → sumOf count r ≡ count x + sumOf count s
+unfolding sumOf
+added-sum count here = refl
+added-sum count (later a) = omega (arith, added-sum count a)
+
 pub added-all : {P : Resting → Type 0} {x : Resting} → P x → {s r : List Resting} → Added x s r → All P s → All P r
 added-all p here a = also p a
 added-all p (later d) (also q a) = also q (added-all p d a)
@@ -69,7 +75,8 @@ added-distinct {x = x} (later {y = y} {s = s} a) n d =
     rw (not-among-added (y .number .0) (eqb-flip (x .number .0) (y .number .0) (both .0)) a others)
     (added-distinct a (both .1) (and-right (not (any (eqb (y .number .0)) theirs)) (distinct theirs) d))
 
-pub ranked-insert : (buy : Bool) (x : Resting) (s : List Resting) → All (λ (y : Resting). x .number .0 ≢ y .number .0) s → inRankOrder buy s ≡ true → inRankOrder buy (insert buy x s) ≡ true
+-- a new order is the one with the latest stamp of its side
+pub ranked-insert : (buy : Bool) (x : Resting) (s : List Resting) → All (λ (y : Resting). earlier (y .stamp) (x .stamp) ≡ true) s → inRankOrder buy s ≡ true → inRankOrder buy (insert buy x s) ≡ true
 unfolding insert inRankOrder
 ranked-insert buy x [] n o = refl
 ranked-insert buy x (y ∷ s) (also d n) o =

@@ -1,6 +1,6 @@
 -- Every answer to a line keeps a sound book sound, so a day that begins with a fresh book has no unsound one. Assumes nothing.
-use Prim.Native.Nat.{ℕ, zero, suc, _+_, _-_, _≤_}
-use mathlib.Core.Bool.{Bool, true, false, not, _&&_}
+use Prim.Native.Nat.{ℕ, zero, suc, _+_, _-_, _≤_, _<_}
+use mathlib.Core.Bool.{Bool, true, false, _&&_}
 use mathlib.Core.List.{List, [], _∷_, _++_}
 use mathlib.Core.Logic.{⊎-elim}
 use mathlib.Core.Path.{_≡_, refl}
@@ -21,16 +21,17 @@ use Rattle.rules.specs.declared.Order.{Order}
 use Rattle.rules.specs.declared.Reading.{Reading}
 use Rattle.rules.specs.declared.Reading.the-variants as reading
 use Rattle.rules.specs.declared.Resting.{Resting}
-use Rattle.rules.specs.Book.{Book, BookRecord, fresh, opening, closing, placesASide, inRankOrder, apart, awayInRange, sound, unused, isUnused, ordersIn, placesOf, bookIn, recordOf, placesSound, recordSound}
+use Rattle.rules.specs.Book.{Book, BookRecord, fresh, opening, closing, placesASide, stamp, inRankOrder, apart, awayInRange, sound, unused, isUnused, ordersIn, placesOf, bookIn, recordOf, placesSound, recordSound}
 use Rattle.rules.specs.CommandLines.{commandIn}
 use Rattle.rules.specs.Day.{bookAfter}
 use Rattle.rules.specs.Refusals.{leastRoom, firstOf, restsOnFullSide, bodyRefusals, lineRefusals, refusals}
 use Rattle.rules.specs.Step.{doneBy, answer, answerTo, step, stepOn}
-use Rattle.rules.specs.Working.{buying, oppositeSide, ending, isNumber, accept, cancel, quote, close, does}
+use Rattle.rules.specs.Working.{buying, oppositeSide, ending, isNumber, accept, cancel, setAnew, firstMove, quote, close, does}
 use Rattle.rules.proofs.LawsRefusals.{fit-facts}
 use Rattle.soundness.proofs.LawsAccepted.{accepted, AcceptedOrder, accepted-order, accepted-quote}
+use Rattle.soundness.proofs.LawsMoves.{sides-moved}
 use Rattle.soundness.proofs.LawsOrder.{accept-sides}
-use Rattle.soundness.proofs.LawsSides.{sides-of, sides-sound, all-holding, sides-thinned, sides-later}
+use Rattle.soundness.proofs.LawsSides.{sides-flip, sides-of, sides-sound, all-holding, later-stamp, sides-thinned, sides-later}
 use Rattle.soundness.proofs.LawsSound.{Sound, sound-is, is-sound}
 use Rattle.soundness.proofs.LawsThinned.{thinned-kept}
 
@@ -55,9 +56,14 @@ module _ (b : Book) (s : Sound b) (n : Number) (time : ℕ) (next : n .0 ≡ b .
   quote-sound : (away : Away) → (awayInRange (away .bid) && awayInRange (away .offer)) ≡ true → Sound (quote n time away b .book)
   unfolding quote
   quote-sound away a =
-      rw isOpen
-      (sides-sound n time away opened inTime (and-left (awayInRange (away .bid)) (awayInRange (away .offer)) a) (and-right (awayInRange (away .bid)) (awayInRange (away .offer)) a)
-      true (sides-later (sides-of true b s) (omega (arith, next))))
+      let bid = and-left (awayInRange (away .bid)) (awayInRange (away .offer)) a in
+      let offer = and-right (awayInRange (away .bid)) (awayInRange (away .offer)) a in
+      let sides = sides-of true b s in
+      let above : b .last .0 < n .0 = omega (arith, next) in
+      let after = firstMove + length (setAnew n firstMove true away (b .buys)) in
+      let buys = sides-moved n firstMove away offer (later-stamp (stamp n firstMove) above (sides .ownInRange)) (sides-later sides (omega (arith, above))) in
+      let both = sides-moved n after away bid (later-stamp (stamp n after) above (sides .oppositeInRange)) (sides-flip true buys) in
+      rw isOpen (sides-sound n time away opened inTime bid offer false both)
 
   close-sound : Sound (close n time b .book)
   unfolding close every distinct inRankOrder apart

@@ -11,7 +11,7 @@ use borrow.Author.Tests.{leb-false}
 use Rattle.basics.proofs.LawsChoice.{and-left, and-right}
 use Rattle.kinds.specs.declared.Cents.{Cents}
 use Rattle.kinds.specs.declared.Number.{Number}
-use Rattle.kinds.specs.Kinds.{shares, priceInRange, sharesInRange}
+use Rattle.kinds.specs.Kinds.{priceInRange, sharesInRange}
 use Rattle.kinds.proofs.LawsRanges.{shares-most}
 use Rattle.rules.specs.declared.Away.{Away}
 use Rattle.rules.specs.declared.Ending.{Ending}
@@ -21,7 +21,7 @@ use Rattle.rules.specs.declared.Resting.{Resting}
 use Rattle.rules.specs.Book.{placesASide}
 use Rattle.rules.specs.Instructions.{ioc, fok, day, displayed, nonDisplayed, priceAdjust, cancelBack, postOnly, iso, market, has, oneOf, needs, lawful}
 use Rattle.rules.specs.Refusals.{isRest, orderPriceInRange, orderInRange}
-use Rattle.rules.specs.Working.{buying, takings, remainder, after, seeks, unlessPostOnlyMeets, ending, withRemainder}
+use Rattle.rules.specs.Working.{buying, takings, remainder, after, seeks, unlessPostOnlyMeets, ending, remainderOf, withRemainder}
 use Rattle.soundness.proofs.LawsEndings.{sought-is}
 use Rattle.soundness.proofs.LawsRests.{RestsBy, rests-by, rests-apart}
 use Rattle.soundness.proofs.LawsSides.{InRange, Sides, all-holding, sides-thinned, sides-later, sides-added}
@@ -63,7 +63,7 @@ module _ (n : Number) (o : Order) (away : Away) {last : Number} {own opposite : 
   taken = sides-thinned sides (thinned-same (all-holding last (sides .ownInRange))) (thinned-after (takings o away opposite) (all-holding last (sides .oppositeInRange)))
 
   remainder-in-range : (price : Cents) → RestsBy o away opposite price → has (o .word) market ≡ false
-      → InRange n (record { number = n; price = price; shares = shares (remainder o away opposite); displayed = has (o .word) displayed })
+      → InRange n (remainderOf n o (remainder o away opposite) price)
   unfolding remainder restsInRange
   remainder-in-range price by limited =
       let fields = and-left (leb (o .side) 1 && sharesInRange (o .shares)) (orderPriceInRange o) inRange in
@@ -79,6 +79,8 @@ module _ (n : Number) (o : Order) (away : Away) {last : Number} {own opposite : 
         priced = sym (ap restsInRange (by .seeking)) ∙ found;
         holding = omega (arith, by .left);
         atMost = omega (arith, most);
+        stampedFrom = omega arith;
+        stampedUpTo = omega arith;
       }
 
   pub accept-sides : (e : Ending) → ending o away opposite ≡ e → Sides (buying o) n (withRemainder n o (remainder o away opposite) e own) (after opposite (takings o away opposite))
@@ -88,6 +90,6 @@ module _ (n : Number) (o : Order) (away : Away) {last : Number} {own opposite : 
       let by = rests-by o away opposite price q in
       let limited = neither-market (has (o .word) market) (has (o .word) ioc) (has (o .word) fok) (market-needs (o .word) isLawful) (by .no-cancel) (by .no-kill) in
       let places : leb placesASide (length own) ≡ false = rw q at room in
-      sides-added taken (record { number = n; price = price; shares = shares (remainder o away opposite); displayed = has (o .word) displayed })
+      sides-added taken (remainderOf n o (remainder o away opposite) price)
       (omega (arith, next)) (remainder-in-range price by limited) (leb-false placesASide (length own) places)
       (rests-apart o away price limited (all-holding last (sides .oppositeInRange)) (sides .oppositeRanked) by)

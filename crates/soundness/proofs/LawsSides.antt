@@ -17,10 +17,12 @@ use Rattle.kinds.specs.Kinds.{mostShares, priceInRange, sharesInRange}
 use Rattle.kinds.proofs.LawsRanges.{shares-fewest, shares-most, shares-ranged}
 use Rattle.rules.specs.declared.Away.{Away}
 use Rattle.rules.specs.declared.Resting.{Resting}
-use Rattle.rules.specs.Book.{numbers, Book, placesASide, opening, closing, inRankOrder, restingInRange, awayInRange}
+use Rattle.rules.specs.declared.Stamp.{Stamp}
+use Rattle.rules.specs.Book.{numbers, Book, placesASide, opening, closing, earlier, inRankOrder, stampInRange, restingInRange, awayInRange}
 use Rattle.rules.specs.Working.{ownSide, oppositeSide, insert}
 use Rattle.soundness.proofs.LawsApart.{Beyond, Apart, apart-all, apart-best, apart-flip, apart-thinned}
 use Rattle.soundness.proofs.LawsInsert.{Added, added-insert, added-before, added-behind, added-length, added-all, added-distinct, ranked-insert}
+use Rattle.soundness.proofs.LawsRank.{earlier-command}
 use Rattle.soundness.proofs.LawsSound.{Sound}
 use Rattle.soundness.proofs.LawsThinned.{Thinned, withShares, thinned-both, thinned-length, thinned-all, thinned-ranked, thinned-distinct}
 
@@ -33,12 +35,16 @@ pub record InRange (last : Number) (h : Resting) : Type 0 where
   pub priced : priceInRange (h .price) ≡ true
   pub holding : 1 ≤ h .shares .0
   pub atMost : h .shares .0 ≤ mostShares
+  pub stampedFrom : h .number .0 ≤ h .stamp .command .0
+  pub stampedUpTo : h .stamp .command .0 ≤ last .0
 
 range-is : (last : Number) (h : Resting) → restingInRange last h ≡ true → InRange last h
 range-is last h e =
     let numbered = leb 1 (h .number .0) && leb (h .number .0) (last .0) in
-    let f = and-left (numbered && priceInRange (h .price)) (sharesInRange (h .shares)) e in
-    let s = and-right (numbered && priceInRange (h .price)) (sharesInRange (h .shares)) e in
+    let g = and-left (numbered && priceInRange (h .price) && sharesInRange (h .shares)) (stampInRange last h) e in
+    let t = and-right (numbered && priceInRange (h .price) && sharesInRange (h .shares)) (stampInRange last h) e in
+    let f = and-left (numbered && priceInRange (h .price)) (sharesInRange (h .shares)) g in
+    let s = and-right (numbered && priceInRange (h .price)) (sharesInRange (h .shares)) g in
     let n = and-left numbered (priceInRange (h .price)) f in
     record {
       fromOne = leb-true 1 (h .number .0) (and-left (leb 1 (h .number .0)) (leb (h .number .0) (last .0)) n);
@@ -46,12 +52,20 @@ range-is last h e =
       priced = and-right numbered (priceInRange (h .price)) f;
       holding = shares-fewest (h .shares) s;
       atMost = shares-most (h .shares) s;
+      stampedFrom = leb-true (h .number .0) (h .stamp .command .0) (and-left (leb (h .number .0) (h .stamp .command .0)) (leb (h .stamp .command .0) (last .0)) t);
+      stampedUpTo = leb-true (h .stamp .command .0) (last .0) (and-right (leb (h .number .0) (h .stamp .command .0)) (leb (h .stamp .command .0) (last .0)) t);
     }
 
 is-range : (last : Number) (h : Resting) → InRange last h → restingInRange last h ≡ true
 is-range last h r =
-    rw (le-leb 1 (h .number .0) (r .fromOne), le-leb (h .number .0) (last .0) (r .upToLast), r .priced)
-    (shares-ranged (h .shares) (r .holding) (r .atMost))
+    rw (
+      le-leb 1 (h .number .0) (r .fromOne),
+      le-leb (h .number .0) (last .0) (r .upToLast),
+      r .priced,
+      shares-ranged (h .shares) (r .holding) (r .atMost),
+      le-leb (h .number .0) (h .stamp .command .0) (r .stampedFrom),
+      le-leb (h .stamp .command .0) (last .0) (r .stampedUpTo),
+    )
 
 ranges-first : (last : Number) (s u : List Resting) → every (restingInRange last) (s ++ u) ≡ true → All (InRange last) s
 unfolding every
@@ -87,8 +101,31 @@ pub record Sides (buy : Bool) (last : Number) (own opposite : List Resting) : Ty
   pub once : distinct (numbers (bothSides buy own opposite)) ≡ true
   pub isApart : Apart buy own opposite
 
-pub sides-of : (buy : Bool) (b : Book) → Sound b → Sides buy (b .last) (ownSide buy b) (oppositeSide buy b)
-sides-of true b s = record {
+-- the same from the other side
+pub sides-flip : (buy : Bool) {last : Number} {own opposite : List Resting} → Sides buy last own opposite → Sides (not buy) last opposite own
+sides-flip true {own = own} {opposite = opposite} s = record {
+  ownFits = s .oppositeFits;
+  oppositeFits = s .ownFits;
+  ownRanked = s .oppositeRanked;
+  oppositeRanked = s .ownRanked;
+  ownInRange = s .oppositeInRange;
+  oppositeInRange = s .ownInRange;
+  once = s .once;
+  isApart = apart-flip true own opposite (s .isApart);
+}
+sides-flip false {own = own} {opposite = opposite} s = record {
+  ownFits = s .oppositeFits;
+  oppositeFits = s .ownFits;
+  ownRanked = s .oppositeRanked;
+  oppositeRanked = s .ownRanked;
+  ownInRange = s .oppositeInRange;
+  oppositeInRange = s .ownInRange;
+  once = s .once;
+  isApart = apart-flip false own opposite (s .isApart);
+}
+
+sides-of-buys : (b : Book) → Sound b → Sides true (b .last) (b .buys) (b .sells)
+sides-of-buys b s = record {
   ownFits = s .buysFit;
   oppositeFits = s .sellsFit;
   ownRanked = s .buysRanked;
@@ -98,50 +135,34 @@ sides-of true b s = record {
   once = s .once;
   isApart = apart-all (b .buys) (b .sells) (s .buysRanked) (s .sellsRanked) (s .isApart);
 }
-sides-of false b s = record {
-  ownFits = s .sellsFit;
-  oppositeFits = s .buysFit;
-  ownRanked = s .sellsRanked;
-  oppositeRanked = s .buysRanked;
-  ownInRange = ranges-second (b .last) (b .buys) (b .sells) (s .inRange);
-  oppositeInRange = ranges-first (b .last) (b .buys) (b .sells) (s .inRange);
-  once = s .once;
-  isApart = apart-flip true (b .buys) (b .sells) (apart-all (b .buys) (b .sells) (s .buysRanked) (s .sellsRanked) (s .isApart));
-}
+
+pub sides-of : (buy : Bool) (b : Book) → Sound b → Sides buy (b .last) (ownSide buy b) (oppositeSide buy b)
+sides-of true b s = sides-of-buys b s
+sides-of false b s = sides-flip true (sides-of-buys b s)
 
 -- an open book of such sides, in the session, is sound
-module _ (n : Number) (time : ℕ) (away : Away) {own opposite : List Resting} (opened : leb opening time ≡ true) (inTime : leb time closing ≡ true)
+module _ (n : Number) (time : ℕ) (away : Away) (opened : leb opening time ≡ true) (inTime : leb time closing ≡ true)
     (bid : awayInRange (away .bid) ≡ true) (offer : awayInRange (away .offer) ≡ true) where
-  pub sides-sound : (buy : Bool) → Sides buy n own opposite
-      → Sound (record { last = n; time = time; away = away; closed = false; buys = if buy then own else opposite; sells = if buy then opposite else own })
-  sides-sound true s = record {
+  buys-sound : {buys sells : List Resting} → Sides true n buys sells → Sound (record { last = n; time = time; away = away; closed = false; buys = buys; sells = sells })
+  buys-sound {buys = buys} {sells = sells} s = record {
     buysFit = s .ownFits;
     sellsFit = s .oppositeFits;
     buysRanked = s .ownRanked;
     sellsRanked = s .oppositeRanked;
     inRange = ranges-every n (all-both (s .ownInRange) (s .oppositeInRange));
     once = s .once;
-    isApart = apart-best own opposite (s .isApart);
+    isApart = apart-best buys sells (s .isApart);
     opened = opened;
     inTime = inTime;
     bid = bid;
     offer = offer;
     closedEmpty = refl;
   }
-  sides-sound false s = record {
-    buysFit = s .oppositeFits;
-    sellsFit = s .ownFits;
-    buysRanked = s .oppositeRanked;
-    sellsRanked = s .ownRanked;
-    inRange = ranges-every n (all-both (s .oppositeInRange) (s .ownInRange));
-    once = s .once;
-    isApart = apart-best opposite own (apart-flip false own opposite (s .isApart));
-    opened = opened;
-    inTime = inTime;
-    bid = bid;
-    offer = offer;
-    closedEmpty = refl;
-  }
+
+  pub sides-sound : (buy : Bool) {own opposite : List Resting} → Sides buy n own opposite
+      → Sound (record { last = n; time = time; away = away; closed = false; buys = if buy then own else opposite; sells = if buy then opposite else own })
+  sides-sound true s = buys-sound s
+  sides-sound false s = buys-sound (sides-flip false s)
 
 -- ── What keeps them ──
 
@@ -150,7 +171,15 @@ all-holding last a = all-alike (λ h r. r .holding) a
 
 -- lower shares stay in range
 fewer : {last : Number} (h : Resting) (left : ℕ) → 1 ≤ left → left ≤ h .shares .0 → InRange last h → InRange last (withShares left h)
-fewer h left l m r = record { fromOne = r .fromOne; upToLast = r .upToLast; priced = r .priced; holding = l; atMost = omega (arith, r .atMost) }
+fewer h left l m r = record {
+  fromOne = r .fromOne;
+  upToLast = r .upToLast;
+  priced = r .priced;
+  holding = l;
+  atMost = omega (arith, r .atMost);
+  stampedFrom = r .stampedFrom;
+  stampedUpTo = r .stampedUpTo;
+}
 
 thinned-sides : (buy : Bool) {own own′ opposite opposite′ : List Resting} → Thinned own own′ → Thinned opposite opposite′ → Thinned (bothSides buy own opposite) (bothSides buy own′ opposite′)
 thinned-sides true s t = thinned-both s t
@@ -171,7 +200,19 @@ new-number n l none = refl
 new-number n l (also {x = h} r a) = rw (ne-eqb n (h .number .0) (λ (e : n ≡ h .number .0). omega (arith, r .upToLast))) (new-number n l a)
 
 later-range : {last next : Number} → last .0 ≤ next .0 → (h : Resting) → InRange last h → InRange next h
-later-range l h r = record { fromOne = r .fromOne; upToLast = omega (arith, r .upToLast); priced = r .priced; holding = r .holding; atMost = r .atMost }
+later-range l h r = record {
+  fromOne = r .fromOne;
+  upToLast = omega (arith, r .upToLast);
+  priced = r .priced;
+  holding = r .holding;
+  atMost = r .atMost;
+  stampedFrom = r .stampedFrom;
+  stampedUpTo = omega (arith, r .stampedUpTo);
+}
+
+-- a stamp of a command above the last is later than all
+pub later-stamp : {last : Number} {s : List Resting} (t : Stamp) → last .0 < t .command .0 → All (InRange last) s → All (λ (h : Resting). earlier (h .stamp) t ≡ true) s
+later-stamp t l a = all-alike (λ h r. earlier-command (h .stamp) t (omega (arith, r .stampedUpTo))) a
 
 module _ {buy : Bool} {last : Number} {own opposite : List Resting} (sides : Sides buy last own opposite) where
   pub sides-thinned : {own′ opposite′ : List Resting} → Thinned own own′ → Thinned opposite opposite′ → Sides buy last own′ opposite′
@@ -207,7 +248,7 @@ module _ {buy : Bool} {last : Number} {own opposite : List Resting} (sides : Sid
       record {
         ownFits = omega (arith, added-length added);
         oppositeFits = sides .oppositeFits;
-        ownRanked = ranked-insert buy x own (all-alike (λ h r. λ (e : x .number .0 ≡ h .number .0). omega (arith, r .upToLast)) (sides .ownInRange)) (sides .ownRanked);
+        ownRanked = ranked-insert buy x own (later-stamp (x .stamp) (omega (arith, range .stampedFrom)) (sides .ownInRange)) (sides .ownRanked);
         oppositeRanked = sides .oppositeRanked;
         ownInRange = added-all range added (all-alike (later-range l) (sides .ownInRange));
         oppositeInRange = all-alike (later-range l) (sides .oppositeInRange);

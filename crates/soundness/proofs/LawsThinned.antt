@@ -10,7 +10,7 @@ use lib.ListN.{length}
 use native.Mathlib.Omega.{arith}
 use borrow.Author.Tests.{eqb-false, not-true}
 use Rattle.basics.proofs.LawsLists.{all-alike}
-use Rattle.basics.specs.Lists.{every, any, distinct, All, none, also}
+use Rattle.basics.specs.Lists.{any, distinct, All, none, also}
 use Rattle.basics.proofs.LawsChoice.{holds-or-not, and-left, and-right, or-neither}
 use Rattle.kinds.specs.Kinds.{shares}
 use Rattle.rules.specs.declared.Resting.{Resting}
@@ -20,7 +20,14 @@ use Rattle.soundness.proofs.LawsRank.{ranked-first, ranked-rest, ranked
 
 -- the same order with other shares
 abbrev pub withShares : ℕ → Resting → Resting
-withShares left h = record { number = h .number; price = h .price; shares = shares left; displayed = h .displayed }
+withShares left h = record {
+  number = h .number;
+  price = h .price;
+  shares = shares left;
+  displayed = h .displayed;
+  back = h .back;
+  stamp = h .stamp;
+}
 
 -- orders of which some are taken away and others keep some of their shares
 pub data Thinned : List Resting → List Resting → Type 0 where

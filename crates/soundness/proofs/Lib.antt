@@ -8,6 +8,8 @@ pub mod LawsRests
 pub mod LawsSound
 pub mod LawsAccepted
 pub mod LawsSides
+pub mod LawsNumbers
+pub mod LawsMoves
 pub mod LawsEndings
 pub mod LawsOrder
 pub mod LawsKept

@@ -2,6 +2,7 @@
 // are loaded into a table once, and saved once.
 use kinds::Number;
 use rows::PLACES;
+use rows::WORDS;
 use rules::Away;
 use rules::Resting;
 ghost use mathlib.Core.List.{map};
@@ -38,7 +39,7 @@ pub fn refuse(h: Head, refusal: u8) -> Step
 }
 
 // The places of a side as rows.
-pub fn load(t: &mut [[u32; 4]; PLACES], places: [Resting; PLACES])
+pub fn load(t: &mut [[u32; WORDS]; PLACES], places: [Resting; PLACES])
     ensures { λ _. ⌜ now (t .exit) ≡ map rowOf places ⌝ }
 {
     rows::whole(t);
@@ -49,7 +50,7 @@ pub fn load(t: &mut [[u32; 4]; PLACES], places: [Resting; PLACES])
 }
 
 // The rows as places of a side.
-pub fn save(t: &[[u32; 4]; PLACES]) -> [Resting; PLACES]
+pub fn save(t: &[[u32; WORDS]; PLACES]) -> [Resting; PLACES]
     ensures { λ r. ⌜ r ≡ map orderOf (now (t .entry)) ⌝ }
 {
     rows::whole(t);

@@ -17,7 +17,6 @@ use Rattle.rules.specs.declared.Body.{Body}
 use Rattle.rules.specs.declared.Body.the-variants as body
 use Rattle.rules.specs.declared.Command.{Command}
 use Rattle.rules.specs.declared.Event.{Event}
-use Rattle.rules.specs.declared.Event.the-variants.{Executed, Rested, Cancelled}
 use Rattle.rules.specs.declared.Order.{Order}
 use Rattle.rules.specs.Book.{Book, fresh, sound}
 use Rattle.rules.specs.CommandLines.{Fitting, empty, fits, orderForm, formOf, numbersOf}
@@ -37,7 +36,7 @@ use Rattle.demands.proofs.LawsSums.{conserved}
 use Rattle.demands.proofs.LawsTold.{acting-fits, last-fits}
 use Rattle.tally.specs.declared.Stop.the-variants as stop
 use Rattle.tally.specs.declared.Tally.{Tally}
-use Rattle.tally.specs.Tally.{begun, executedShares, cancelledShares, passedOver, added, goingOn, turn, tallyOf}
+use Rattle.tally.specs.Tally.{begun, executedShares, passedOver, added, goingOn, turn, tallyOf}
 use Rattle.tally.proofs.LawsParties.{same-sums, line-two}
 
 -- a tally that is going on, with these sums
@@ -57,7 +56,7 @@ unfolding refusalLine
 refusal-first code rest = line-first refusalForm (refusalKind ∷ code ∷ []) rest
 
 module _ (n : Number) where
-  event-turn : (t : Tally) (e : Event) → t .stop ≡ stop.Going → FitsEvent e → turn n t (eventLine e) ≡ added (executedShares n e) (cancelledShares n e) t
+  event-turn : (t : Tally) (e : Event) → t .stop ≡ stop.Going → FitsEvent e → turn n t (eventLine e) ≡ added (executedShares n e) (cancelledBy n e) t
   unfolding turn goingOn
   event-turn t e g f = rw (g, event-kind e f, eventIn-eventLine e f) refl
 
@@ -91,24 +90,24 @@ module _ (n : Number) where
 
   -- the line of an event is the first of what it begins, and is counted
   line-leads : (t : Tally) (e : Event) (rest : List ℕ) → t .stop ≡ stop.Going → FitsEvent e
-      → afterLines (turn n) t (linesIn (eventLine e ++ rest)) ≡ afterLines (turn n) (added (executedShares n e) (cancelledShares n e) t) (linesIn rest)
+      → afterLines (turn n) t (linesIn (eventLine e ++ rest)) ≡ afterLines (turn n) (added (executedShares n e) (cancelledBy n e) t) (linesIn rest)
   unfolding afterLines
   line-leads t e rest g f =
       ap (afterLines (turn n) t) (event-first e rest) ∙ ap (λ (u : Tally). afterLines (turn n) u (linesIn rest)) (event-turn t e g f)
 
   events-then : {es : List Event} (rest : List ℕ) (t : Tally) (x y : ℕ) → All FitsEvent es → Has t x y
-      → x + sumOf (executedShares n) es ≤ largest → y + sumOf (cancelledShares n) es ≤ largest
-      → Then t (eventLines es ++ rest) rest (x + sumOf (executedShares n) es) (y + sumOf (cancelledShares n) es)
+      → x + sumOf (executedShares n) es ≤ largest → y + sumOf (cancelledBy n) es ≤ largest
+      → Then t (eventLines es ++ rest) rest (x + sumOf (executedShares n) es) (y + sumOf (cancelledBy n) es)
   unfolding eventLines sumOf
   events-then rest t x y none h l m = record { tally = t; has = has-same (x + 0) (y + 0) (omega arith) (omega arith) h; leads = refl }
   events-then rest t x y (also {x = e} {s = es} f a) h l m =
       let p = executedShares n e in
-      let q = cancelledShares n e in
+      let q = cancelledBy n e in
       let next = added-has t x y p q h (omega (arith, l)) (omega (arith, m)) in
       let ih = events-then rest (added p q t) (x + p) (y + q) a next (omega (arith, l)) (omega (arith, m)) in
       record {
         tally = ih .tally;
-        has = has-same (x + (p + sumOf (executedShares n) es)) (y + (q + sumOf (cancelledShares n) es)) (omega arith) (omega arith) (ih .has);
+        has = has-same (x + (p + sumOf (executedShares n) es)) (y + (q + sumOf (cancelledBy n) es)) (omega arith) (omega arith) (ih .has);
         leads =
             ap (λ (s : List ℕ). afterLines (turn n) t (linesIn s)) (append-assoc (eventLine e) (eventLines es) rest)
             ∙ line-leads t e (eventLines es ++ rest) (h .going) f
@@ -118,13 +117,13 @@ module _ (n : Number) where
   -- what is printed of a line that acts
   module _ (b : Book) (l : List ℕ) (s : sound b ≡ true) (small : b .last .0 < 2 ^ 32) where
     acts-then : (rest : List ℕ) (t : Tally) (x y : ℕ) → acts b l ≡ true → Has t x y
-        → x + sumOf (executedBy n) (answerTo b l .events) ≤ largest → y + sumOf (cancelledShares n) (answerTo b l .events) ≤ largest
-        → Then t (printed (answerTo b l) ++ rest) rest (x + sumOf (executedBy n) (answerTo b l .events)) (y + sumOf (cancelledShares n) (answerTo b l .events))
+        → x + sumOf (executedBy n) (answerTo b l .events) ≤ largest → y + sumOf (cancelledBy n) (answerTo b l .events) ≤ largest
+        → Then t (printed (answerTo b l) ++ rest) rest (x + sumOf (executedBy n) (answerTo b l .events)) (y + sumOf (cancelledBy n) (answerTo b l .events))
     unfolding printed
     acts-then rest t x y a h p q =
         let same = same-sums n (line-two b l s a) in
         let u = events-then rest t x y (acting-fits b l s small a) h (omega (arith, same, p)) q in
-        rw a (record { tally = u .tally; has = has-same (x + sumOf (executedBy n) (answerTo b l .events)) (y + sumOf (cancelledShares n) (answerTo b l .events)) (omega (arith, same)) refl (u .has); leads = u .leads })
+        rw a (record { tally = u .tally; has = has-same (x + sumOf (executedBy n) (answerTo b l .events)) (y + sumOf (cancelledBy n) (answerTo b l .events)) (omega (arith, same)) refl (u .has); leads = u .leads })
 
     -- and of one that is refused
     refused-then : (rest : List ℕ) (t : Tally) (x y : ℕ) → acts b l ≡ false → Has t x y → Then t (printed (answerTo b l) ++ rest) rest x y
@@ -140,8 +139,8 @@ module _ (n : Number) where
   -- ── A run of lines ──
 
   run-has : (b : Book) (ls : List (List ℕ)) → sound b ≡ true → b .last .0 < 2 ^ 32 → (t : Tally) (x y : ℕ) → Has t x y
-      → x + sumOf (executedBy n) (eventsOf b ls) ≤ largest → y + sumOf (cancelledShares n) (eventsOf b ls) ≤ largest
-      → Has (afterLines (turn n) t (linesIn (printedOf b ls))) (x + sumOf (executedBy n) (eventsOf b ls)) (y + sumOf (cancelledShares n) (eventsOf b ls))
+      → x + sumOf (executedBy n) (eventsOf b ls) ≤ largest → y + sumOf (cancelledBy n) (eventsOf b ls) ≤ largest
+      → Has (afterLines (turn n) t (linesIn (printedOf b ls))) (x + sumOf (executedBy n) (eventsOf b ls)) (y + sumOf (cancelledBy n) (eventsOf b ls))
   unfolding printedOf eventsOf linesIn afterLines sumOf
   run-has b [] s small t x y h p q = has-same (x + 0) (y + 0) (omega arith) (omega arith) h
   run-has b (l ∷ ls) s small t x y h p q =
@@ -149,37 +148,26 @@ module _ (n : Number) where
       let more = eventsOf (answerTo b l .book) ls in
       let rest = printedOf (answerTo b l .book) ls in
       let xs = sumOf-append (executedBy n) es more in
-      let ys = sumOf-append (cancelledShares n) es more in
+      let ys = sumOf-append (cancelledBy n) es more in
       let p′ : x + sumOf (executedBy n) (es ++ more) ≤ largest = p in
-      let q′ : y + sumOf (cancelledShares n) (es ++ more) ≤ largest = q in
+      let q′ : y + sumOf (cancelledBy n) (es ++ more) ≤ largest = q in
       ⊎-elim
       (λ (k : acts b l ≡ true).
       let u = acts-then b l s small rest t x y k h (omega (arith, p′, xs)) (omega (arith, q′, ys)) in
-      let ih = run-has (answerTo b l .book) ls (answer-sound b l s) (last-fits b l small) (u .tally) (x + sumOf (executedBy n) es) (y + sumOf (cancelledShares n) es) (u .has)
+      let ih = run-has (answerTo b l .book) ls (answer-sound b l s) (last-fits b l small) (u .tally) (x + sumOf (executedBy n) es) (y + sumOf (cancelledBy n) es) (u .has)
       (omega (arith, p′, xs)) (omega (arith, q′, ys)) in
-      has-led (u .leads) (has-same (x + sumOf (executedBy n) (es ++ more)) (y + sumOf (cancelledShares n) (es ++ more)) (omega (arith, xs)) (omega (arith, ys)) ih))
+      has-led (u .leads) (has-same (x + sumOf (executedBy n) (es ++ more)) (y + sumOf (cancelledBy n) (es ++ more)) (omega (arith, xs)) (omega (arith, ys)) ih))
       (λ (k : acts b l ≡ false).
       let nothing : es ≡ [] = refused-events b l k in
       let u = refused-then b l s small rest t x y k h in
       let x′ : sumOf (executedBy n) es ≡ 0 = rw nothing refl in
-      let y′ : sumOf (cancelledShares n) es ≡ 0 = rw nothing refl in
+      let y′ : sumOf (cancelledBy n) es ≡ 0 = rw nothing refl in
       let ih = run-has (answerTo b l .book) ls (answer-sound b l s) (last-fits b l small) (u .tally) x y (u .has)
       (omega (arith, p′, xs, x′)) (omega (arith, q′, ys, y′)) in
-      has-led (u .leads) (has-same (x + sumOf (executedBy n) (es ++ more)) (y + sumOf (cancelledShares n) (es ++ more)) (omega (arith, xs, x′)) (omega (arith, ys, y′)) ih))
+      has-led (u .leads) (has-same (x + sumOf (executedBy n) (es ++ more)) (y + sumOf (cancelledBy n) (es ++ more)) (omega (arith, xs, x′)) (omega (arith, ys, y′)) ih))
       (holds-or-not (acts b l))
 
 -- ── A day ──
-
--- what a cancel line counts for is the same in both
-same-cancelled : (n : Number) (es : List Event) → sumOf (cancelledShares n) es ≡ sumOf (cancelledBy n) es
-unfolding sumOf
-same-cancelled n [] = refl
-same-cancelled n (e ∷ es) = rw (same n e, same-cancelled n es) refl
-  where
-    same : (n : Number) (e : Event) → cancelledShares n e ≡ cancelledBy n e
-    same n (Executed incoming resting price shares) = refl
-    same n (Rested number price shares) = refl
-    same n (Cancelled number shares reason) = refl
 
 -- an order that was read has shares that four bytes hold
 order-small : {b : Book} {lines : List (List ℕ)} {stood : Book} {l : List ℕ} {c : Command} {o : Order} → Enters b lines stood l c o → o .shares .0 ≤ largest
@@ -198,7 +186,6 @@ tally-agrees lines stood l c o r =
     let es = eventsOf fresh lines in
     let sum = conserved lines stood l c o r in
     let small = order-small r in
-    let cancelled = same-cancelled n es in
     let begins : Has begun 0 0 = record { executed-are = refl; cancelled-are = refl; going = refl } in
-    let has = run-has n fresh lines fresh-sound (omega arith) begun 0 0 begins (omega (arith, sum, small)) (omega (arith, sum, small, cancelled)) in
-    rw (run-read lines) (has-same n (executedIn n es) (cancelledIn n es) (omega arith) (omega (arith, cancelled)) has)
+    let has = run-has n fresh lines fresh-sound (omega arith) begun 0 0 begins (omega (arith, sum, small)) (omega (arith, sum, small)) in
+    rw (run-read lines) (has-same n (executedIn n es) (cancelledIn n es) (omega arith) (omega arith) has)

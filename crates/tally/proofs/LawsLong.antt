@@ -19,8 +19,8 @@ use Rattle.rules.specs.declared.Event.{Event}
 use Rattle.rules.specs.declared.EventReading.{EventReading}
 use Rattle.rules.specs.declared.EventReading.the-variants.{UnknownKind, TrailingBytes}
 use Rattle.rules.specs.CommandLines.{numberAt, digitsIn}
-use Rattle.rules.specs.EventLines.{executedKind, restedKind, cancelledKind, executedFields, restedFields, cancelledFields, withKind}
-use Rattle.rules.specs.EventReading.{executedOf, restedOf, cancelledOf, ofFields, ofKind, eventIn}
+use Rattle.rules.specs.EventLines.{executedKind, restedKind, cancelledKind, movedKind, executedFields, restedFields, cancelledFields, movedFields, withKind}
+use Rattle.rules.specs.EventReading.{executedOf, restedOf, cancelledOf, movedOf, ofFields, ofKind, eventIn}
 use Rattle.tally.specs.declared.Tally.{Tally}
 use Rattle.tally.specs.Tally.{begun, goingOn, turn, tallyOf, tallyOfPieces}
 
@@ -30,6 +30,7 @@ readLong (value.Is kind) =
     if eqb kind executedKind then TrailingBytes
     else if eqb kind restedKind then TrailingBytes
     else if eqb kind cancelledKind then TrailingBytes
+    else if eqb kind movedKind then TrailingBytes
     else UnknownKind
 readLong value.Bad = UnknownKind
 
@@ -46,6 +47,7 @@ kind-long (value.Is kind) s l =
       fields-long executedFields executedOf s (omega (arith, l)),
       fields-long restedFields restedOf s (omega (arith, l)),
       fields-long cancelledFields cancelledOf s (omega (arith, l)),
+      fields-long movedFields movedOf s (omega (arith, l)),
     ) refl
 kind-long value.Bad s l = refl
 

@@ -12,12 +12,13 @@ use Rattle.basics.specs.Lists.{sumOf, All, none, also}
 use Rattle.basics.proofs.LawsChoice.{holds-or-not}
 use Rattle.basics.proofs.LawsLists.{all-alike, all-both}
 use Rattle.kinds.specs.declared.Number.{Number}
+use Rattle.rules.specs.declared.Away.{Away}
 use Rattle.rules.specs.declared.Body.{Body}
 use Rattle.rules.specs.declared.Body.the-variants as body
 use Rattle.rules.specs.declared.Ending.{Ending}
 use Rattle.rules.specs.declared.Ending.the-variants.{Filled, Rests, Cancels}
 use Rattle.rules.specs.declared.Event.{Event}
-use Rattle.rules.specs.declared.Event.the-variants.{Executed, Rested, Cancelled}
+use Rattle.rules.specs.declared.Event.the-variants.{Executed, Rested, Cancelled, Moved}
 use Rattle.rules.specs.declared.Reading.{Reading}
 use Rattle.rules.specs.declared.Reading.the-variants as reading
 use Rattle.rules.specs.declared.Resting.{Resting}
@@ -25,7 +26,7 @@ use Rattle.rules.specs.Book.{Book, sound}
 use Rattle.rules.specs.CommandLines.{commandIn}
 use Rattle.rules.specs.EventLines.{byCommand, atClose}
 use Rattle.rules.specs.Step.{doneBy, answer, answerTo}
-use Rattle.rules.specs.Working.{buying, oppositeSide, executions, lastLine, takings, remainder, ending, cancels, isNumber, accept, cancel, quote, close, does}
+use Rattle.rules.specs.Working.{buying, oppositeSide, executions, lastLine, takings, remainder, ending, cancels, isNumber, wouldNowCross, moveLines, accept, cancel, quote, close, does}
 use Rattle.soundness.proofs.LawsSides.{sides-of}
 use Rattle.soundness.proofs.LawsSound.{sound-is}
 use Rattle.demands.specs.Once.{numberIn, acts}
@@ -37,6 +38,7 @@ abbrev pub TwoParties : Event → Type 0
 TwoParties (Executed incoming resting price shares) = incoming .0 ≢ resting .0
 TwoParties (Rested number price shares) = Unit {0}
 TwoParties (Cancelled number shares reason) = Unit {0}
+TwoParties (Moved number price shares) = Unit {0}
 
 -- ── Counted once, and once for each role ──
 
@@ -50,6 +52,7 @@ same-shares n (Executed incoming resting price shares) two =
     (holds-or-not (eqb (n .0) (incoming .0)))
 same-shares n (Rested number price shares) two = refl
 same-shares n (Cancelled number shares reason) two = refl
+same-shares n (Moved number price shares) two = refl
 
 pub same-sums : (n : Number) {es : List Event} → All TwoParties es → sumOf (executedShares n) es ≡ sumOf (executedBy n) es
 unfolding sumOf
@@ -77,6 +80,19 @@ cancels-two reason gone (h ∷ s) =
     (λ (t : gone h ≡ false). rw t (cancels-two reason gone s))
     (holds-or-not (gone h))
 
+moves-two : (buy : Bool) (away : Away) (s : List Resting) → All TwoParties (moveLines buy away s)
+unfolding moveLines
+moves-two buy away [] = none
+moves-two buy away (h ∷ s) =
+    ⊎-elim
+    (λ (t : wouldNowCross buy away h ≡ true).
+    ⊎-elim
+    (λ (c : h .back ≡ true). rw (t, c) (also tt (moves-two buy away s)))
+    (λ (c : h .back ≡ false). rw (t, c) (also tt (moves-two buy away s)))
+    (holds-or-not (h .back)))
+    (λ (t : wouldNowCross buy away h ≡ false). rw t (moves-two buy away s))
+    (holds-or-not (wouldNowCross buy away h))
+
 last-two : (n : Number) (left : ℕ) (e : Ending) → All TwoParties (lastLine n left e)
 last-two n left Filled = none
 last-two n left (Rests price) = also tt none
@@ -91,7 +107,7 @@ does-two b n time (body.Order o) s next =
     let new : All (λ (h : Resting). n .0 ≢ h .number .0) opposite = all-alike (λ h r. λ (z : n .0 ≡ h .number .0). omega (arith, z, r .upToLast, next)) (sides .oppositeInRange) in
     all-both (executions-two n (takings o (b .away) opposite) new) (last-two n (remainder o (b .away) opposite) (ending o (b .away) opposite))
 does-two b n time (body.Cancel of) s next = all-both (cancels-two byCommand (isNumber of) (b .buys)) (cancels-two byCommand (isNumber of) (b .sells))
-does-two b n time (body.Quote away) s next = none
+does-two b n time (body.Quote away) s next = all-both (moves-two true away (b .buys)) (moves-two false away (b .sells))
 does-two b n time body.Close s next = all-both (cancels-two atClose (λ h. true) (b .buys)) (cancels-two atClose (λ h. true) (b .sells))
 
 done-two : (b : Book) (r : Reading) → sound b ≡ true → numberIn r ≡ b .last .0 + 1 → All TwoParties (doneBy r b .events)

@@ -9,13 +9,14 @@ use Rattle.basics.specs.Choice.{if_then_else_}
 use Rattle.kinds.specs.declared.Number.{Number}
 use Rattle.kinds.specs.Kinds.{shares, largest}
 use Rattle.rules.specs.declared.Event.{Event}
-use Rattle.rules.specs.declared.Event.the-variants.{Executed, Rested, Cancelled}
+use Rattle.rules.specs.declared.Event.the-variants.{Executed, Rested, Cancelled, Moved}
 use Rattle.rules.specs.declared.EventReading.{EventReading}
 use Rattle.rules.specs.declared.EventReading.the-variants as reading
 use Rattle.rules.specs.CommandLines.{numberAt}
 use Rattle.rules.specs.Day.{linesIn}
 use Rattle.rules.specs.EventLines.{refusalKind}
 use Rattle.rules.specs.EventReading.{eventIn, isKind}
+use Rattle.demands.specs.Told.{cancelledBy}
 use Rattle.lines.specs.Pieces.{cut, partKept, afterLines, afterPieces}
 use Rattle.tally.specs.declared.Fed.{Fed}
 use Rattle.tally.specs.declared.Stop.{Stop}
@@ -28,16 +29,13 @@ begun = record { lines = 0; executed = shares 0; cancelled = shares 0; stop = st
 
 -- ── One event ──
 
--- the shares of an order that an event executes, in whichever role; a line that names one number twice counts once
+-- the shares of an order that an event executes, in whichever role; a line that names one number twice counts once. A move changes no
+-- order's shares (02, W2).
 abbrev pub executedShares : Number → Event → ℕ
 executedShares n (Executed incoming resting price shares) = if eqb (n .0) (incoming .0) || eqb (n .0) (resting .0) then shares .0 else 0
 executedShares n (Rested m price shares) = 0
 executedShares n (Cancelled m shares reason) = 0
-
-abbrev pub cancelledShares : Number → Event → ℕ
-cancelledShares n (Executed incoming resting price shares) = 0
-cancelledShares n (Rested m price shares) = 0
-cancelledShares n (Cancelled m shares reason) = if eqb (n .0) (m .0) then shares .0 else 0
+executedShares n (Moved m price shares) = 0
 
 -- ── One line ──
 
@@ -63,9 +61,9 @@ added executed cancelled t =
       stop = t .stop;
     }
 
--- what was read of a line, counted; a line that is no event line stops it, with the reader's word
+-- what was read of a line, counted: what it cancels as demand 3 does; a line that is no event line stops it, with the reader's word
 abbrev pub counted : Number → EventReading → Tally → Tally
-counted n (reading.Is e) t = added (executedShares n e) (cancelledShares n e) t
+counted n (reading.Is e) t = added (executedShares n e) (cancelledBy n e) t
 counted n reading.UnknownKind t = stoppedBy stop.UnknownKind t
 counted n reading.Short t = stoppedBy stop.Short t
 counted n reading.TrailingBytes t = stoppedBy stop.TrailingBytes t

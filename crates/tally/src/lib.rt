@@ -6,10 +6,11 @@ use kinds::Shares;
 use rules::Event;
 use rules::EventReading;
 ghost use mathlib.Core.Path.{_≡_};
+ghost use Rattle.demands.specs.Told.{cancelledBy};
 ghost use Rattle.rules.specs.CommandLines.{numberAt};
 ghost use Rattle.rules.specs.EventLines.{refusalKind};
 ghost use Rattle.rules.specs.EventReading.{isKind};
-ghost use Rattle.tally.specs.Tally.{begun, executedShares, cancelledShares, oneMore, stoppedBy, passedOver, added, counted, isGoing, turn, fedOn};
+ghost use Rattle.tally.specs.Tally.{begun, executedShares, oneMore, stoppedBy, passedOver, added, counted, isGoing, turn, fedOn};
 
 // What stopped a tally: nothing yet, a line that is no event line, or a sum that four bytes would not hold.
 pub enum Stop {
@@ -68,11 +69,12 @@ fn executed_shares(number: Number, e: Event) -> u32
         }
         Event::Rested { .. } => 0,
         Event::Cancelled { .. } => 0,
+        Event::Moved { .. } => 0,
     }
 }
 
 fn cancelled_shares(number: Number, e: Event) -> u32
-    ensures { λ r. ⌜ r ≡ cancelledShares number e ⌝ }
+    ensures { λ r. ⌜ r ≡ cancelledBy number e ⌝ }
 {
     match e {
         Event::Executed { .. } => 0,
@@ -87,6 +89,7 @@ fn cancelled_shares(number: Number, e: Event) -> u32
             }
             0
         }
+        Event::Moved { .. } => 0,
     }
 }
 

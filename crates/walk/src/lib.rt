@@ -2,6 +2,7 @@
 use kinds::Cents;
 use kinds::Shares;
 use rows::PLACES;
+use rows::WORDS;
 ghost use mathlib.Core.Bool.{not};
 ghost use mathlib.Core.Path.{_≡_};
 ghost use Rattle.rows.specs.Table.{side, Holds};
@@ -23,7 +24,7 @@ pub fn within(buying: bool, bound: Cents, price: Cents) -> bool
 }
 
 // Walks the side in rank order, for `want` shares. The walk ends at the first order whose price is beyond the bound.
-pub fn walk(t: &[[u32; 4]; PLACES], n: usize, buying: bool, bound: Cents, want: Shares) -> Stop
+pub fn walk(t: &[[u32; WORDS]; PLACES], n: usize, buying: bool, bound: Cents, want: Shares) -> Stop
     requires { ⌜ Holds n (now t) ⌝ }
     ensures { λ r. ⌜ r ≡ stopOf (isWithin buying bound) 0 (want .0) (side n (now (t .entry))) ⌝ }
 {

@@ -2,6 +2,7 @@
 use kinds::Cents;
 use kinds::Shares;
 use rows::PLACES;
+use rows::WORDS;
 use rules::Away;
 use rules::Ending;
 use rules::Order;
@@ -17,7 +18,7 @@ ghost use Rattle.rules.specs.Working.{buying, lockingPrice, equalsOrPasses, unl
 ghost use Rattle.work.specs.Stopping.{stopFor};
 
 // Where the walk of an order stops: Post Only takes nothing, nor does a Fill-or-Kill that would leave a remainder.
-pub fn stop_of(o: Order, away: Away, t: &[[u32; 4]; PLACES], n: usize) -> Stop
+pub fn stop_of(o: Order, away: Away, t: &[[u32; WORDS]; PLACES], n: usize) -> Stop
     requires { ⌜ Holds n (now t) ⌝ }
     ensures { λ r. ⌜ r ≡ stopFor o away (side n (now (t .entry))) ⌝ }
 {
@@ -42,7 +43,7 @@ pub fn stop_of(o: Order, away: Away, t: &[[u32; 4]; PLACES], n: usize) -> Stop
 }
 
 // Whether a price equals or passes any price of the opposite side: the best of them is enough.
-fn meets(t: &[[u32; 4]; PLACES], n: usize, buy: bool, price: Cents) -> bool
+fn meets(t: &[[u32; WORDS]; PLACES], n: usize, buy: bool, price: Cents) -> bool
     requires { ⌜ Holds n (now t) × (inRankOrder (not buy) (side n (now t)) ≡ true) ⌝ }
     ensures { λ r. ⌜ r ≡ equalsOrPasses buy price (side n (now (t .entry))) ⌝ }
 {
@@ -54,7 +55,7 @@ fn meets(t: &[[u32; 4]; PLACES], n: usize, buy: bool, price: Cents) -> bool
 }
 
 // Step 5, of an order that is Post Only.
-fn unless_meets(o: Order, t: &[[u32; 4]; PLACES], n: usize, end: Ending) -> Ending
+fn unless_meets(o: Order, t: &[[u32; WORDS]; PLACES], n: usize, end: Ending) -> Ending
     requires { ⌜ Holds n (now t) × (inRankOrder (not (buying o)) (side n (now t)) ≡ true) × (has (o .word) postOnly ≡ true) ⌝ }
     ensures { λ r. ⌜ r ≡ unlessPostOnlyMeets o (side n (now (t .entry))) end ⌝ }
 {
@@ -71,7 +72,7 @@ fn unless_meets(o: Order, t: &[[u32; 4]; PLACES], n: usize, end: Ending) -> Endi
 }
 
 // What becomes of an order of which `left` shares are left after the walk.
-pub fn ending_of(o: Order, away: Away, t: &[[u32; 4]; PLACES], n: usize, left: Shares) -> Ending
+pub fn ending_of(o: Order, away: Away, t: &[[u32; WORDS]; PLACES], n: usize, left: Shares) -> Ending
     requires { ⌜ Holds n (now t) × (inRankOrder (not (buying o)) (side n (now t)) ≡ true) × (lockingPrice (buying o) away .0 < largest) ⌝ }
     ensures { λ r. ⌜ r ≡ endingWith (left .0) o away (side n (now (t .entry))) ⌝ }
 {

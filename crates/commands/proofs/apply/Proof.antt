@@ -6,7 +6,7 @@ use denote.Ref.{now}
 use Rattle.rules.specs.declared.Body.the-variants as body
 use Rattle.tables.specs.Tables.{bookOn}
 use Rattle.tables.proofs.LawsAnswers.{left-refused}
-use Rattle.commands.proofs.LawsCommand.{header-refused, left-passed, left-quoted}
+use Rattle.commands.proofs.LawsCommand.{header-refused, left-passed, header-next}
 use Rattle.commands.proofs.apply.Statement.{statement}
 use Rattle.commands.proofs.apply.Tie as tie
 
@@ -42,7 +42,11 @@ enum-known-body-3 : tie.Need-enum-known-body-3
 enum-known-body-3 c = search needs
 
 quote-requires : tie.Need-quote-requires
-quote-requires c κs = c .before .before .before .before .before .before .before .before .before .before .pre .0
+quote-requires c κs =
+    let start = c .before .before .before .before .before .before .before .before .before .before .before in
+    let a = start .args in
+    let k = c .before .before .before .before .before .before .before .header-refusal in
+    (start .pre .0, start .pre .1, header-next (a .c) (bookOn (a .h) (now (a .buys)) (now (a .sells))) (k .result) (k .ensures) (c .before .before .before .before .before .before .if1 .left))
 
 enum-told : tie.Need-enum-told
 enum-told c = search needs
@@ -70,16 +74,18 @@ returns-3 c =
     let k = c .before .before .before .before .before .before .before .before .before .before .header-refusal in
     left-passed (a .c) b (k .result) _ (c .before .before .before .before .before .before .before .body2 .given .1) (k .ensures) (c .before .before .before .before .before .before .before .before .before .if1 .left) _ _ _ _ (now (a .out)) (c .before .before .cancel .ensures)
 
-returns-4 : tie.Need-returns-4
-returns-4 c =
-    let a = c .before .before .before .before .before .before .before .before .before .before .before .args in
-    let b = bookOn (a .h) (now (a .buys)) (now (a .sells)) in
-    let k = c .before .before .before .before .before .before .before .header-refusal in
-    left-passed (a .c) b (k .result) _ (c .before .before .before .before .body3 .given .1) (k .ensures) (c .before .before .before .before .before .before .if1 .left) _ _ _ _ (now (a .out))
-    (left-quoted (a .h) (now (a .buys)) (now (a .sells)) (c .before .before .before .before .before .before .before .before .before .before .before .pre .0) (a .c .number) (a .c .time) _ (now (a .out)) _ (c .quote .ensures))
-
 same-length-3 : tie.Need-same-length-3
 same-length-3 c = search needs
+
+returns-4 : tie.Need-returns-4
+returns-4 c =
+    let a = c .before .before .before .before .before .before .before .before .before .before .before .before .before .before .args in
+    let b = bookOn (a .h) (now (a .buys)) (now (a .sells)) in
+    let k = c .before .before .before .before .before .before .before .before .before .before .header-refusal in
+    left-passed (a .c) b (k .result) _ (c .before .before .before .before .before .before .before .body3 .given .1) (k .ensures) (c .before .before .before .before .before .before .before .before .before .if1 .left) _ _ _ _ (now (a .out)) (c .before .before .quote .ensures)
+
+same-length-4 : tie.Need-same-length-4
+same-length-4 c = search needs
 
 returns-5 : tie.Need-returns-5
 returns-5 c =
@@ -107,6 +113,7 @@ apply-spec =
     returns-2
     same-length-2
     returns-3
-    returns-4
     same-length-3
+    returns-4
+    same-length-4
     returns-5)

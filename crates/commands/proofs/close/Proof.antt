@@ -15,12 +15,12 @@ use Rattle.rules.specs.declared.Body.the-variants as body
 use Rattle.rules.specs.declared.Event.{Event}
 use Rattle.rules.specs.EventLines.{eventLines, atClose}
 use Rattle.rules.specs.Working.{Done}
-use Rattle.rules.proofs.LawsEvents.{cancelled-length, eventLines-append}
+use Rattle.rules.proofs.LawsEvents.{cancelled-length, eventLines-append, lines-behind}
 use Rattle.tables.specs.declared.Head.{Head}
 use Rattle.tables.specs.Answers.{bodyAnswer}
 use Rattle.tables.specs.Tables.{bookOn}
 use Rattle.tables.proofs.LawsAnswers.{left-done}
-use Rattle.commands.proofs.LawsDone.{closed-is, lines-behind}
+use Rattle.commands.proofs.LawsDone.{closed-is}
 use Rattle.commands.proofs.close.Statement.{statement}
 use Rattle.commands.proofs.close.Tie as tie
 

@@ -1,5 +1,4 @@
--- `event_reader::read_cancelled` meets its contract: length and ending are tested, and the fields come in the definition's order.
--- Assumes nothing.
+-- `event_reader::read_cancelled` meets its contract: the fields come in the definition's order. Assumes nothing.
 use Prim.Native.Nat.{ℕ}
 use mathlib.Core.List.{List}
 use mathlib.Core.Path.{_≡_, sym, _∙_}
@@ -9,37 +8,12 @@ use denote.Ref.{now}
 use Rattle.digits.specs.declared.Value.the-variants.{Is, Bad}
 use Rattle.digits.proofs.LawsDigits.{numberIn-fits}
 use Rattle.rules.specs.CommandLines.{numberAt, numbersFrom}
-use Rattle.rules.specs.EventLines.{cancelledFields}
-use Rattle.rules.specs.EventReading.{cancelledOf, eventOf, ofFields}
-use Rattle.event_reader.proofs.LawsEventReader.{ofFields-short, ofFields-trailing, ofFields-unended, ofFields-ended}
 use Rattle.event_reader.proofs.read_cancelled.Statement.{statement}
 use Rattle.event_reader.proofs.read_cancelled.Tie as tie
 
-returns : tie.Need-returns
-returns c = sym (ofFields-short cancelledFields cancelledOf _ (c .if1 .taken))
-
-returns-2 : tie.Need-returns-2
-returns-2 c = sym (ofFields-trailing cancelledFields cancelledOf _ (c .if2 .taken))
-
-sub-if3 : tie.Need-sub-if3
-sub-if3 c = search needs
-
-shared-slice-read-if3 : tie.Need-shared-slice-read-if3
-shared-slice-read-if3 c = search needs
-
-returns-3 : tie.Need-returns-3
-returns-3 c =
-    let tests = c .before .before in
-    sym (ofFields-unended cancelledFields cancelledOf _ (tests .before .if1 .left) (tests .if2 .left) (c .if3 .taken))
-
--- the line, where it is known to have its length and its line feed
-abbrev whole : tie.Else3 → List ℕ
-whole c = now (c .before .before .before .before .before .args .s)
-
-ended : (c : tie.Else3) → ofFields cancelledFields cancelledOf (whole c) ≡ eventOf cancelledOf (numbersFrom 2 cancelledFields (whole c))
-ended c =
-    let tests = c .before .before in
-    ofFields-ended cancelledFields cancelledOf _ (tests .before .if1 .left) (tests .if2 .left) (c .if3 .left)
+-- the line
+abbrev whole : tie.After-shared-slice-known → List ℕ
+whole c = now (c .before .args .s)
 
 four-at-requires : tie.Need-four-at-requires
 four-at-requires c κs = search needs
@@ -50,15 +24,15 @@ enum-known-number c = search needs
 enum-told : tie.Need-enum-told
 enum-told c = search needs
 
-returns-4 : tie.Need-returns-4
+returns : tie.Need-returns
 unfolding numbersFrom
-returns-4 c =
+returns c =
     let b = c .before .before .before in
     let bad : numberAt 4 2 (whole b) ≡ Bad = sym (c .before .before .four-at .ensures) ∙ c .enum-told .given .1 in
-    rw (ended b, bad)
+    rw bad
 
 -- number was read
-abbrev before-number : tie.After-known-told → tie.Else3
+abbrev before-number : tie.After-known-told → tie.After-shared-slice-known
 before-number c = c .before .before .before .before
 
 number-is : (c : tie.After-known-told) → numberAt 4 2 (whole (before-number c)) ≡ Is (c .before .number .given .0 .0)
@@ -73,18 +47,18 @@ enum-known-shares c = search needs
 enum-told-2 : tie.Need-enum-told-2
 enum-told-2 c = search needs
 
-returns-5 : tie.Need-returns-5
+returns-2 : tie.Need-returns-2
 unfolding numbersFrom
-returns-5 c =
+returns-2 c =
     let b = c .before .before .before in
     let bad : numberAt 4 10 (whole (before-number b)) ≡ Bad = sym (c .before .before .four-at2 .ensures) ∙ c .enum-told2 .given .1 in
-    rw (ended (before-number b), number-is b, bad)
+    rw (number-is b, bad)
 
 -- shares was read
 abbrev before-shares : tie.After-known-told2 → tie.After-known-told
 before-shares c = c .before .before .before .before
 
-abbrev start-shares : tie.After-known-told2 → tie.Else3
+abbrev start-shares : tie.After-known-told2 → tie.After-shared-slice-known
 start-shares c = before-number (before-shares c)
 
 shares-is : (c : tie.After-known-told2) → numberAt 4 10 (whole (start-shares c)) ≡ Is (c .before .shares .given .0 .0)
@@ -99,50 +73,45 @@ enum-known-reason c = search needs
 enum-told-3 : tie.Need-enum-told-3
 enum-told-3 c = search needs
 
-returns-6 : tie.Need-returns-6
+returns-3 : tie.Need-returns-3
 unfolding numbersFrom
-returns-6 c =
+returns-3 c =
     let b = c .before .before .before in
     let bad : numberAt 1 18 (whole (start-shares b)) ≡ Bad = sym (c .before .before .one-at .ensures) ∙ c .enum-told3 .given .1 in
-    rw (ended (start-shares b), number-is (before-shares b), shares-is b, bad)
+    rw (number-is (before-shares b), shares-is b, bad)
 
 -- reason was read
 abbrev before-reason : tie.After-known-told3 → tie.After-known-told2
 before-reason c = c .before .before .before .before
 
-abbrev start-reason : tie.After-known-told3 → tie.Else3
+abbrev start-reason : tie.After-known-told3 → tie.After-shared-slice-known
 start-reason c = start-shares (before-reason c)
 
 reason-is : (c : tie.After-known-told3) → numberAt 1 18 (whole (start-reason c)) ≡ Is (c .before .reason .given .0 .0)
 reason-is c = sym (c .before .before .before .one-at .ensures) ∙ c .before .reason .given .1
 
-cast-t8 : tie.Need-cast-t8
-cast-t8 c = omega (arith, numberIn-fits 1 _ _ (reason-is c))
+cast-t10 : tie.Need-cast-t10
+cast-t10 c = omega (arith, numberIn-fits 1 _ _ (reason-is c))
 
-returns-7 : tie.Need-returns-7
+returns-4 : tie.Need-returns-4
 unfolding numbersFrom
-returns-7 c = rw (ended (start-reason c), number-is (before-shares (before-reason c)), shares-is (before-reason c), reason-is c)
+returns-4 c = rw (number-is (before-shares (before-reason c)), shares-is (before-reason c), reason-is c)
 
 pub read-cancelled-spec : {M : Type 1} → statement M
 read-cancelled-spec =
     tie.close
     (tie.spec
-    returns
-    returns-2
-    sub-if3
-    shared-slice-read-if3
-    returns-3
     four-at-requires
     enum-known-number
     enum-told
-    returns-4
+    returns
     four-at-requires-2
     enum-known-shares
     enum-told-2
-    returns-5
+    returns-2
     one-at-requires
     enum-known-reason
     enum-told-3
-    returns-6
-    cast-t8
-    returns-7)
+    returns-3
+    cast-t10
+    returns-4)

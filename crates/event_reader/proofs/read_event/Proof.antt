@@ -6,8 +6,9 @@ use borrow.Author.Needs.{needs}
 use borrow.Author.Tests.{ne-eqb}
 use denote.Ref.{now}
 use Rattle.digits.specs.declared.Value.the-variants.{Is, Bad}
-use Rattle.rules.specs.EventLines.{executedKind, restedKind, cancelledKind}
-use Rattle.rules.specs.EventReading.{ofKind, eventIn}
+use Rattle.rules.specs.EventLines.{executedKind, restedKind, cancelledKind, movedKind}
+use Rattle.rules.specs.EventReading.{ofFields, ofKind, eventIn}
+use Rattle.event_reader.specs.Ended.{whenEnded}
 use Rattle.event_reader.proofs.LawsEventReader.{eventIn-short, eventIn-kind}
 use Rattle.event_reader.proofs.read_event.Statement.{statement}
 use Rattle.event_reader.proofs.read_event.Tie as tie
@@ -47,29 +48,60 @@ by-kind c kind e =
 read-executed-requires : tie.Need-read-executed-requires
 read-executed-requires c κs = search needs
 
-read-rested-requires : tie.Need-read-rested-requires
-read-rested-requires c κs = search needs
+when-ended-requires : tie.Need-when-ended-requires
+when-ended-requires c κs = search needs
+
+read-at-price-requires : tie.Need-read-at-price-requires
+read-at-price-requires c κs = search needs
+
+when-ended-requires-2 : tie.Need-when-ended-requires-2
+when-ended-requires-2 c κs = search needs
 
 read-cancelled-requires : tie.Need-read-cancelled-requires
 read-cancelled-requires c κs = search needs
 
+when-ended-requires-3 : tie.Need-when-ended-requires-3
+when-ended-requires-3 c κs = search needs
+
+read-at-price-requires-2 : tie.Need-read-at-price-requires-2
+read-at-price-requires-2 c κs = search needs
+
+when-ended-requires-4 : tie.Need-when-ended-requires-4
+when-ended-requires-4 c κs = search needs
+
 returns-3 : tie.Need-returns-3
-unfolding ofKind
-returns-3 c = c .read-executed .ensures ∙ sym (by-kind (c .before .before) executedKind (c .before .match2 .keys1))
+unfolding ofKind ofFields whenEnded
+returns-3 c =
+    let read = c .before in
+    let line = whole (before-kind (read .before .before)) in
+    rw (by-kind (read .before .before) executedKind (read .before .match2 .keys1)) (c .when-ended .ensures ∙ ap (whenEnded 35 line) (read .read-executed .ensures))
 
 returns-4 : tie.Need-returns-4
-unfolding ofKind
-returns-4 c = c .read-rested .ensures ∙ sym (by-kind (c .before .before) restedKind (c .before .match2 .keys2))
+unfolding ofKind ofFields whenEnded
+returns-4 c =
+    let read = c .before in
+    let line = whole (before-kind (read .before .before)) in
+    rw (by-kind (read .before .before) restedKind (read .before .match2 .keys2)) (c .when-ended2 .ensures ∙ ap (whenEnded 27 line) (read .read-at-price .ensures))
 
 returns-5 : tie.Need-returns-5
-unfolding ofKind
-returns-5 c = c .read-cancelled .ensures ∙ sym (by-kind (c .before .before) cancelledKind (c .before .match2 .keys3))
+unfolding ofKind ofFields whenEnded
+returns-5 c =
+    let read = c .before in
+    let line = whole (before-kind (read .before .before)) in
+    rw (by-kind (read .before .before) cancelledKind (read .before .match2 .keys3)) (c .when-ended3 .ensures ∙ ap (whenEnded 21 line) (read .read-cancelled .ensures))
 
 returns-6 : tie.Need-returns-6
-unfolding ofKind
+unfolding ofKind ofFields whenEnded
 returns-6 c =
+    let read = c .before in
+    let line = whole (before-kind (read .before .before)) in
+    rw (by-kind (read .before .before) movedKind (read .before .match2 .keys4)) (c .when-ended4 .ensures ∙ ap (whenEnded 27 line) (read .read-at-price2 .ensures))
+
+returns-7 : tie.Need-returns-7
+unfolding ofKind
+returns-7 c =
     let r = c .match2 .rest in
-    rw (by-kind (c .before) _ refl, ne-eqb _ _ (r .0 .0 .1), ne-eqb _ _ (r .0 .1), ne-eqb _ _ (r .1))
+    rw (by-kind (c .before) _ refl, ne-eqb _ _ (r .0 .0 .0 .1), ne-eqb _ _ (r .0 .0 .1), ne-eqb _ _ (r .0 .1), ne-eqb _ _ (r .1))
 
 pub read-event-spec : {M : Type 1} → statement M
 read-event-spec =
@@ -81,9 +113,15 @@ read-event-spec =
     enum-told
     returns-2
     read-executed-requires
-    read-rested-requires
+    when-ended-requires
+    read-at-price-requires
+    when-ended-requires-2
     read-cancelled-requires
+    when-ended-requires-3
+    read-at-price-requires-2
+    when-ended-requires-4
     returns-3
     returns-4
     returns-5
-    returns-6)
+    returns-6
+    returns-7)

@@ -1,5 +1,4 @@
--- `event_reader::read_executed` meets its contract: length and ending are tested, and the fields come in the definition's order.
--- Assumes nothing.
+-- `event_reader::read_executed` meets its contract: the fields come in the definition's order. Assumes nothing.
 use Prim.Native.Nat.{ℕ}
 use mathlib.Core.List.{List}
 use mathlib.Core.Path.{_≡_, sym, _∙_}
@@ -7,37 +6,12 @@ use borrow.Author.Needs.{needs}
 use denote.Ref.{now}
 use Rattle.digits.specs.declared.Value.the-variants.{Is, Bad}
 use Rattle.rules.specs.CommandLines.{numberAt, numbersFrom}
-use Rattle.rules.specs.EventLines.{executedFields}
-use Rattle.rules.specs.EventReading.{executedOf, eventOf, ofFields}
-use Rattle.event_reader.proofs.LawsEventReader.{ofFields-short, ofFields-trailing, ofFields-unended, ofFields-ended}
 use Rattle.event_reader.proofs.read_executed.Statement.{statement}
 use Rattle.event_reader.proofs.read_executed.Tie as tie
 
-returns : tie.Need-returns
-returns c = sym (ofFields-short executedFields executedOf _ (c .if1 .taken))
-
-returns-2 : tie.Need-returns-2
-returns-2 c = sym (ofFields-trailing executedFields executedOf _ (c .if2 .taken))
-
-sub-if3 : tie.Need-sub-if3
-sub-if3 c = search needs
-
-shared-slice-read-if3 : tie.Need-shared-slice-read-if3
-shared-slice-read-if3 c = search needs
-
-returns-3 : tie.Need-returns-3
-returns-3 c =
-    let tests = c .before .before in
-    sym (ofFields-unended executedFields executedOf _ (tests .before .if1 .left) (tests .if2 .left) (c .if3 .taken))
-
--- the line, where it is known to have its length and its line feed
-abbrev whole : tie.Else3 → List ℕ
-whole c = now (c .before .before .before .before .before .args .s)
-
-ended : (c : tie.Else3) → ofFields executedFields executedOf (whole c) ≡ eventOf executedOf (numbersFrom 2 executedFields (whole c))
-ended c =
-    let tests = c .before .before in
-    ofFields-ended executedFields executedOf _ (tests .before .if1 .left) (tests .if2 .left) (c .if3 .left)
+-- the line
+abbrev whole : tie.After-shared-slice-known → List ℕ
+whole c = now (c .before .args .s)
 
 four-at-requires : tie.Need-four-at-requires
 four-at-requires c κs = search needs
@@ -48,15 +22,15 @@ enum-known-incoming c = search needs
 enum-told : tie.Need-enum-told
 enum-told c = search needs
 
-returns-4 : tie.Need-returns-4
+returns : tie.Need-returns
 unfolding numbersFrom
-returns-4 c =
+returns c =
     let b = c .before .before .before in
     let bad : numberAt 4 2 (whole b) ≡ Bad = sym (c .before .before .four-at .ensures) ∙ c .enum-told .given .1 in
-    rw (ended b, bad)
+    rw bad
 
 -- incoming was read
-abbrev before-incoming : tie.After-known-told → tie.Else3
+abbrev before-incoming : tie.After-known-told → tie.After-shared-slice-known
 before-incoming c = c .before .before .before .before
 
 incoming-is : (c : tie.After-known-told) → numberAt 4 2 (whole (before-incoming c)) ≡ Is (c .before .incoming .given .0 .0)
@@ -71,18 +45,18 @@ enum-known-resting c = search needs
 enum-told-2 : tie.Need-enum-told-2
 enum-told-2 c = search needs
 
-returns-5 : tie.Need-returns-5
+returns-2 : tie.Need-returns-2
 unfolding numbersFrom
-returns-5 c =
+returns-2 c =
     let b = c .before .before .before in
     let bad : numberAt 4 10 (whole (before-incoming b)) ≡ Bad = sym (c .before .before .four-at2 .ensures) ∙ c .enum-told2 .given .1 in
-    rw (ended (before-incoming b), incoming-is b, bad)
+    rw (incoming-is b, bad)
 
 -- resting was read
 abbrev before-resting : tie.After-known-told2 → tie.After-known-told
 before-resting c = c .before .before .before .before
 
-abbrev start-resting : tie.After-known-told2 → tie.Else3
+abbrev start-resting : tie.After-known-told2 → tie.After-shared-slice-known
 start-resting c = before-incoming (before-resting c)
 
 resting-is : (c : tie.After-known-told2) → numberAt 4 10 (whole (start-resting c)) ≡ Is (c .before .resting .given .0 .0)
@@ -97,18 +71,18 @@ enum-known-price c = search needs
 enum-told-3 : tie.Need-enum-told-3
 enum-told-3 c = search needs
 
-returns-6 : tie.Need-returns-6
+returns-3 : tie.Need-returns-3
 unfolding numbersFrom
-returns-6 c =
+returns-3 c =
     let b = c .before .before .before in
     let bad : numberAt 4 18 (whole (start-resting b)) ≡ Bad = sym (c .before .before .four-at3 .ensures) ∙ c .enum-told3 .given .1 in
-    rw (ended (start-resting b), incoming-is (before-resting b), resting-is b, bad)
+    rw (incoming-is (before-resting b), resting-is b, bad)
 
 -- price was read
 abbrev before-price : tie.After-known-told3 → tie.After-known-told2
 before-price c = c .before .before .before .before
 
-abbrev start-price : tie.After-known-told3 → tie.Else3
+abbrev start-price : tie.After-known-told3 → tie.After-shared-slice-known
 start-price c = start-resting (before-price c)
 
 price-is : (c : tie.After-known-told3) → numberAt 4 18 (whole (start-price c)) ≡ Is (c .before .price .given .0 .0)
@@ -123,50 +97,45 @@ enum-known-shares c = search needs
 enum-told-4 : tie.Need-enum-told-4
 enum-told-4 c = search needs
 
-returns-7 : tie.Need-returns-7
+returns-4 : tie.Need-returns-4
 unfolding numbersFrom
-returns-7 c =
+returns-4 c =
     let b = c .before .before .before in
     let bad : numberAt 4 26 (whole (start-price b)) ≡ Bad = sym (c .before .before .four-at4 .ensures) ∙ c .enum-told4 .given .1 in
-    rw (ended (start-price b), incoming-is (before-resting (before-price b)), resting-is (before-price b), price-is b, bad)
+    rw (incoming-is (before-resting (before-price b)), resting-is (before-price b), price-is b, bad)
 
 -- shares was read
 abbrev before-shares : tie.After-known-told4 → tie.After-known-told3
 before-shares c = c .before .before .before .before
 
-abbrev start-shares : tie.After-known-told4 → tie.Else3
+abbrev start-shares : tie.After-known-told4 → tie.After-shared-slice-known
 start-shares c = start-price (before-shares c)
 
 shares-is : (c : tie.After-known-told4) → numberAt 4 26 (whole (start-shares c)) ≡ Is (c .before .shares .given .0 .0)
 shares-is c = sym (c .before .before .before .four-at4 .ensures) ∙ c .before .shares .given .1
 
-returns-8 : tie.Need-returns-8
+returns-5 : tie.Need-returns-5
 unfolding numbersFrom
-returns-8 c = rw (ended (start-shares c), incoming-is (before-resting (before-price (before-shares c))), resting-is (before-price (before-shares c)), price-is (before-shares c), shares-is c)
+returns-5 c = rw (incoming-is (before-resting (before-price (before-shares c))), resting-is (before-price (before-shares c)), price-is (before-shares c), shares-is c)
 
 pub read-executed-spec : {M : Type 1} → statement M
 read-executed-spec =
     tie.close
     (tie.spec
-    returns
-    returns-2
-    sub-if3
-    shared-slice-read-if3
-    returns-3
     four-at-requires
     enum-known-incoming
     enum-told
-    returns-4
+    returns
     four-at-requires-2
     enum-known-resting
     enum-told-2
-    returns-5
+    returns-2
     four-at-requires-3
     enum-known-price
     enum-told-3
-    returns-6
+    returns-3
     four-at-requires-4
     enum-known-shares
     enum-told-4
-    returns-7
-    returns-8)
+    returns-4
+    returns-5)

@@ -36,7 +36,7 @@ put-row-requires c κs = search needs
 
 returns : tie.Need-returns
 returns c =
-    let r = c .before .before .before .before .before .before in
+    let r = c .before .before .before .before .before .before .before in
     let a = r .before .before .args in
     let p = r .before .before .pre in
     let o = getD (side (a .n) (now (a .t))) (a .at) unused in

@@ -27,6 +27,9 @@ enum-told c = search needs
 enum-told-2 : tie.Need-enum-told-2
 enum-told-2 c = search needs
 
+enum-told-3 : tie.Need-enum-told-3
+enum-told-3 c = search needs
+
 returns-2 : tie.Need-returns-2
 returns-2 c =
     let neither : named (c .before) ≡ false = c .if1 .left in
@@ -38,5 +41,8 @@ returns-3 c = rw (c .enum-told .given .1)
 returns-4 : tie.Need-returns-4
 returns-4 c = rw (c .enum-told2 .given .1)
 
+returns-5 : tie.Need-returns-5
+returns-5 c = rw (c .enum-told3 .given .1)
+
 pub executed-shares-spec : {M : Type 1} → statement M
-executed-shares-spec = tie.close (tie.spec enum-known-e returns enum-told enum-told-2 returns-2 returns-3 returns-4)
+executed-shares-spec = tie.close (tie.spec enum-known-e returns enum-told enum-told-2 enum-told-3 returns-2 returns-3 returns-4 returns-5)

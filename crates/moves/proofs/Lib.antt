@@ -1,0 +1,3 @@
+pub mod LawsTurns
+pub mod LawsMoving
+pub mod Determined

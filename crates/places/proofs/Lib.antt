@@ -1,0 +1,2 @@
+pub mod LawsPlaced
+pub mod Determined

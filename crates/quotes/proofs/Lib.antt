@@ -1,0 +1,2 @@
+pub mod LawsQuoted
+pub mod Determined

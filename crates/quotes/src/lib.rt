@@ -1,0 +1,67 @@
+// A quote on a sound book that stands in a header and two lent tables: the away prices are kept, and the orders that would now cross
+// them are moved or cancelled (02, W2), buys first.
+use kinds::Number;
+use rows::PLACES;
+use rows::WORDS;
+use rules::Away;
+use tables::Head;
+use tables::Step;
+ghost use mathlib.Core.Path.{_≡_};
+ghost use Prim.Native.Nat.{_≤_, _<_};
+ghost use lib.ListN.{length};
+ghost use Rattle.basics.specs.Bytes.{onto};
+ghost use Rattle.rows.specs.Table.{tableOf};
+ghost use Rattle.rules.specs.EventLines.{eventLines};
+ghost use Rattle.rules.specs.Refusals.{leastRoom};
+ghost use Rattle.rules.specs.declared.Body.the-variants as body;
+ghost use Rattle.tables.specs.Answers.{bodyAnswer, stepOf, Stands};
+ghost use Rattle.tables.specs.Tables.{bookOn};
+
+// The place of the first move among a command's moves; 0 is that of an order that comes to rest.
+const FIRST_MOVE: u32 = 1;
+
+pub fn quote(
+    h: Head,
+    number: Number,
+    time: u32,
+    away: Away,
+    buys: &mut [[u32; WORDS]; PLACES],
+    sells: &mut [[u32; WORDS]; PLACES],
+    out: &mut [u8],
+) -> Step
+    requires { ⌜ Stands h (now buys) (now sells) × (leastRoom ≤ length (now out)) × (h .last .0 < number .0) ⌝ }
+    ensures { λ r. ⌜ r ≡ stepOf (bodyAnswer number time (body.Quote away) (bookOn h (now (buys .entry)) (now (sells .entry)))) ⌝ }
+    ensures { λ _. ⌜ now (buys .exit) ≡ tableOf (bodyAnswer number time (body.Quote away) (bookOn h (now (buys .entry)) (now (sells .entry))) .book .buys) ⌝ }
+    ensures { λ _. ⌜ now (sells .exit) ≡ tableOf (bodyAnswer number time (body.Quote away) (bookOn h (now (buys .entry)) (now (sells .entry))) .book .sells) ⌝ }
+    ensures { λ _. ⌜ now (out .exit) ≡ onto (eventLines (bodyAnswer number time (body.Quote away) (bookOn h (now (buys .entry)) (now (sells .entry))) .events)) (now (out .entry)) ⌝ }
+{
+    let bid = away.bid;
+    let offer = away.offer;
+    if !(judge::away_in_range(bid) & judge::away_in_range(offer)) {
+        return tables::refuse(h, 9);
+    }
+    let bought = moves::move_side(buys, h.buys, true, away, number, FIRST_MOVE, out);
+    let len = bought.length;
+    let sold = moves::move_side(
+        sells,
+        h.sells,
+        false,
+        away,
+        number,
+        bought.next,
+        &mut out[len..],
+    );
+    let head = Head {
+        last: number,
+        time: time,
+        away: away,
+        buys: bought.held,
+        sells: sold.held,
+        ..h
+    };
+    Step {
+        refusal: 0,
+        head: head,
+        length: len + sold.length,
+    }
+}
