@@ -1,2 +1,3 @@
 pub mod LawsPlaces
+pub mod LawsHalves
 pub mod Determined

@@ -76,18 +76,22 @@ pub fn ranks_before(buying: bool, x: Resting, y: Resting) -> bool
     nearer | ((x.price.0 == y.price.0) & first)
 }
 
-// The place that a new order takes: before the first that it ranks before.
+// The place that a new order takes: before the first that it ranks before. The side is in rank order, so each order looked at halves
+// the range in which that place lies.
 pub fn place(t: &[[u32; WORDS]; PLACES], n: usize, buying: bool, o: Resting) -> usize
     requires { ⌜ Holds n (now t) × (inRankOrder buying (side n (now t)) ≡ true) ⌝ }
     ensures { λ r. ⌜ r ≡ firstWhere (ranksBefore buying o) (side n (now (t .entry))) ⌝ }
 {
     rows::whole(t);
-    let mut i = 0;
-    while i < n {
-        if ranks_before(buying, o, rows::row(t, i)) {
-            return i;
+    let mut low = 0;
+    let mut high = n;
+    while low < high {
+        let middle = low + (high - low) / 2;
+        if ranks_before(buying, o, rows::row(t, middle)) {
+            high = middle;
+        } else {
+            low = middle + 1;
         }
-        i += 1;
     }
-    i
+    low
 }
