@@ -30,7 +30,7 @@ use Rattle.rules.specs.Instructions.{fok, postOnly, has}
 use Rattle.rules.specs.Refusals.{firstOf, orderPriceInRange, orderInRange, bodyRefusals, lineRefusals, refusals}
 use Rattle.rules.specs.Step.{doneBy, answer, answerTo}
 use Rattle.rules.specs.Working.{buying, takings, remainder, executions, ending, lastLine, oppositeSide, accept, does}
-use Rattle.soundness.proofs.LawsAccepted.{Accepted, accepted, AcceptedOrder, accepted-order}
+use Rattle.soundness.proofs.LawsAccepted.{InOrder, accepted, AcceptedOrder, accepted-order}
 use Rattle.soundness.proofs.LawsSides.{sides-of}
 use Rattle.soundness.proofs.LawsSound.{sound-is}
 use Rattle.demands.specs.Executes.{OneOf, Tells, Executes}
@@ -170,13 +170,13 @@ order-shares o r =
     shares-fewest (o .shares) (and-right (leb (o .side) 1) (sharesInRange (o .shares)) both)
 
 -- what no refusal of the line says of its command and of its order
-acts-accepted : (b : Book) (line : List ℕ) (c : Command) → acts b line ≡ true → commandIn line ≡ reading.Is c → Accepted b c
+acts-accepted : (b : Book) (line : List ℕ) (c : Command) → acts b line ≡ true → commandIn line ≡ reading.Is c → InOrder b c
 unfolding answerTo answer refusals firstOf
 acts-accepted b line c t e =
     let z : firstOf (lineRefusals b (commandIn line)) ≡ 0 = eqb-true (firstOf (lineRefusals b (commandIn line))) 0 t in
     accepted b c (subst (λ (a : Reading). firstOf (lineRefusals b a) ≡ 0) e z)
 
-acts-order : (b : Book) (c : Command) (o : Order) → Accepted b c → c .body ≡ body.Order o → AcceptedOrder b o
+acts-order : (b : Book) (c : Command) (o : Order) → InOrder b c → c .body ≡ body.Order o → AcceptedOrder b o
 acts-order b c o a f = accepted-order b o (subst (λ (x : Body). firstOf (bodyRefusals b x) ≡ 0) f (a .byBody))
 
 -- the lines of an accepted order are those of its work

@@ -29,7 +29,7 @@ use Rattle.rules.proofs.LawsRefusals.{first-numbered, table-numbered}
 use Rattle.soundness.proofs.LawsAccepted.{accepted}
 use Rattle.demands.proofs.LawsRoom.{done-long, fit-for}
 use Rattle.demands.proofs.LawsRuns.{Keeps, struck-out-end, struck-out-lines, struck-out-acts, each-once}
-use Rattle.demands.specs.Once.{EventLines, Refused, endOf, eventLinesOf, actingNumbers, struckOut, noneRefused, numberIn, acts, byLine, Call, returned, byCall}
+use Rattle.demands.specs.Once.{EventLines, Refused, endOf, eventLinesOf, actingNumbers, struckOut, noneRefused, commandNumber, acts, byLine, Call, returned, byCall}
 
 -- ── Any bytes, any record, any output ──
 
@@ -100,7 +100,7 @@ does-last n time (body.Quote away) b = refl
 does-last n time body.Close b = refl
 
 -- a line that no refusal is given for is a command with the number after the last, and leaves that number
-next-done : (b : Book) (a : Reading) → firstOf (lineRefusals b a) ≡ 0 → (numberIn a ≡ b .last .0 + 1) × (doneBy a b .book .last .0 ≡ b .last .0 + 1)
+next-done : (b : Book) (a : Reading) → firstOf (lineRefusals b a) ≡ 0 → (commandNumber a ≡ b .last .0 + 1) × (doneBy a b .book .last .0 ≡ b .last .0 + 1)
 unfolding doneBy lineRefusals firstOf
 next-done b reading.Bad e = let z : ⊥ = omega (arith, e) in absurd z
 next-done b (reading.Is c) e =
@@ -108,7 +108,7 @@ next-done b (reading.Is c) e =
     (next, rw (does-last (c .number) (c .time) (c .body) b) next)
 
 pub next-acts : (b : Book) (line : List ℕ) → acts b line ≡ true
-    → (numberIn (commandIn line) ≡ b .last .0 + 1) × (answerTo b line .book .last .0 ≡ b .last .0 + 1)
+    → (commandNumber (commandIn line) ≡ b .last .0 + 1) × (answerTo b line .book .last .0 ≡ b .last .0 + 1)
 unfolding answerTo answer refusals firstOf
 next-acts b line e =
     rw e (next-done b (commandIn line) (eqb-true (firstOf (lineRefusals b (commandIn line))) 0 e))
@@ -237,7 +237,7 @@ unfolding bookAfter
 repeat-refused b earlier between line again c d t first second same =
     let held = bookAfter b earlier in
     let next = next-acts held line t in
-    let number : c .number .0 ≡ held .last .0 + 1 = subst (λ (a : Reading). numberIn a ≡ held .last .0 + 1) first (next .0) in
+    let number : c .number .0 ≡ held .last .0 + 1 = subst (λ (a : Reading). commandNumber a ≡ held .last .0 + 1) first (next .0) in
     let alike : d .number .0 ≡ c .number .0 = ap (λ (n : Number). n .0) same in
     let since = after-rises (answerTo held line .book) between in
     let old : d .number .0 ≤ bookAfter b (earlier ++ (line ∷ between)) .last .0 =

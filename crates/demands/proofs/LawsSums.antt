@@ -29,7 +29,7 @@ use Rattle.rules.specs.Working.{buying, takings, remainder, executions, after, 
 use Rattle.soundness.proofs.LawsKept.{answer-sound, fresh-sound}
 use Rattle.soundness.proofs.LawsSides.{InRange, sides-of}
 use Rattle.soundness.proofs.LawsSound.{sound-is}
-use Rattle.demands.specs.Once.{numberIn, acts}
+use Rattle.demands.specs.Once.{commandNumber, acts}
 use Rattle.demands.specs.Run.{eventsOf, Enters, now, later}
 use Rattle.demands.specs.Told.{executedBy, cancelledBy, countedIf, executedIn, cancelledIn, restsOn, restingOf}
 use Rattle.demands.proofs.LawsHeld.{counted-same, counted-other, counted-split, takings-no-more, takings-at-most, executions-sum, executions-cancel-none, cancels-sum, cancels-all, cancels-execute-none, moves-sum, moves-execute-none, ending-sum, ending-leaves}
@@ -139,7 +139,7 @@ balance b line n s t c e =
 
 -- a line that acts is a command with the number after the last
 next-number : (b : Book) (line : List ℕ) → acts b line ≡ true → (c : Command) → commandIn line ≡ reading.Is c → c .number .0 ≡ b .last .0 + 1
-next-number b line t c e = subst (λ (a : Reading). numberIn a ≡ b .last .0 + 1) e (next-acts b line t .0)
+next-number b line t c e = subst (λ (a : Reading). commandNumber a ≡ b .last .0 + 1) e (next-acts b line t .0)
 
 -- under any other number it enters nothing
 acts-balance : (b : Book) (line : List ℕ) (n : Number) → sound b ≡ true → acts b line ≡ true → n .0 ≢ b .last .0 + 1
@@ -154,7 +154,7 @@ acts-balance b line n s t other = by-reading (commandIn line) refl
 
     by-reading : (a : Reading) → commandIn line ≡ a → restingOf n b ≡ goneIn n (answerTo b line .events) + restingOf n (answerTo b line .book)
     by-reading reading.Bad e =
-        let z : 0 ≡ b .last .0 + 1 = subst (λ (a : Reading). numberIn a ≡ b .last .0 + 1) e (next-acts b line t .0) in
+        let z : 0 ≡ b .last .0 + 1 = subst (λ (a : Reading). commandNumber a ≡ b .last .0 + 1) e (next-acts b line t .0) in
         let no : ⊥ = omega (arith, z) in
         absurd no
     by-reading (reading.Is c) e =

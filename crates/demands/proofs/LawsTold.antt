@@ -36,7 +36,7 @@ use Rattle.soundness.proofs.LawsEndings.{chosen, sought-is}
 use Rattle.soundness.proofs.LawsKept.{answer-sound}
 use Rattle.soundness.proofs.LawsSides.{InRange, sides-of}
 use Rattle.soundness.proofs.LawsSound.{sound-is}
-use Rattle.demands.specs.Once.{acts, numberIn}
+use Rattle.demands.specs.Once.{acts, commandNumber}
 use Rattle.demands.specs.Run.{eventsOf}
 use Rattle.demands.specs.ShareOut.{Each, empty, with}
 use Rattle.demands.specs.Told.{eventsOn, eventsIn}
@@ -169,10 +169,10 @@ header-number : {kind n time : ℕ} → Fitting headerForm (kind ∷ n ∷ time 
 header-number (fits w kind i (fits x n l (fits y time k empty))) = l
 
 -- so the number of a command that was read does
-number-fits : (line : List ℕ) → numberIn (commandIn line) < 2 ^ 32
+number-fits : (line : List ℕ) → commandNumber (commandIn line) < 2 ^ 32
 number-fits line = by-reading (commandIn line) refl
   where
-    by-reading : (r : Reading) → commandIn line ≡ r → numberIn r < 2 ^ 32
+    by-reading : (r : Reading) → commandIn line ≡ r → commandNumber r < 2 ^ 32
     by-reading reading.Bad e = omega arith
     by-reading (reading.Is c) e = header-number (commandIn-is line c e .fits-are .header)
 

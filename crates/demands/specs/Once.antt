@@ -77,9 +77,9 @@ noneRefused a b (c ∷ cs) = a .acts b c && noneRefused a (a .book b c) cs
 -- ── A day ──
 
 -- the number of the command that a line is, or 0 where it is none
-abbrev pub numberIn : Reading → ℕ
-numberIn (reading.Is c) = c .number .0
-numberIn reading.Bad = 0
+abbrev pub commandNumber : Reading → ℕ
+commandNumber (reading.Is c) = c .number .0
+commandNumber reading.Bad = 0
 
 -- a line acts on a book: it is not refused
 abbrev pub acts : Book → List ℕ → Bool
@@ -91,7 +91,7 @@ byLine = record {
   acts = acts;
   book = λ b line. answerTo b line .book;
   tells = λ b line. eventLines (answerTo b line .events);
-  number = λ line. numberIn (commandIn line);
+  number = λ line. commandNumber (commandIn line);
 }
 
 -- a call: a line, and the output that is lent with it
@@ -109,5 +109,5 @@ byCall = record {
   acts = λ r c. eqb (returned r c .refusal) 0;
   book = λ r c. returned r c .book;
   tells = λ r c. take (returned r c .length) (returned r c .out);
-  number = λ c. numberIn (commandIn (c .line));
+  number = λ c. commandNumber (commandIn (c .line));
 }

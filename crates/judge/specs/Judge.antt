@@ -5,8 +5,8 @@ use Rattle.rules.specs.Book.{Book}
 use Rattle.judge.specs.declared.Accepted.{Accepted}
 
 -- a book that has accepted just that; its sides and its away prices are of no account to the header
-abbrev pub bookWith : Accepted → Book
-bookWith a = record {
+abbrev pub bookHolding : Accepted → Book
+bookHolding a = record {
   last = a .last;
   time = a .time;
   away = record { bid = cents 0; offer = cents 0 };

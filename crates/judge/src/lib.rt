@@ -8,7 +8,7 @@ use rules::Order;
 ghost use mathlib.Core.Path.{_≡_};
 ghost use Rattle.rules.specs.Book.{awayInRange};
 ghost use Rattle.rules.specs.Refusals.{firstOf, isClose, headerRefusals, orderInRange};
-ghost use Rattle.judge.specs.Judge.{bookWith};
+ghost use Rattle.judge.specs.Judge.{bookHolding};
 
 // What the book last accepted, and whether it is closed.
 pub struct Accepted {
@@ -38,7 +38,7 @@ fn is_close(body: Body) -> bool
 // The lowest of refusals 4 to 7 that the header gets, or 0. The difference of the numbers is taken, so that the last number may
 // be the largest of four bytes.
 pub fn header_refusal(a: Accepted, c: Command) -> u8
-    ensures { λ r. ⌜ r ≡ firstOf (headerRefusals (bookWith a) c) ⌝ }
+    ensures { λ r. ⌜ r ≡ firstOf (headerRefusals (bookHolding a) c) ⌝ }
 {
     let number = c.number;
     let time = c.time;

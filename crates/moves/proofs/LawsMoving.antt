@@ -64,25 +64,22 @@ module _ (n : Number) (k : ℕ) (buy : Bool) (away : Away) {pre : List Resting} 
   moves-back b = rw (anew-back b, kept-first)
 
   -- it is set anew
-  anew : Resting
+  abbrev anew : Resting
   anew = setAt (lockingPrice buy away) (stamp n k) h
 
   lines-set : moveLines buy away (insert buy anew (pre ++ post)) ≡ moveLines buy away (pre ++ post)
-  unfolding anew
-  lines-set = lines-inserted buy away (setAt (lockingPrice buy away) (stamp n k) h) (set-stays buy away h (stamp n k)) (pre ++ post)
+  lines-set = lines-inserted buy away anew (set-stays buy away h (stamp n k)) (pre ++ post)
 
   anew-first : h .back ≡ false → setAnew n k buy away (pre ++ (h ∷ post)) ≡ anew ∷ setAnew n (suc k) buy away (pre ++ post)
-  unfolding setAnew anew
+  unfolding setAnew
   anew-first b = rw (anew-passed buy away n k alone (h ∷ post), anew-passed buy away n (suc k) alone post, crosses, b)
 
   anew-set : setAnew n (suc k) buy away (insert buy anew (pre ++ post)) ≡ setAnew n (suc k) buy away (pre ++ post)
-  unfolding anew
-  anew-set = anew-inserted buy away n (suc k) (setAt (lockingPrice buy away) (stamp n k) h) (set-stays buy away h (stamp n k)) (pre ++ post)
+  anew-set = anew-inserted buy away n (suc k) anew (set-stays buy away h (stamp n k)) (pre ++ post)
 
   kept-set : kept (wouldNowCross buy away) (insert buy anew (pre ++ post)) ≡ insert buy anew (kept (wouldNowCross buy away) (pre ++ post))
-  unfolding anew
   kept-set =
-      kept-inserted buy away (setAt (lockingPrice buy away) (stamp n k) h) (set-stays buy away h (stamp n k)) (λ y c. set-behind buy away h y (stamp n k) c) (pre ++ post)
+      kept-inserted buy away anew (set-stays buy away h (stamp n k)) (λ y c. set-behind buy away h y (stamp n k) c) (pre ++ post)
 
   moves-set : h .back ≡ false → afterMoves n k buy away (pre ++ (h ∷ post)) ≡ afterMoves n (suc k) buy away (insert buy anew (pre ++ post))
   unfolding afterMoves insertAll
@@ -150,103 +147,104 @@ module _ {n : Number} {buy : Bool} {away : Away} {first : ℕ} {s₀ : List Rest
   -- ── One that would now cross is cancelled or set anew ──
 
   module _ (l : at < length s) (crosses : wouldNowCross buy away (getD s at unused) ≡ true) where
-    h : Resting
-    h = getD s at unused
+    -- the order at the place, those behind it, all but it, its line, and itself as it is set anew
+    abbrev here : Resting
+    here = getD s at unused
 
-    e : Event
-    e = moveLine (lockingPrice buy away) (getD s at unused)
+    abbrev behind : List Resting
+    behind = drop (at + 1) s
 
-    -- the lines are one more, whichever it is
-    module _ (s′ : List Resting) (same : moveLines buy away s′ ≡ moveLines buy away (removeAt at s)) where
-      lines-now : moveLines buy away s ≡ e ∷ moveLines buy away s′
-      unfolding e
-      lines-now = rw same (ap (moveLines buy away) (parted s at l) ∙ lines-first n k buy away (getD s at unused) (drop (at + 1) s) (m .passed) crosses)
+    abbrev others : List Resting
+    others = removeAt at s
 
-      told-now : (m .told ++ (e ∷ [])) ++ moveLines buy away s′ ≡ moveLines buy away s₀
-      told-now = append-assoc (m .told) (e ∷ []) (moveLines buy away s′) ∙ ap (λ (es : List Event). m .told ++ es) (sym lines-now) ∙ m .lines
+    abbrev line : Event
+    line = moveLine (lockingPrice buy away) here
+
+    abbrev set : Resting
+    set = setAt (lockingPrice buy away) (stamp n k) here
+
+    -- the lines are one more, whether it is cancelled or set anew
+    module _ (s′ : List Resting) (same : moveLines buy away s′ ≡ moveLines buy away others) where
+      lines-now : moveLines buy away s ≡ line ∷ moveLines buy away s′
+      lines-now = rw same (ap (moveLines buy away) (parted s at l) ∙ lines-first n k buy away here behind (m .passed) crosses)
+
+      told-now : (m .told ++ (line ∷ [])) ++ moveLines buy away s′ ≡ moveLines buy away s₀
+      told-now = append-assoc (m .told) (line ∷ []) (moveLines buy away s′) ∙ ap (λ (es : List Event). m .told ++ es) (sym lines-now) ∙ m .lines
 
     -- there is room for its line
-    pub room-now : len + length (eventLine (moveLine (lockingPrice buy away) (getD s at unused))) ≤ length (eventLines (moveLines buy away s₀))
-    unfolding e
+    pub room-now : len + length (eventLine line) ≤ length (eventLines (moveLines buy away s₀))
     room-now =
-        let whole = told-now (removeAt at s) refl in
-        let both = ap (λ (es : List Event). length (eventLines es)) whole in
-        let parts : length (eventLines ((m .told ++ (e ∷ [])) ++ moveLines buy away (removeAt at s))) ≡ length (eventLines (m .told ++ (e ∷ []))) + length (eventLines (moveLines buy away (removeAt at s))) =
-        ap length (eventLines-append (m .told ++ (e ∷ [])) (moveLines buy away (removeAt at s))) ∙ length-append (eventLines (m .told ++ (e ∷ []))) (eventLines (moveLines buy away (removeAt at s))) in
-        omega (arith, both, parts, length-more (m .told) e, m .long)
+        let whole = ap (λ (es : List Event). length (eventLines es)) (told-now others refl) in
+        let parts = ap length (eventLines-append (m .told ++ (line ∷ [])) (moveLines buy away others)) in
+        let sizes = length-append (eventLines (m .told ++ (line ∷ []))) (eventLines (moveLines buy away others)) in
+        omega (arith, whole, parts, sizes, length-more (m .told) line, m .long)
 
-    long-now : len + length (eventLine e) ≡ length (eventLines (m .told ++ (e ∷ [])))
-    long-now = omega (arith, length-more (m .told) e, m .long)
+    long-now : len + length (eventLine line) ≡ length (eventLines (m .told ++ (line ∷ [])))
+    long-now = omega (arith, length-more (m .told) line, m .long)
 
-    written-now : ontoFrom len (eventLine e) out ≡ onto (eventLines (m .told ++ (e ∷ []))) out₀
+    written-now : ontoFrom len (eventLine line) out ≡ onto (eventLines (m .told ++ (line ∷ []))) out₀
     written-now =
-        ap (ontoFrom len (eventLine e)) (m .written)
-        ∙ onto-next (eventLines (m .told)) (eventLine e) out₀ len (sym (m .long))
-        ∙ ap (λ (x : List ℕ). onto x out₀) (sym (eventLines-more (m .told) e))
+        ap (ontoFrom len (eventLine line)) (m .written)
+        ∙ onto-next (eventLines (m .told)) (eventLine line) out₀ len (sym (m .long))
+        ∙ ap (λ (x : List ℕ). onto x out₀) (sym (eventLines-more (m .told) line))
 
-    front : take at (removeAt at s) ≡ take at s
-    front = take-at (take at s) (drop (at + 1) s) at (length-take-le at s (omega arith))
+    front : take at others ≡ take at s
+    front = take-at (take at s) behind at (length-take-le at s (omega arith))
 
-    pub ranked-now : inRankOrder buy (removeAt at s) ≡ true
-    ranked-now = ranked-but buy (take at s) (getD s at unused) (drop (at + 1) s) (rw (← parted s at l) (m .ranked))
+    pub ranked-now : inRankOrder buy others ≡ true
+    ranked-now = ranked-but buy (take at s) here behind (rw (← parted s at l) (m .ranked))
 
-    stamped-now : Earlier (stamp n k) (removeAt at s)
-    stamped-now = all-but (take at s) (getD s at unused) (drop (at + 1) s) (rw (← parted s at l) (m .stamped))
+    stamped-now : Earlier (stamp n k) others
+    stamped-now = all-but (take at s) here behind (rw (← parted s at l) (m .stamped))
 
-    moving-back : getD s at unused .back ≡ true
-        → Moving n buy away first s₀ out₀ (removeAt at s) at k (len + length (eventLine (moveLine (lockingPrice buy away) (getD s at unused)))) (ontoFrom len (eventLine (moveLine (lockingPrice buy away) (getD s at unused))) out)
-    unfolding e
-    moving-back b = record {
-      ends = sym (ap (afterMoves n k buy away) (parted s at l) ∙ moves-back n k buy away (getD s at unused) (drop (at + 1) s) (m .passed) crosses b) ∙ m .ends;
-      counts = ap (λ (x : List Resting). k + length x) (sym (ap (setAnew n k buy away) (parted s at l) ∙ anew-back n k buy away (getD s at unused) (drop (at + 1) s) (m .passed) crosses b)) ∙ m .counts;
-      told = m .told ++ (e ∷ []);
-      lines = told-now (removeAt at s) refl;
-      long = long-now;
-      written = written-now;
-      passed = rw front (m .passed);
-      ranked = ranked-now;
-      stamped = stamped-now;
-    }
-
-    x : Resting
-    x = setAt (lockingPrice buy away) (stamp n k) (getD s at unused)
-
-    moving-set : getD s at unused .back ≡ false
-        → Moving n buy away first s₀ out₀ (insert buy (setAt (lockingPrice buy away) (stamp n k) (getD s at unused)) (removeAt at s)) at (k + 1) (len + length (eventLine (moveLine (lockingPrice buy away) (getD s at unused)))) (ontoFrom len (eventLine (moveLine (lockingPrice buy away) (getD s at unused))) out)
-    unfolding e x anew
-    moving-set b =
-        let before = earlier-place n k (suc k) (omega arith) in
-        let later : Earlier (stamp n (suc k)) (removeAt at s) = all-alike (λ y p. earlier-transitive (y .stamp) (stamp n k) (stamp n (suc k)) p before) stamped-now in
-        let counted : length (setAnew n k buy away s) ≡ suc (length (setAnew n (suc k) buy away (insert buy x (removeAt at s)))) =
-        ap length (ap (setAnew n k buy away) (parted s at l) ∙ anew-first n k buy away (getD s at unused) (drop (at + 1) s) (m .passed) crosses b)
-        ∙ ap (λ (r : List Resting). suc (length r)) (sym (anew-set n k buy away (getD s at unused) (drop (at + 1) s) (m .passed) crosses)) in
-        rw (add-one k) (record {
-          ends = sym (ap (afterMoves n k buy away) (parted s at l) ∙ moves-set n k buy away (getD s at unused) (drop (at + 1) s) (m .passed) crosses b) ∙ m .ends;
-          counts = omega (arith, counted, m .counts);
-          told = m .told ++ (e ∷ []);
-          lines = told-now (insert buy x (removeAt at s)) (lines-set n k buy away (getD s at unused) (drop (at + 1) s) (m .passed) crosses);
+    moving-back : here .back ≡ true → Moving n buy away first s₀ out₀ others at k (len + length (eventLine line)) (ontoFrom len (eventLine line) out)
+    moving-back b =
+        let done = ap (afterMoves n k buy away) (parted s at l) ∙ moves-back n k buy away here behind (m .passed) crosses b in
+        let counted = ap (setAnew n k buy away) (parted s at l) ∙ anew-back n k buy away here behind (m .passed) crosses b in
+        record {
+          ends = sym done ∙ m .ends;
+          counts = ap (λ (x : List Resting). k + length x) (sym counted) ∙ m .counts;
+          told = m .told ++ (line ∷ []);
+          lines = told-now others refl;
           long = long-now;
           written = written-now;
-          passed = all-inserted buy x at (removeAt at s) (set-stays buy away (getD s at unused) (stamp n k)) (rw front (m .passed));
-          ranked = ranked-insert buy x (removeAt at s) stamped-now ranked-now;
-          stamped = added-all before (added-insert buy x (removeAt at s)) later;
+          passed = rw front (m .passed);
+          ranked = ranked-now;
+          stamped = stamped-now;
+        }
+
+    moving-set : here .back ≡ false → Moving n buy away first s₀ out₀ (insert buy set others) at (k + 1) (len + length (eventLine line)) (ontoFrom len (eventLine line) out)
+    moving-set b =
+        let before = earlier-place n k (suc k) (omega arith) in
+        let later : Earlier (stamp n (suc k)) others = all-alike (λ y p. earlier-transitive (y .stamp) (stamp n k) (stamp n (suc k)) p before) stamped-now in
+        let done = ap (afterMoves n k buy away) (parted s at l) ∙ moves-set n k buy away here behind (m .passed) crosses b in
+        let counted : length (setAnew n k buy away s) ≡ suc (length (setAnew n (suc k) buy away (insert buy set others))) =
+        ap length (ap (setAnew n k buy away) (parted s at l) ∙ anew-first n k buy away here behind (m .passed) crosses b)
+        ∙ ap (λ (r : List Resting). suc (length r)) (sym (anew-set n k buy away here behind (m .passed) crosses)) in
+        rw (add-one k) (record {
+          ends = sym done ∙ m .ends;
+          counts = omega (arith, counted, m .counts);
+          told = m .told ++ (line ∷ []);
+          lines = told-now (insert buy set others) (lines-set n k buy away here behind (m .passed) crosses);
+          long = long-now;
+          written = written-now;
+          passed = all-inserted buy set at others (set-stays buy away here (stamp n k)) (rw front (m .passed));
+          ranked = ranked-insert buy set others stamped-now ranked-now;
+          stamped = added-all before (added-insert buy set others) later;
         })
 
     pub lines-less : length (moveLines buy away s) ≡ suc (length (moveLines buy away (turned n k buy (lockingPrice buy away) at s)))
-    unfolding e x anew
     lines-less =
-        by-choice (λ (b : Bool). length (moveLines buy away s) ≡ suc (length (moveLines buy away (if b then removeAt at s else insert buy x (removeAt at s)))))
-        (getD s at unused .back)
-        (λ b. ap length (lines-now (removeAt at s) refl))
-        (λ b. ap length (lines-now (insert buy x (removeAt at s)) (lines-set n k buy away (getD s at unused) (drop (at + 1) s) (m .passed) crosses)))
+        by-choice (λ (b : Bool). length (moveLines buy away s) ≡ suc (length (moveLines buy away (if b then others else insert buy set others)))) (here .back)
+        (λ b. ap length (lines-now others refl))
+        (λ b. ap length (lines-now (insert buy set others) (lines-set n k buy away here behind (m .passed) crosses)))
 
-    pub moving-turned : Moving n buy away first s₀ out₀ (turned n k buy (lockingPrice buy away) at s) at (if getD s at unused .back then k else k + 1)
-        (len + length (eventLine (moveLine (lockingPrice buy away) (getD s at unused)))) (ontoFrom len (eventLine (moveLine (lockingPrice buy away) (getD s at unused))) out)
-    unfolding x e
+    pub moving-turned : Moving n buy away first s₀ out₀ (turned n k buy (lockingPrice buy away) at s) at (if here .back then k else k + 1)
+        (len + length (eventLine line)) (ontoFrom len (eventLine line) out)
     moving-turned =
-        by-choice (λ (b : Bool). Moving n buy away first s₀ out₀ (if b then removeAt at s else insert buy x (removeAt at s)) at (if b then k else k + 1)
-        (len + length (eventLine e)) (ontoFrom len (eventLine e) out))
-        (getD s at unused .back) moving-back moving-set
+        by-choice (λ (b : Bool). Moving n buy away first s₀ out₀ (if b then others else insert buy set others) at (if b then k else k + 1)
+        (len + length (eventLine line)) (ontoFrom len (eventLine line) out))
+        (here .back) moving-back moving-set
 
   -- ── At the end all that is left stays ──
 

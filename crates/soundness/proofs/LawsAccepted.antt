@@ -20,7 +20,7 @@ use Rattle.rules.proofs.LawsRefusals.{none-given}
 -- ── By the header ──
 
 -- the number is the next, the book is open and the time is one of the session
-pub record Accepted (b : Book) (c : Command) : Type 0 where
+pub record InOrder (b : Book) (c : Command) : Type 0 where
   pub next : c .number .0 ≡ b .last .0 + 1
   pub isOpen : b .closed ≡ false
   pub opened : leb opening (c .time) ≡ true
@@ -32,7 +32,7 @@ not-late : (close : Bool) (time : ℕ) → (if close then ltb closing time else 
 not-late true time e = ltb-false closing time e
 not-late false time e = let l : time < closing = leb-false closing time e in omega arith
 
-pub accepted : (b : Book) (c : Command) → firstOf (lineRefusals b (reading.Is c)) ≡ 0 → Accepted b c
+pub accepted : (b : Book) (c : Command) → firstOf (lineRefusals b (reading.Is c)) ≡ 0 → InOrder b c
 unfolding lineRefusals headerRefusals
 accepted b c e =
     let number = none-given 4 (leb (c .number .0) (b .last .0)) _ (omega arith) e in

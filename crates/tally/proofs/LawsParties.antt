@@ -29,7 +29,7 @@ use Rattle.rules.specs.Step.{doneBy, answer, answerTo}
 use Rattle.rules.specs.Working.{buying, oppositeSide, executions, lastLine, takings, remainder, ending, cancels, isNumber, wouldNowCross, moveLines, accept, cancel, quote, close, does}
 use Rattle.soundness.proofs.LawsSides.{sides-of}
 use Rattle.soundness.proofs.LawsSound.{sound-is}
-use Rattle.demands.specs.Once.{numberIn, acts}
+use Rattle.demands.specs.Once.{commandNumber, acts}
 use Rattle.demands.specs.Told.{executedBy}
 use Rattle.demands.proofs.LawsOnce.{next-acts}
 use Rattle.tally.specs.Tally.{executedShares}
@@ -110,7 +110,7 @@ does-two b n time (body.Cancel of) s next = all-both (cancels-two byCommand (isN
 does-two b n time (body.Quote away) s next = all-both (moves-two true away (b .buys)) (moves-two false away (b .sells))
 does-two b n time body.Close s next = all-both (cancels-two atClose (λ h. true) (b .buys)) (cancels-two atClose (λ h. true) (b .sells))
 
-done-two : (b : Book) (r : Reading) → sound b ≡ true → numberIn r ≡ b .last .0 + 1 → All TwoParties (doneBy r b .events)
+done-two : (b : Book) (r : Reading) → sound b ≡ true → commandNumber r ≡ b .last .0 + 1 → All TwoParties (doneBy r b .events)
 unfolding doneBy
 done-two b reading.Bad s next = none
 done-two b (reading.Is c) s next = does-two b (c .number) (c .time) (c .body) s next

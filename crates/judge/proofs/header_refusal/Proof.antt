@@ -8,7 +8,7 @@ use borrow.Author.Needs.{needs}
 use borrow.Author.Tests.{lt-ltb, le-ltb, le-leb, lt-leb}
 use Rattle.rules.specs.Book.{opening, closing}
 use Rattle.rules.specs.Refusals.{firstOf, isClose, untimely, headerRefusals}
-use Rattle.judge.specs.Judge.{bookWith}
+use Rattle.judge.specs.Judge.{bookHolding}
 use Rattle.judge.proofs.LawsJudge.{late-by-values}
 use Rattle.judge.proofs.header_refusal.Statement.{statement}
 use Rattle.judge.proofs.header_refusal.Tie as tie
@@ -46,7 +46,7 @@ returns-4 c =
     let a = called .before .before .args in
     let cl : called .is-close .result ≡ isClose (a .c .body) = called .is-close .ensures in
     let next : a .c .number .0 ≤ a .a .last .0 + 1 = omega arith in
-    let late : untimely (bookWith (a .a)) (a .c) ≡ true =
+    let late : untimely (bookHolding (a .a)) (a .c) ≡ true =
     sym (late-by-values (ltb (a .c .time) (a .a .time)) (ltb (a .c .time) opening) (isClose (a .c .body)) (ltb closing (a .c .time)) (leb closing (a .c .time)))
     ∙ (rw cl at (c .if4 .taken)) in
     rw (lt-leb _ _ (c .before .before .before .before .before .before .if1 .left), le-ltb _ _ next, c .before .before .if3 .left, late)
@@ -58,7 +58,7 @@ returns-5 c =
     let a = called .before .before .args in
     let cl : called .is-close .result ≡ isClose (a .c .body) = called .is-close .ensures in
     let next : a .c .number .0 ≤ a .a .last .0 + 1 = omega arith in
-    let timely : untimely (bookWith (a .a)) (a .c) ≡ false =
+    let timely : untimely (bookHolding (a .a)) (a .c) ≡ false =
     sym (late-by-values (ltb (a .c .time) (a .a .time)) (ltb (a .c .time) opening) (isClose (a .c .body)) (ltb closing (a .c .time)) (leb closing (a .c .time)))
     ∙ (rw cl at (c .if4 .left)) in
     rw (lt-leb _ _ (c .before .before .before .before .before .before .if1 .left), le-ltb _ _ next, c .before .before .if3 .left, timely)

@@ -39,30 +39,25 @@ goes-on-requires : tie.Need-goes-on-requires Inv-loop μ-loop
 goes-on-requires c κs = c .before .loop .inv .0
 
 -- where the loop goes on there is an order at the place, and it is the one that was read
-module _ (c : tie.After-row-arg Inv-loop μ-loop) where
-  going : goesOn (c .before .before .before .before .before .before .before .args .buying) (c .before .before .before .before .before .locking-price .result)
-      (c .before .before .before .before .loop .at) (side (c .before .before .before .before .loop .m .held) (c .before .before .before .before .loop .t)) ≡ true
-  going = sym (c .before .before .goes-on .ensures) ∙ c .before .if1 .taken
+going : (c : tie.After-row-arg Inv-loop μ-loop) → let l = c .before .before .before .before .loop in
+    goesOn (c .before .before .before .before .before .before .before .args .buying) (c .before .before .before .before .before .locking-price .result) (l .at) (side (l .m .held) (l .t)) ≡ true
+going c = sym (c .before .before .goes-on .ensures) ∙ c .before .if1 .taken
 
-  below : c .before .before .before .before .loop .at < c .before .before .before .before .loop .m .held
-  below =
-      let l = c .before .before .before .before .loop in
-      omega (
-        arith,
-        goes-below (c .before .before .before .before .before .before .before .args .buying) (c .before .before .before .before .before .locking-price .result) (side (l .m .held) (l .t)) (l .at) going,
-        length-side (l .m .held) (l .t) (l .inv .0),
-      )
+below : (c : tie.After-row-arg Inv-loop μ-loop) → let l = c .before .before .before .before .loop in l .at < l .m .held
+below c =
+    let l = c .before .before .before .before .loop in
+    let there = goes-below (c .before .before .before .before .before .before .before .args .buying) (c .before .before .before .before .before .locking-price .result) (side (l .m .held) (l .t)) (l .at) (going c) in
+    omega (arith, there, length-side (l .m .held) (l .t) (l .inv .0))
 
 row-requires : tie.Need-row-requires Inv-loop μ-loop
 row-requires c κs = let f = c .before .before .before .before .loop .inv .0 .fits in omega (arith, below c)
 
-order-is : (c : tie.After-row Inv-loop μ-loop) → c .row .result ≡ getD (side (c .before .before .before .before .before .loop .m .held) (c .before .before .before .before .before .loop .t)) (c .before .before .before .before .before .loop .at) unused
+order-is : (c : tie.After-row Inv-loop μ-loop) → let l = c .before .before .before .before .before .loop in c .row .result ≡ getD (side (l .m .held) (l .t)) (l .at) unused
 order-is c =
     let l = c .before .before .before .before .before .loop in
     c .row .ensures ∙ row-side (l .m .held) (l .t) (l .inv .0) (l .at) (below (c .before))
 
-shown-is : (c : tie.After-row Inv-loop μ-loop)
-    → c .row .result .displayed ≡ getD (side (c .before .before .before .before .before .loop .m .held) (c .before .before .before .before .before .loop .t)) (c .before .before .before .before .before .loop .at) unused .displayed
+shown-is : (c : tie.After-row Inv-loop μ-loop) → let l = c .before .before .before .before .before .loop in c .row .result .displayed ≡ getD (side (l .m .held) (l .t)) (l .at) unused .displayed
 shown-is c = ap (λ (o : Resting). o .displayed) (order-is c)
 
 add-at : tie.Need-add-at Inv-loop μ-loop
@@ -99,13 +94,14 @@ turn-requires c κs =
     )
 
 -- what a turn leaves
-turn-left : (c : tie.After-turn Inv-loop μ-loop)
-    → Holds (c .turn .result .held) (c .turn .last .0) × (c .before .before .before .before .before .before .before .before .before .loop .at ≤ c .turn .result .held)
-    × Going (c .before .before .before .before .before .before .before .before .before .before .before .before .args .number) (c .before .before .before .before .before .before .before .before .before .before .before .before .args .buying) (c .before .before .before .before .before .before .before .before .before .before .locking-price .result) (c .before .before .before .before .before .before .before .before .before .before .before .before .args .first)
-    (side (c .before .before .before .before .before .before .before .before .before .before .before .before .args .n) (now (c .before .before .before .before .before .before .before .before .before .before .before .before .args .t))) (now (c .before .before .before .before .before .before .before .before .before .before .before .before .args .out))
-    (side (c .turn .result .held) (c .turn .last .0)) (c .before .before .before .before .before .before .before .before .before .loop .at) (c .turn .result .next) (c .turn .result .length) (c .turn .last .1 .1 .1 .1 .1 .1 .1 .0)
-    × (toDo (c .before .before .before .before .before .before .before .before .before .before .before .before .args .buying) (c .before .before .before .before .before .before .before .before .before .before .locking-price .result) (side (c .turn .result .held) (c .turn .last .0)) (c .before .before .before .before .before .before .before .before .before .loop .at)
-    < toDo (c .before .before .before .before .before .before .before .before .before .before .before .before .args .buying) (c .before .before .before .before .before .before .before .before .before .before .locking-price .result) (side (c .before .before .before .before .before .before .before .before .before .loop .m .held) (c .before .before .before .before .before .before .before .before .before .loop .t)) (c .before .before .before .before .before .before .before .before .before .loop .at))
+turn-left : (c : tie.After-turn Inv-loop μ-loop) → let m = c .turn .result in
+    let t = c .turn .last .0 in
+    let l = c .before .before .before .before .before .before .before .before .before .loop in
+    let locking = c .before .before .before .before .before .before .before .before .before .before .locking-price .result in
+    let a = c .before .before .before .before .before .before .before .before .before .before .before .before .args in
+    Holds (m .held) t × (l .at ≤ m .held)
+    × Going (a .number) (a .buying) locking (a .first) (side (a .n) (now (a .t))) (now (a .out)) (side (m .held) t) (l .at) (m .next) (m .length) (c .turn .last .1 .1 .1 .1 .1 .1 .1 .0)
+    × (toDo (a .buying) locking (side (m .held) t) (l .at) < toDo (a .buying) locking (side (l .m .held) (l .t)) (l .at))
 turn-left c =
     let k = c .before .before .before .before in
     let l = k .before .before .before .before .before .loop in
