@@ -13,6 +13,7 @@ use Rattle.basics.proofs.LawsLists.{map-append, map-take}
 use Rattle.kinds.specs.Kinds.{cents, shares, number}
 use Rattle.rules.specs.declared.Resting.{Resting}
 use Rattle.rules.specs.Book.{Book, Places, placesASide, stamp, unused, isUnused, placesSound, placesOf, bookIn, recordOf, sound, recordSound}
+use Rattle.soundness.proofs.LawsRecords.{unused-is}
 use Rattle.rows.specs.Table.{orderOf, rowOf, noRow, side, tableOf, Holds}
 use Rattle.rows.proofs.LawsTable.{orders-rows}
 use Rattle.tables.specs.declared.Head.{Head}
@@ -37,38 +38,12 @@ pub book-loaded : (b : value.Book) → bookOn (headIn b) (map rowOf (b .buys .pl
 unfolding bookIn
 book-loaded b = rw (side-loaded (b .buys .used) (b .buys .places), side-loaded (b .sells .used) (b .sells .places))
 
--- a place that passes for unused is all zero
-is-zero : (o : Resting) → isUnused o ≡ true → o ≡ unused
-is-zero o e =
-    let numbered = eqb (o .number .0) 0 in
-    let priced = numbered && eqb (o .price .0) 0 in
-    let counted = priced && eqb (o .shares .0) 0 in
-    let shown = counted && not (o .displayed) in
-    let chosen = shown && not (o .back) in
-    let stamped = chosen && eqb (o .stamp .command .0) 0 in
-    let byStamped : stamped ≡ true = and-left stamped (eqb (o .stamp .place) 0) e in
-    let byChosen : chosen ≡ true = and-left chosen (eqb (o .stamp .command .0) 0) byStamped in
-    let byShown : shown ≡ true = and-left shown (not (o .back)) byChosen in
-    let byCounted : counted ≡ true = and-left counted (not (o .displayed)) byShown in
-    let byPriced : priced ≡ true = and-left priced (eqb (o .shares .0) 0) byCounted in
-    made
-    (eqb-true (o .number .0) 0 (and-left numbered (eqb (o .price .0) 0) byPriced))
-    (eqb-true (o .price .0) 0 (and-right numbered (eqb (o .price .0) 0) byPriced))
-    (eqb-true (o .shares .0) 0 (and-right priced (eqb (o .shares .0) 0) byCounted))
-    (not-true (o .displayed) (and-right counted (not (o .displayed)) byShown))
-    (not-true (o .back) (and-right shown (not (o .back)) byChosen))
-    (eqb-true (o .stamp .command .0) 0 (and-right chosen (eqb (o .stamp .command .0) 0) byStamped))
-    (eqb-true (o .stamp .place) 0 (and-right stamped (eqb (o .stamp .place) 0) e))
-  where
-    made : {n p s c k : ℕ} {d b : Bool} → n ≡ 0 → p ≡ 0 → s ≡ 0 → d ≡ false → b ≡ false → c ≡ 0 → k ≡ 0
-        → record { number = number n; price = cents p; shares = shares s; displayed = d; back = b; stamp = stamp (number c) k } ≡ unused
-    made e f g h i j l = rw (e, f, g, h, i, j, l)
-
+-- unused places are rows of zeros
 all-zero : (s : List Resting) → every isUnused s ≡ true → map rowOf s ≡ replicate (length s) noRow
 unfolding every
 all-zero [] e = refl
 all-zero (o ∷ s) e =
-    let z : o ≡ unused = is-zero o (and-left (isUnused o) (every isUnused s) e) in
+    let z : o ≡ unused = unused-is o (and-left (isUnused o) (every isUnused s) e) in
     let t : map rowOf s ≡ replicate (length s) noRow = all-zero s (and-right (isUnused o) (every isUnused s) e) in
     rw (z, t)
 

@@ -9,7 +9,7 @@ use lib.Dec.{eqb, leb}
 use lib.ListN.{getD}
 use native.Mathlib.Omega.{arith}
 use borrow.Author.Tests.{ne-eqb, eqb-true, eqb-false, leb-true, not-true}
-use Rattle.basics.specs.Lists.{total, none}
+use Rattle.basics.specs.Lists.{total, none, OneOf}
 use Rattle.basics.proofs.LawsChoice.{holds-or-not, and-left, and-right}
 use Rattle.basics.proofs.LawsLists.{all-alike, all-both, sumOf-append}
 use Rattle.kinds.specs.declared.Number.{Number}
@@ -33,7 +33,7 @@ use Rattle.rules.specs.Working.{buying, takings, remainder, executions, ending,
 use Rattle.soundness.proofs.LawsAccepted.{InOrder, accepted, AcceptedOrder, accepted-order}
 use Rattle.soundness.proofs.LawsSides.{sides-of}
 use Rattle.soundness.proofs.LawsSound.{sound-is}
-use Rattle.demands.specs.Executes.{OneOf, Tells, Executes}
+use Rattle.demands.specs.Executes.{Tells, Executes}
 use Rattle.demands.specs.Once.{acts}
 use Rattle.demands.specs.ShareOut.{Given, Each, Fair, given, Lawful, Fills}
 use Rattle.demands.specs.Told.{executedBy, cancelledBy, executedIn, givenIn, cancelledIn, isKilled}
@@ -159,7 +159,7 @@ module _ (m : Number) (o : Order) (away : Away) (s : List Resting) (w : Works m 
 -- ── An accepted line ──
 
 -- an order that is accepted is a buy or a sell of at least one share
-order-side : (o : Order) → orderInRange o ≡ true → o .side ≤ 1
+pub order-side : (o : Order) → orderInRange o ≡ true → o .side ≤ 1
 order-side o r =
     leb-true (o .side) 1
     (and-left (leb (o .side) 1) (sharesInRange (o .shares)) (and-left (leb (o .side) 1 && sharesInRange (o .shares)) (orderPriceInRange o) r))
@@ -170,17 +170,17 @@ order-shares o r =
     shares-fewest (o .shares) (and-right (leb (o .side) 1) (sharesInRange (o .shares)) both)
 
 -- what no refusal of the line says of its command and of its order
-acts-accepted : (b : Book) (line : List ℕ) (c : Command) → acts b line ≡ true → commandIn line ≡ reading.Is c → InOrder b c
+pub acts-accepted : (b : Book) (line : List ℕ) (c : Command) → acts b line ≡ true → commandIn line ≡ reading.Is c → InOrder b c
 unfolding answerTo answer refusals firstOf
 acts-accepted b line c t e =
     let z : firstOf (lineRefusals b (commandIn line)) ≡ 0 = eqb-true (firstOf (lineRefusals b (commandIn line))) 0 t in
     accepted b c (subst (λ (a : Reading). firstOf (lineRefusals b a) ≡ 0) e z)
 
-acts-order : (b : Book) (c : Command) (o : Order) → InOrder b c → c .body ≡ body.Order o → AcceptedOrder b o
+pub acts-order : (b : Book) (c : Command) (o : Order) → InOrder b c → c .body ≡ body.Order o → AcceptedOrder b o
 acts-order b c o a f = accepted-order b o (subst (λ (x : Body). firstOf (bodyRefusals b x) ≡ 0) f (a .byBody))
 
 -- the lines of an accepted order are those of its work
-acts-lines : (b : Book) (line : List ℕ) (c : Command) (o : Order) → acts b line ≡ true → commandIn line ≡ reading.Is c → c .body ≡ body.Order o
+pub acts-lines : (b : Book) (line : List ℕ) (c : Command) (o : Order) → acts b line ≡ true → commandIn line ≡ reading.Is c → c .body ≡ body.Order o
     → answerTo b line .events ≡ linesOf (c .number) o (b .away) (oppositeSide (buying o) b)
 unfolding answerTo answer doneBy does accept
 acts-lines b line c o t e f = rw t (rw e (rw f refl))

@@ -9,7 +9,7 @@ use lib.Dec.{eqb}
 use lib.ListN.{length, getD}
 use native.Mathlib.Omega.{arith}
 use borrow.Author.Tests.{eq-eqb, ne-eqb, eqb-true, eqb-false, not-true}
-use Rattle.basics.specs.Lists.{any, distinct, total, sumOf, All, none, also}
+use Rattle.basics.specs.Lists.{any, distinct, total, sumOf, All, none, also, OneOf, first, later}
 use Rattle.basics.proofs.LawsChoice.{holds-or-not, and-left, and-right, or-neither}
 use Rattle.basics.proofs.LawsLists.{all-alike}
 use Rattle.kinds.specs.declared.Cents.{Cents}
@@ -30,7 +30,7 @@ use Rattle.rules.specs.Working.{isNumber, executions, endingWith, lastLine}
 use Rattle.soundness.proofs.LawsRank.{ranks-not-itself, ranked-first, ranked-rest, ranks-transitive}
 use Rattle.soundness.proofs.LawsSides.{bothSides, Sides, all-holding, sides-thinned}
 use Rattle.soundness.proofs.LawsThinned.{thinned-none, thinned-same}
-use Rattle.demands.specs.Executes.{OneOf, first, later, Tells, Between}
+use Rattle.demands.specs.Executes.{Tells, Between}
 use Rattle.demands.specs.ShareOut.{Given, Each, empty, with}
 use Rattle.demands.specs.Told.{executedIn, givenIn, cancelledIn, pricesIn, isKilled}
 use Rattle.soundness.proofs.LawsEndings.{chosen, sought-is}
@@ -91,13 +91,13 @@ not-among n (h ∷ s) e =
     also (eqb-false (n .0) (h .number .0) (both .0)) (not-among n s (both .1))
 
 -- the first number of such a side is none of the others, which stand once too
-once-first : (h : Resting) (s : List Resting) → onceEach (h ∷ s) ≡ true → NoneIs (h .number) s
+pub once-first : (h : Resting) (s : List Resting) → onceEach (h ∷ s) ≡ true → NoneIs (h .number) s
 unfolding distinct
 once-first h s d =
     let others = any (eqb (h .number .0)) (numbers s) in
     not-among (h .number) s (not-true others (and-left (not others) (onceEach s) d))
 
-once-rest : (h : Resting) (s : List Resting) → onceEach (h ∷ s) ≡ true → onceEach s ≡ true
+pub once-rest : (h : Resting) (s : List Resting) → onceEach (h ∷ s) ≡ true → onceEach s ≡ true
 unfolding distinct
 once-rest h s d = and-right (not (any (eqb (h .number .0)) (numbers s))) (onceEach s) d
 
@@ -289,7 +289,7 @@ place-in first = omega arith
 place-in (later p) = omega (arith, place-in p)
 
 -- what holds of all of a list holds of one of it
-one-of-all : {A : Type 0} {P : A → Type 0} {x : A} {s : List A} → All P s → OneOf x s → P x
+pub one-of-all : {A : Type 0} {P : A → Type 0} {x : A} {s : List A} → All P s → OneOf x s → P x
 one-of-all (also p a) first = p
 one-of-all (also p a) (later q) = one-of-all a q
 

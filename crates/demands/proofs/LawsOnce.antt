@@ -29,7 +29,7 @@ use Rattle.rules.proofs.LawsRefusals.{first-numbered, table-numbered}
 use Rattle.soundness.proofs.LawsAccepted.{accepted}
 use Rattle.demands.proofs.LawsRoom.{done-long, fit-for}
 use Rattle.demands.proofs.LawsRuns.{Keeps, struck-out-end, struck-out-lines, struck-out-acts, each-once}
-use Rattle.demands.specs.Once.{EventLines, Refused, endOf, eventLinesOf, actingNumbers, struckOut, noneRefused, commandNumber, acts, byLine, Call, returned, byCall}
+use Rattle.demands.specs.Once.{EventLines, Refused, endOf, eventLinesOf, actingNumbers, struckOut, noneRefused, commandNumber, acts, byLine, Call, readingOf, returned, byCall}
 
 -- ── Any bytes, any record, any output ──
 
@@ -116,7 +116,7 @@ next-acts b line e =
 -- ── A day of lines ──
 
 -- lines keep to what `LawsRuns` asks of a kind
-by-line-keeps : Keeps byLine (λ (b : Book). b .last .0)
+pub by-line-keeps : Keeps byLine (λ (b : Book). b .last .0)
 unfolding eventLines
 by-line-keeps = record {
   sameBook = refused-book;
@@ -125,7 +125,7 @@ by-line-keeps = record {
 }
 
 -- a run of lines ends with the book after it
-end-is : (b : Book) (lines : List (List ℕ)) → endOf byLine b lines ≡ bookAfter b lines
+pub end-is : (b : Book) (lines : List (List ℕ)) → endOf byLine b lines ≡ bookAfter b lines
 unfolding endOf bookAfter
 end-is b [] = refl
 end-is b (l ∷ ls) = end-is (answerTo b l .book) ls
@@ -163,16 +163,16 @@ lines-print b lines = prints-events b (struckOut byLine b lines) (lines-act b li
 
 -- a call that is not refused is a command with the number after the last, and leaves that number
 call-next : (r : BookRecord) (c : Call) → byCall .acts r c ≡ true
-    → (byCall .number c ≡ r .last .0 + 1) × (byCall .book r c .last .0 ≡ r .last .0 + 1)
-unfolding step stepOn answer bookIn recordOf
+    → (commandNumber (readingOf (c .asks)) ≡ r .last .0 + 1) × (byCall .book r c .last .0 ≡ r .last .0 + 1)
+unfolding stepOn answer bookIn recordOf
 call-next r c t =
-    let a = commandIn (c .line) in
+    let a = readingOf (c .asks) in
     let none = fit-for (length (c .out)) r a (eqb-true (returned r c .refusal) 0 t) .2 in
     let next = next-done (bookIn r) a none in
     (next .0, rw t (next .1))
 
 -- calls keep to what `LawsRuns` asks of a kind
-by-call-keeps : Keeps byCall (λ (r : BookRecord). r .last .0)
+pub by-call-keeps : Keeps byCall (λ (r : BookRecord). r .last .0)
 by-call-keeps = record {
   sameBook = λ r c t. refused r c t .0;
   noLine = λ r c t. rw (refused r c t .2) refl;
@@ -181,7 +181,7 @@ by-call-keeps = record {
   where
     refused : (r : BookRecord) (c : Call) → byCall .acts r c ≡ false
         → (returned r c .book ≡ r) × (returned r c .out ≡ c .out) × (returned r c .length ≡ 0)
-    refused r c t = refusal-touches-nothing r (c .line) (c .out) (eqb-false (returned r c .refusal) 0 t)
+    refused r c t = refused-step r (readingOf (c .asks)) (c .out) t
 
 -- each command number acts at most once
 pub calls-once : (r : BookRecord) (calls : List Call) → distinct (actingNumbers byCall r calls) ≡ true

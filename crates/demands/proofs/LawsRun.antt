@@ -10,15 +10,11 @@ use native.Mathlib.Omega.{arith}
 use borrow.Author.Tests.{le-ltb}
 use Rattle.basics.specs.Bytes.{onto}
 use Rattle.basics.specs.Choice.{if_then_else_}
-use Rattle.basics.specs.Lists.{All}
 use Rattle.basics.proofs.LawsChoice.{holds-or-not}
 use Rattle.kinds.specs.declared.Number.{Number}
-use Rattle.rules.specs.declared.Away.{Away}
-use Rattle.rules.specs.declared.Body.the-variants as body
 use Rattle.rules.specs.declared.Command.{Command}
 use Rattle.rules.specs.declared.Order.{Order}
 use Rattle.rules.specs.declared.Reading.the-variants as reading
-use Rattle.rules.specs.declared.Resting.{Resting}
 use Rattle.rules.specs.Book.{Book, fresh, sound, recordOf}
 use Rattle.rules.specs.CommandLines.{commandIn}
 use Rattle.rules.specs.Day.{printed, bookAfter, printedOf}
@@ -26,16 +22,15 @@ use Rattle.rules.specs.EventLines.{eventLines}
 use Rattle.rules.specs.Instructions.{postOnly, has}
 use Rattle.rules.specs.Refusals.{leastRoom, firstOf, lineRefusals, refusals}
 use Rattle.rules.specs.Step.{doneBy, answer, answerTo, step, stepOn}
-use Rattle.rules.specs.Working.{wouldNowCross, setAnew, firstMove, quote, does}
+use Rattle.rules.specs.Working.{does}
 use Rattle.soundness.proofs.LawsKept.{answer-sound, fresh-sound, book-record, record-sound}
-use Rattle.soundness.proofs.LawsMoves.{moves-stay}
 use Rattle.demands.specs.Executes.{Executes}
-use Rattle.demands.specs.Once.{acts}
+use Rattle.demands.specs.Once.{acts, byLine}
 use Rattle.demands.specs.Run.{eventsOf, Enters, now, later}
 use Rattle.demands.specs.Told.{eventsIn, executedIn, cancelledIn, restingOf}
 use Rattle.demands.proofs.LawsExecutes.{executes}
-use Rattle.demands.proofs.LawsSums.{conserved}
-use Rattle.demands.proofs.LawsTold.{last-fits, line-told, run-told}
+use Rattle.demands.proofs.LawsSums.{settled, conserved-from}
+use Rattle.demands.proofs.LawsTold.{line-told, run-told}
 
 -- ── A call in a day ──
 
@@ -68,37 +63,41 @@ pub accepted-does : (b : Book) (line : List ℕ) (c : Command) → commandIn lin
 unfolding answerTo answer doneBy
 accepted-does b line c is t = (rw (t, is) refl, rw (t, is) refl)
 
--- after an accepted quote no order would cross it (02, W2)
-pub quote-crossed-by-none : (b : Book) (line : List ℕ) (n : Number) (time : ℕ) (away : Away)
-    → commandIn line ≡ reading.Is (record { number = n; time = time; body = body.Quote away }) → acts b line ≡ true
-    → All (λ (h : Resting). wouldNowCross true away h ≡ false) (answerTo b line .book .buys)
-    × All (λ (h : Resting). wouldNowCross false away h ≡ false) (answerTo b line .book .sells)
-unfolding does quote
-quote-crossed-by-none b line n time away is t =
-    let d = accepted-does b line (record { number = n; time = time; body = body.Quote away }) is t in
-    rw (d .0) (moves-stay true away n firstMove (b .buys), moves-stay false away n (firstMove + length (setAnew n firstMove true away (b .buys))) (b .sells))
-
 -- ── Demand 3 ──
 
--- the last number that was accepted fits the four bytes that it was read from
-fresh-last : fresh .last .0 < 2 ^ 32
-fresh-last = omega arith
+-- From any sound book.
 
-executes-from : {b : Book} {lines : List (List ℕ)} {stood : Book} {line : List ℕ} {c : Command} {o : Order} → sound b ≡ true → b .last .0 < 2 ^ 32
-    → Enters b lines stood line c o → has (o .word) postOnly ≡ false → Executes stood c o (eventsIn (printed (answerTo stood line)))
-executes-from s l (now {b = b} {l = line} {c = c} {o = o} t e f) notPostOnly =
-    subst (Executes b c o) (sym (line-told b line s l)) (executes b line c o s t e f notPostOnly)
-executes-from s l (later {b = b} {l = line} r) notPostOnly = executes-from (answer-sound b line s) (last-fits b line l) r notPostOnly
+-- each order that enters executes the greatest lawful total
+pub executes-from : {b : Book} {lines : List (List ℕ)} {stood : Book} {line : List ℕ} {c : Command} {o : Order} → sound b ≡ true
+    → Enters byLine b lines stood line c o → has (o .word) postOnly ≡ false → Executes stood c o (eventsIn (printed (answerTo stood line)))
+executes-from s (now {b = b} {x = line} {c = c} {o = o} t e f) notPostOnly =
+    subst (Executes b c o) (sym (line-told b line s)) (executes b line c o s t e f notPostOnly)
+executes-from s (later {b = b} {x = line} r) notPostOnly = executes-from (answer-sound b line s) r notPostOnly
 
-pub run-executes : (lines : List (List ℕ)) (stood : Book) (line : List ℕ) (c : Command) (o : Order) → Enters fresh lines stood line c o
+-- the shares of each order that enters are executed, cancelled or rest
+pub told-conserved : {b : Book} {lines : List (List ℕ)} {stood : Book} {line : List ℕ} {c : Command} {o : Order} → sound b ≡ true
+    → Enters byLine b lines stood line c o
+    → o .shares .0
+    ≡ executedIn (c .number) (eventsIn (printedOf b lines)) + cancelledIn (c .number) (eventsIn (printedOf b lines))
+    + restingOf (c .number) (bookAfter b lines)
+told-conserved {b = b} {lines = lines} s r = rw (run-told b lines s) (conserved-from s r)
+
+-- and so are those of each order that rested already
+pub told-settled : (n : Number) (b : Book) (lines : List (List ℕ)) → sound b ≡ true → n .0 ≤ b .last .0
+    → restingOf n b
+    ≡ executedIn n (eventsIn (printedOf b lines)) + cancelledIn n (eventsIn (printedOf b lines)) + restingOf n (bookAfter b lines)
+told-settled n b lines s old = rw (run-told b lines s) (settled n b lines s old)
+
+-- the same from a fresh book
+pub run-executes : (lines : List (List ℕ)) (stood : Book) (line : List ℕ) (c : Command) (o : Order) → Enters byLine fresh lines stood line c o
     → has (o .word) postOnly ≡ false → Executes stood c o (eventsIn (printed (answerTo stood line)))
-run-executes lines stood line c o r notPostOnly = executes-from fresh-sound fresh-last r notPostOnly
+run-executes lines stood line c o r notPostOnly = executes-from fresh-sound r notPostOnly
 
 pub run-read : (lines : List (List ℕ)) → eventsIn (printedOf fresh lines) ≡ eventsOf fresh lines
-run-read lines = run-told fresh lines fresh-sound fresh-last
+run-read lines = run-told fresh lines fresh-sound
 
-pub run-conserved : (lines : List (List ℕ)) (stood : Book) (line : List ℕ) (c : Command) (o : Order) → Enters fresh lines stood line c o
+pub run-conserved : (lines : List (List ℕ)) (stood : Book) (line : List ℕ) (c : Command) (o : Order) → Enters byLine fresh lines stood line c o
     → o .shares .0
     ≡ executedIn (c .number) (eventsIn (printedOf fresh lines)) + cancelledIn (c .number) (eventsIn (printedOf fresh lines))
     + restingOf (c .number) (bookAfter fresh lines)
-run-conserved lines stood line c o r = rw (run-read lines) (conserved lines stood line c o r)
+run-conserved lines stood line c o r = told-conserved fresh-sound r

@@ -10,13 +10,13 @@ use native.Mathlib.Omega.{arith}
 use borrow.Author.Tests.{ne-eqb}
 use Rattle.basics.specs.Lists.{any, distinct}
 use Rattle.basics.proofs.LawsChoice.{holds-or-not}
-use Rattle.demands.specs.Once.{Answering, endOf, eventLinesOf, actingNumbers, struckOut, noneRefused}
+use Rattle.demands.specs.Once.{Answering, commandNumber, endOf, eventLinesOf, actingNumbers, struckOut, noneRefused}
 
 -- what a kind must keep to; `last` is the last number that a book accepted
 pub record Keeps {B C : Type 0} (a : Answering B C) (last : B → ℕ) : Type 0 where
   pub sameBook : (b : B) (c : C) → a .acts b c ≡ false → a .book b c ≡ b
   pub noLine : (b : B) (c : C) → a .acts b c ≡ false → a .tells b c ≡ []
-  pub next : (b : B) (c : C) → a .acts b c ≡ true → (a .number c ≡ last b + 1) × (last (a .book b c) ≡ last b + 1)
+  pub next : (b : B) (c : C) → a .acts b c ≡ true → (commandNumber (a .reading c) ≡ last b + 1) × (last (a .book b c) ≡ last b + 1)
 
 -- ── The refused commands struck out ──
 

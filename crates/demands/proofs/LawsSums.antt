@@ -29,7 +29,7 @@ use Rattle.rules.specs.Working.{buying, takings, remainder, executions, after, 
 use Rattle.soundness.proofs.LawsKept.{answer-sound, fresh-sound}
 use Rattle.soundness.proofs.LawsSides.{InRange, sides-of}
 use Rattle.soundness.proofs.LawsSound.{sound-is}
-use Rattle.demands.specs.Once.{commandNumber, acts}
+use Rattle.demands.specs.Once.{commandNumber, acts, byLine}
 use Rattle.demands.specs.Run.{eventsOf, Enters, now, later}
 use Rattle.demands.specs.Told.{executedBy, cancelledBy, countedIf, executedIn, cancelledIn, restsOn, restingOf}
 use Rattle.demands.proofs.LawsHeld.{counted-same, counted-other, counted-split, takings-no-more, takings-at-most, executions-sum, executions-cancel-none, cancels-sum, cancels-all, cancels-execute-none, moves-sum, moves-execute-none, ending-sum, ending-leaves}
@@ -161,7 +161,7 @@ acts-balance b line n s t other = by-reading (commandIn line) refl
         omega (arith, balance b line n s t c e, entered-none c (c .body) (next-number b line t c e))
 
 -- nothing more enters under a number that is not above the last
-settled : (n : Number) (b : Book) (lines : List (List ℕ)) → sound b ≡ true → n .0 ≤ b .last .0
+pub settled : (n : Number) (b : Book) (lines : List (List ℕ)) → sound b ≡ true → n .0 ≤ b .last .0
     → restingOf n b ≡ goneIn n (eventsOf b lines) + restingOf n (bookAfter b lines)
 unfolding eventsOf bookAfter sumOf
 settled n b [] s l = omega arith
@@ -184,9 +184,9 @@ settled n b (line ∷ lines) s l =
     (holds-or-not (acts b line))
 
 -- an order that enters has a number above the last
-enters-above : {b : Book} {lines : List (List ℕ)} {stood : Book} {entry : List ℕ} {c : Command} {o : Order} → Enters b lines stood entry c o → b .last .0 < c .number .0
-enters-above (now {b = b} {l = line} {c = c} t e f) = omega (arith, next-number b line t c e)
-enters-above (later {b = b} {l = line} r) = omega (arith, answer-rises b line, enters-above r)
+enters-above : {b : Book} {lines : List (List ℕ)} {stood : Book} {entry : List ℕ} {c : Command} {o : Order} → Enters byLine b lines stood entry c o → b .last .0 < c .number .0
+enters-above (now {b = b} {x = line} {c = c} t e f) = omega (arith, next-number b line t c e)
+enters-above (later {b = b} {x = line} r) = omega (arith, answer-rises b line, enters-above r)
 
 -- nothing rests under a number above the last
 above-none : (n : Number) {last : Number} {s : List Resting} → last .0 < n .0 → All (InRange last) s → restsOn n s ≡ 0
@@ -204,10 +204,10 @@ above-rests-none n b s l =
 entered-order : (n : Number) (c : Command) (o : Order) → n .0 ≡ c .number .0 → c .body ≡ body.Order o → enteredUnder n c ≡ o .shares .0
 entered-order n c o e f = rw f (counted-same n (c .number) (o .shares .0) e)
 
-conserved-from : {b : Book} {lines : List (List ℕ)} {stood : Book} {entry : List ℕ} {c : Command} {o : Order} → sound b ≡ true → Enters b lines stood entry c o
+pub conserved-from : {b : Book} {lines : List (List ℕ)} {stood : Book} {entry : List ℕ} {c : Command} {o : Order} → sound b ≡ true → Enters byLine b lines stood entry c o
     → o .shares .0 ≡ goneIn (c .number) (eventsOf b lines) + restingOf (c .number) (bookAfter b lines)
 unfolding eventsOf bookAfter
-conserved-from s (now {b = b} {l = line} {ls = lines} {c = c} {o = o} t e f) =
+conserved-from s (now {b = b} {x = line} {xs = lines} {c = c} {o = o} t e f) =
     let book = answerTo b line .book in
     let next = next-number b line t c e in
     let last = next-acts b line t .1 in
@@ -219,7 +219,7 @@ conserved-from s (now {b = b} {l = line} {ls = lines} {c = c} {o = o} t e f) =
       above-rests-none (c .number) b s (omega (arith, next)),
       settled (c .number) book lines (answer-sound b line s) (omega (arith, next, last)),
     )
-conserved-from s (later {b = b} {l = line} {ls = lines} {stood = stood} {c = c} {o = o} r) =
+conserved-from s (later {b = b} {x = line} {xs = lines} {stood = stood} {c = c} {o = o} r) =
     let book = answerTo b line .book in
     let ih = conserved-from (answer-sound b line s) r in
     ⊎-elim
@@ -238,7 +238,7 @@ conserved-from s (later {b = b} {l = line} {ls = lines} {stood = stood} {c = c} 
     (holds-or-not (acts b line))
 
 -- over any run from a fresh book, for each accepted order: shares entered = executed + cancelled + resting
-pub conserved : (lines : List (List ℕ)) (stood : Book) (entry : List ℕ) (c : Command) (o : Order) → Enters fresh lines stood entry c o
+pub conserved : (lines : List (List ℕ)) (stood : Book) (entry : List ℕ) (c : Command) (o : Order) → Enters byLine fresh lines stood entry c o
     → o .shares .0
     ≡ executedIn (c .number) (eventsOf fresh lines) + cancelledIn (c .number) (eventsOf fresh lines) + restingOf (c .number) (bookAfter fresh lines)
 conserved lines stood entry c o r = conserved-from fresh-sound r

@@ -27,7 +27,7 @@ use Rattle.rules.specs.declared.Resting.{Resting}
 use Rattle.rules.specs.Book.{Book, sound}
 use Rattle.rules.specs.CommandLines.{Fitting, empty, fits, headerForm, orderForm, quoteForm, numbersOf, formOf, commandIn}
 use Rattle.rules.specs.Day.{linesIn, printed, printedOf}
-use Rattle.rules.specs.EventLines.{FitsEvent, executedKind, restedKind, cancelledKind, movedKind, byCommand, iocRemainder, fokKilled, cancelledBack, noPriceInRange, postOnlyMeets, atClose}
+use Rattle.rules.specs.EventLines.{FitsEvent, eventLines, executedKind, restedKind, cancelledKind, movedKind, byCommand, iocRemainder, fokKilled, cancelledBack, noPriceInRange, postOnlyMeets, atClose}
 use Rattle.rules.specs.Instructions.{ioc, fok, has}
 use Rattle.rules.specs.Step.{doneBy, answer, answerTo}
 use Rattle.rules.specs.Working.{buying, lockingPrice, oppositeSide, remainder, executions, endingWith, ending, lastLine, accept, cancels, isNumber, cancel, wouldNowCross, moveLines, quote, close, does}
@@ -36,7 +36,7 @@ use Rattle.soundness.proofs.LawsEndings.{chosen, sought-is}
 use Rattle.soundness.proofs.LawsKept.{answer-sound}
 use Rattle.soundness.proofs.LawsSides.{InRange, sides-of}
 use Rattle.soundness.proofs.LawsSound.{sound-is}
-use Rattle.demands.specs.Once.{acts, commandNumber}
+use Rattle.demands.specs.Once.{acts, commandNumber, eventLinesOf, byLine}
 use Rattle.demands.specs.Run.{eventsOf}
 use Rattle.demands.specs.ShareOut.{Each, empty, with}
 use Rattle.demands.specs.Told.{eventsOn, eventsIn}
@@ -105,13 +105,13 @@ moves-fit buy away l (also {x = h} r a) =
 -- ── The ending of an order ──
 
 -- the price at which it rests fits in four bytes, the reason for which it is cancelled in one
-data FitsEnding : Ending → Type 0 where
+pub data FitsEnding : Ending → Type 0 where
   filled : FitsEnding Filled
   rests : (p : Cents) → p .0 < 2 ^ 32 → FitsEnding (Rests p)
   cancelled : (reason : ℕ) → reason < 2 ^ 8 → FitsEnding (Cancels reason)
 
 -- so the price at which an order rests is its limit or one in range, and the reasons are 2 to 6
-ending-fits : (o : Order) (away : Away) (s : List Resting) → o .price .0 < 2 ^ 32 → FitsEnding (ending o away s)
+pub ending-fits : (o : Order) (away : Away) (s : List Resting) → o .price .0 < 2 ^ 32 → FitsEnding (ending o away s)
 unfolding ending endingWith
 ending-fits o away s l =
     chosen FitsEnding (eqb (remainder o away s) 0) filled
@@ -121,7 +121,7 @@ ending-fits o away s l =
     (cancelled postOnlyMeets (omega arith)) o away s (rests (o .price) l))))
 
 -- the last line of an order, of what is left of it
-last-line-fits : (n : Number) (left : ℕ) → n .0 < 2 ^ 32 → left < 2 ^ 32 → {e : Ending} → FitsEnding e → All FitsEvent (lastLine n left e)
+pub last-line-fits : (n : Number) (left : ℕ) → n .0 < 2 ^ 32 → left < 2 ^ 32 → {e : Ending} → FitsEnding e → All FitsEvent (lastLine n left e)
 last-line-fits n left l m filled = none
 last-line-fits n left l m (rests p k) = also (fits 1 restedKind (omega arith) (fits 4 (n .0) l (fits 4 (p .0) k (fits 4 left m empty)))) none
 last-line-fits n left l m (cancelled reason k) = also (fits 1 cancelledKind (omega arith) (fits 4 (n .0) l (fits 4 left m (fits 1 reason k empty)))) none
@@ -165,7 +165,7 @@ module _ (b : Book) (s : sound b ≡ true) (l : b .last .0 < 2 ^ 32) (n : Number
 -- ── One line ──
 
 -- the second field of a header has four bytes
-header-number : {kind n time : ℕ} → Fitting headerForm (kind ∷ n ∷ time ∷ []) → n < 2 ^ 32
+pub header-number : {kind n time : ℕ} → Fitting headerForm (kind ∷ n ∷ time ∷ []) → n < 2 ^ 32
 header-number (fits w kind i (fits x n l (fits y time k empty))) = l
 
 -- so the number of a command that was read does
@@ -176,27 +176,32 @@ number-fits line = by-reading (commandIn line) refl
     by-reading reading.Bad e = omega arith
     by-reading (reading.Is c) e = header-number (commandIn-is line c e .fits-are .header)
 
--- and the last number keeps to four bytes
-pub last-fits : (b : Book) (line : List ℕ) → b .last .0 < 2 ^ 32 → answerTo b line .book .last .0 < 2 ^ 32
-last-fits b line l =
-    ⊎-elim
-    (λ (t : acts b line ≡ true). let next = next-acts b line t in omega (arith, next .0, next .1, number-fits line))
-    (λ (t : acts b line ≡ false). rw (refused-book b line t) l)
-    (holds-or-not (acts b line))
+module _ (b : Book) (line : List ℕ) (s : sound b ≡ true) where
+  -- and where a line acts, the last number does, for it is one less
+  last-fits : acts b line ≡ true → b .last .0 < 2 ^ 32
+  last-fits t = let next = next-acts b line t in omega (arith, next .0, number-fits line)
 
-module _ (b : Book) (line : List ℕ) (s : sound b ≡ true) (l : b .last .0 < 2 ^ 32) where
   -- what is done by a line that was read
-  done-fits : (r : Reading) → commandIn line ≡ r → All FitsEvent (doneBy r b .events)
+  done-fits : b .last .0 < 2 ^ 32 → (r : Reading) → commandIn line ≡ r → All FitsEvent (doneBy r b .events)
   unfolding doneBy
-  done-fits reading.Bad e = none
-  done-fits (reading.Is c) e =
+  done-fits l reading.Bad e = none
+  done-fits l (reading.Is c) e =
       let f = commandIn-is line c e .fits-are in
       does-fits b s l (c .number) (header-number (f .header)) (c .time) (c .body) (f .body)
 
   -- a line that acts gives events that fit
   pub acting-fits : acts b line ≡ true → All FitsEvent (answerTo b line .events)
   unfolding answerTo answer
-  acting-fits t = rw t (done-fits (commandIn line) refl)
+  acting-fits t = rw t (done-fits (last-fits t) (commandIn line) refl)
+
+  -- its event lines tell its events, and then what follows is read
+  events-told : (rest : List ℕ) → eventsIn (eventLines (answerTo b line .events) ++ rest) ≡ answerTo b line .events ++ eventsIn rest
+  unfolding eventLines
+  events-told rest =
+      ⊎-elim
+      (λ (t : acts b line ≡ true). events-read rest (acting-fits t))
+      (λ (t : acts b line ≡ false). rw (refused-events b line t) refl)
+      (holds-or-not (acts b line))
 
   -- what is printed of a line tells its events, and then what follows is read
   line-read : (rest : List ℕ) → eventsIn (printed (answerTo b line) ++ rest) ≡ answerTo b line .events ++ eventsIn rest
@@ -208,18 +213,28 @@ module _ (b : Book) (line : List ℕ) (s : sound b ≡ true) (l : b .last .0 < 2
       (holds-or-not (acts b line))
 
 -- what is printed of a line tells its events
-pub line-told : (b : Book) (line : List ℕ) → sound b ≡ true → b .last .0 < 2 ^ 32 → eventsIn (printed (answerTo b line)) ≡ answerTo b line .events
+pub line-told : (b : Book) (line : List ℕ) → sound b ≡ true → eventsIn (printed (answerTo b line)) ≡ answerTo b line .events
 unfolding linesIn eventsOn
-line-told b line s l =
-    sym (ap eventsIn (append-nil (printed (answerTo b line)))) ∙ line-read b line s l [] ∙ append-nil (answerTo b line .events)
+line-told b line s =
+    sym (ap eventsIn (append-nil (printed (answerTo b line)))) ∙ line-read b line s [] ∙ append-nil (answerTo b line .events)
 
 -- ── A run of lines ──
 
 -- what is printed of a run tells its events
-pub run-told : (b : Book) (lines : List (List ℕ)) → sound b ≡ true → b .last .0 < 2 ^ 32 → eventsIn (printedOf b lines) ≡ eventsOf b lines
+pub run-told : (b : Book) (lines : List (List ℕ)) → sound b ≡ true → eventsIn (printedOf b lines) ≡ eventsOf b lines
 unfolding printedOf eventsOf linesIn eventsOn
-run-told b [] s l = refl
-run-told b (line ∷ lines) s l =
+run-told b [] s = refl
+run-told b (line ∷ lines) s =
     let book = answerTo b line .book in
-    line-read b line s l (printedOf book lines)
-    ∙ ap (λ (es : List Event). answerTo b line .events ++ es) (run-told book lines (answer-sound b line s) (last-fits b line l))
+    line-read b line s (printedOf book lines)
+    ∙ ap (λ (es : List Event). answerTo b line .events ++ es) (run-told book lines (answer-sound b line s))
+
+-- and so do its event lines alone
+pub lines-read : (b : Book) (lines : List (List ℕ)) → sound b ≡ true → eventsIn (eventLinesOf byLine b lines) ≡ eventsOf b lines
+unfolding eventLinesOf eventsOf linesIn eventsOn
+lines-read b [] s = refl
+lines-read b (line ∷ lines) s =
+    let book = answerTo b line .book in
+    let rest = lines-read book lines (answer-sound b line s) in
+    events-told b line s (eventLinesOf byLine book lines)
+    ∙ ap (λ (es : List Event). answerTo b line .events ++ es) rest

@@ -10,3 +10,16 @@ pub mod LawsExecutes
 pub mod LawsEventLines
 pub mod LawsTold
 pub mod LawsRun
+pub mod LawsFills
+pub mod LawsBeyond
+pub mod LawsCrossing
+pub mod LawsQuoted
+pub mod LawsRows
+pub mod LawsExactly
+pub mod LawsCalls
+pub mod LawsOrigins
+pub mod LawsFairly
+pub mod LawsStanding
+pub mod LawsLimits
+pub mod LawsTraded
+pub mod LawsWritten

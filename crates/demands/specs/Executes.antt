@@ -1,9 +1,9 @@
 -- Demand 3 of one accepted order, said of what its own lines tell: the customer's sentences one by one, each by the fields below it.
 use Prim.Native.Nat.{_≤_, _<_}
 use mathlib.Core.Bool.{true, false, not}
-use mathlib.Core.List.{List, _∷_}
+use mathlib.Core.List.{List}
 use mathlib.Core.Path.{_≡_}
-use Rattle.basics.specs.Lists.{any, All}
+use Rattle.basics.specs.Lists.{any, All, OneOf}
 use Rattle.kinds.specs.declared.Cents.{Cents}
 use Rattle.kinds.specs.declared.Number.{Number}
 use Rattle.rules.specs.declared.Command.{Command}
@@ -16,11 +16,6 @@ use Rattle.rules.specs.Instructions.{fok, has}
 use Rattle.rules.specs.Working.{buying, isNumber}
 use Rattle.demands.specs.ShareOut.{opposite, Given, Each, Fair, given, Lawful, Fills}
 use Rattle.demands.specs.Told.{executedIn, givenIn, cancelledIn, pricesIn, isKilled}
-
--- x is one of a list
-pub data OneOf {A : Type 0} (x : A) : List A → Type 0 where
-  first : {s : List A} → OneOf x (x ∷ s)
-  later : {y : A} {s : List A} → OneOf x s → OneOf x (y ∷ s)
 
 -- lines tell what a resting order gives: so many shares, all at that price
 pub record Tells (es : List Event) (h : Resting) (g : Given) : Type 0 where

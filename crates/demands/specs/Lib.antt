@@ -3,3 +3,7 @@ pub mod Run
 pub mod Told
 pub mod ShareOut
 pub mod Executes
+pub mod ExactlyWhen
+pub mod Quoted
+pub mod Beyond
+pub mod Written

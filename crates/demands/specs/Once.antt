@@ -5,18 +5,19 @@ use Prim.Native.Nat.{ℕ, _≤_}
 use mathlib.Core.Bool.{Bool, true, _&&_}
 use mathlib.Core.List.{List, [], _∷_, _++_}
 use mathlib.Core.Path.{_≡_}
-use lib.Dec.{eqb}
+use lib.Dec.{eqb, leb}
 use lib.ListN.{length, take}
 use Rattle.basics.specs.Bytes.{onto}
 use Rattle.basics.specs.Choice.{if_then_else_}
+use Rattle.rules.specs.declared.Command.{Command}
 use Rattle.rules.specs.declared.Event.{Event}
 use Rattle.rules.specs.declared.Reading.{Reading}
 use Rattle.rules.specs.declared.Reading.the-variants as reading
 use Rattle.rules.specs.Book.{Book, BookRecord}
-use Rattle.rules.specs.CommandLines.{commandIn}
+use Rattle.rules.specs.CommandLines.{Fits, lineOf, commandIn}
 use Rattle.rules.specs.EventLines.{eventLines}
-use Rattle.rules.specs.Refusals.{lastRefusal}
-use Rattle.rules.specs.Step.{Returned, answerTo, step}
+use Rattle.rules.specs.Refusals.{leastRoom, lastRefusal}
+use Rattle.rules.specs.Step.{Returned, answerTo, stepOn}
 
 -- ── One call ──
 
@@ -38,12 +39,17 @@ pub record Refused (r : BookRecord) (out : List ℕ) (s : Returned) : Type 0 whe
 -- ── A run of commands ──
 
 -- how books of a kind B answer commands of a kind C: whether a command acts, that is, is not refused; the book after it; the event
--- lines that it tells; and its command number
+-- lines that it tells; and what it is read as
 pub record Answering (B C : Type 0) : Type 0 where
   pub acts : B → C → Bool
   pub book : B → C → B
   pub tells : B → C → List ℕ
-  pub number : C → ℕ
+  pub reading : C → Reading
+
+-- the number of the command that a reading is, or 0 where it is none
+abbrev pub commandNumber : Reading → ℕ
+commandNumber (reading.Is c) = c .number .0
+commandNumber reading.Bad = 0
 
 -- the book that a run ends with
 unfoldable pub endOf : {B C : Type 0} → Answering B C → B → List C → B
@@ -59,7 +65,7 @@ eventLinesOf a b (c ∷ cs) = a .tells b c ++ eventLinesOf a (a .book b c) cs
 unfoldable pub actingNumbers : {B C : Type 0} → Answering B C → B → List C → List ℕ
 actingNumbers a b [] = []
 actingNumbers a b (c ∷ cs) =
-    if a .acts b c then a .number c ∷ actingNumbers a (a .book b c) cs
+    if a .acts b c then commandNumber (a .reading c) ∷ actingNumbers a (a .book b c) cs
     else actingNumbers a (a .book b c) cs
 
 -- a run with its refused commands struck out
@@ -76,11 +82,6 @@ noneRefused a b (c ∷ cs) = a .acts b c && noneRefused a (a .book b c) cs
 
 -- ── A day ──
 
--- the number of the command that a line is, or 0 where it is none
-abbrev pub commandNumber : Reading → ℕ
-commandNumber (reading.Is c) = c .number .0
-commandNumber reading.Bad = 0
-
 -- a line acts on a book: it is not refused
 abbrev pub acts : Book → List ℕ → Bool
 acts b line = eqb (answerTo b line .refusal) 0
@@ -91,17 +92,31 @@ byLine = record {
   acts = acts;
   book = λ b line. answerTo b line .book;
   tells = λ b line. eventLines (answerTo b line .events);
-  number = λ line. commandNumber (commandIn line);
+  reading = commandIn;
 }
 
--- a call: a line, and the output that is lent with it
+-- what a call asks: a line of any bytes, or a command, by the method of its body; a command's fields fit their types
+pub data Asked : Type 0 where
+  aLine : List ℕ → Asked
+  aCommand : (c : Command) → Fits c → Asked
+
+abbrev pub readingOf : Asked → Reading
+readingOf (aLine line) = commandIn line
+readingOf (aCommand c fits) = reading.Is c
+
+-- the line that asks the same
+abbrev pub lineAsked : Asked → List ℕ
+lineAsked (aLine line) = line
+lineAsked (aCommand c fits) = lineOf c
+
+-- a call: what it asks, and the output that is lent with it
 pub record Call : Type 0 where
-  pub line : List ℕ
+  pub asks : Asked
   pub out : List ℕ
 
 -- what it returns, on the record that is lent with it
 abbrev pub returned : BookRecord → Call → Returned
-returned r c = step r (c .line) (c .out)
+returned r c = stepOn r (readingOf (c .asks)) (c .out)
 
 -- a day of calls, each with the record that the one before handed back
 abbrev pub byCall : Answering BookRecord Call
@@ -109,5 +124,12 @@ byCall = record {
   acts = λ r c. eqb (returned r c .refusal) 0;
   book = λ r c. returned r c .book;
   tells = λ r c. take (returned r c .length) (returned r c .out);
-  number = λ c. commandNumber (commandIn (c .line));
+  reading = λ c. readingOf (c .asks);
 }
+
+-- the lines of the calls of a run whose output has the room that 01 asks for
+unfoldable pub linesWithRoom : List Call → List (List ℕ)
+linesWithRoom [] = []
+linesWithRoom (c ∷ cs) =
+    if leb leastRoom (length (c .out)) then lineAsked (c .asks) ∷ linesWithRoom cs
+    else linesWithRoom cs

@@ -82,7 +82,7 @@ pricesIn n (Rested m price shares ∷ es) = pricesIn n es
 pricesIn n (Cancelled m shares reason ∷ es) = pricesIn n es
 pricesIn n (Moved m price shares ∷ es) = pricesIn n es
 
--- the line that kills a Fill-or-Kill has reason 3; that it cancels "the whole order" is said beside it
+-- the line that kills a Fill-or-Kill has reason 3; that it cancels "the whole order" is `killedWhole` of `Executes`
 abbrev pub kills : Number → Event → Bool
 kills n (Executed incoming resting price shares) = false
 kills n (Rested m price shares) = false

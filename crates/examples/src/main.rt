@@ -1,11 +1,31 @@
 // Runs many days one after another, each from a fresh book, so that the gate holds every one of them to the output that is given
 // with it. A line that begins with `#` names the day whose lines come next; tools/gather-days writes the input and the output.
+// A day is run as the program runs it, but in pieces so short that its lines are cut anywhere, and with so little room for output
+// that it runs short.
+use libc::STDIN_FILENO;
 use libc::STDOUT_FILENO;
 use rows::PLACES;
 use rows::WORDS;
+ghost use mathlib.Core.List.{[]};
 ghost use mathlib.Core.Path.{_≡_};
-ghost use Prim.Native.Nat.{_≤_, _<_};
+ghost use Prim.Native.Nat.{_+_, _≤_, _<_};
 ghost use lib.ListN.{length};
+ghost use Rattle.rows.specs.Table.{tableOf};
+ghost use Rattle.rules.specs.Refusals.{leastRoom};
+
+// ── The days ──
+
+// The place after the next line feed, or the end.
+fn line_after(days: &[u8], from: usize) -> usize
+    requires { ⌜ from < length (now days) ⌝ }
+    ensures { λ r. ⌜ (from < r) × (r ≤ length (now (days .entry))) ⌝ }
+{
+    let end = from + lines::scan_line(&days[from..]);
+    if end < days.len() {
+        return end + 1;
+    }
+    end
+}
 
 // The place of the next line that begins with `#`, or the end; a line begins at `from`.
 fn day_after(days: &[u8], from: usize) -> usize
@@ -17,7 +37,7 @@ fn day_after(days: &[u8], from: usize) -> usize
         if days[i] == b'#' {
             return i;
         }
-        i = night::line_after(days, i);
+        i = line_after(days, i);
     }
     i
 }
@@ -40,29 +60,89 @@ fn day_end(days: &[u8], at: usize, start: usize, end: usize) -> usize
     end
 }
 
+// ── A day ──
+
+// Copies the next piece of a day behind the bytes that wait, if a turn asks for it; how many bytes these are.
+fn copy_on(day: &[u8], at: usize, input: &mut [u8], have: usize, reads: bool) -> usize
+    requires { ⌜ (at ≤ length (now day)) × (have ≤ length (now input)) ⌝ }
+    ensures { λ r. ⌜ (at + r ≤ length (now (day .entry))) × (have + r ≤ length (now (input .exit))) ⌝ }
+{
+    let mut n = 0;
+    while reads & (n < 97) & (n < day.len() - at) & (n < input.len() - have) {
+        input[have + n] = day[at + n];
+        n += 1;
+    }
+    n
+}
+
+// Writes what a turn handed over; whether it was written.
+fn hand_over(bytes: &[u8]) -> bool {
+    if io::write_all(STDOUT_FILENO, bytes) {
+        return true;
+    }
+    os::fail(b"yarvotem: writing standard output");
+    false
+}
+
+// Writes what the end of a day hands over, of the part of a line that waits; whether it was written.
+fn end_day(part: &[u8], out: &mut [u8]) -> bool
+    requires { ⌜ leastRoom ≤ length (now out) ⌝ }
+{
+    let length = night::finish(part, out);
+    hand_over(&out[..length])
+}
+
+// A day over fresh tables, turn by turn; whether all was written.
+fn take_turns(
+    day: &[u8],
+    input: &mut [u8],
+    buys: &mut [[u32; WORDS]; PLACES],
+    sells: &mut [[u32; WORDS]; PLACES],
+    out: &mut [u8],
+) -> bool
+    requires { ⌜ (now buys ≡ tableOf []) × (now sells ≡ tableOf []) × (leastRoom ≤ length (now out)) ⌝ }
+{
+    let mut head = replay::begin();
+    let mut at = 0;
+    let mut have = 0;
+    let mut turns = u64::MAX;
+    while 0 < turns {
+        let turn = night::take_turn(head, input, have, buys, sells, out);
+        if !hand_over(&out[..turn.length]) {
+            return false;
+        }
+        head = turn.head;
+        have = turn.have;
+        if turn.reads & (at == day.len()) {
+            return end_day(&input[..have], out);
+        }
+        let more = copy_on(day, at, input, have, turn.reads);
+        at += more;
+        have += more;
+        turns -= 1;
+    }
+    false
+}
+
 // A day, from a fresh book to its end; whether all was written.
 fn run_day(day: &[u8], out: &mut [u8]) -> bool
-    requires { ⌜ 5 ≤ length (now out) ⌝ }
+    requires { ⌜ leastRoom ≤ length (now out) ⌝ }
 {
+    let mut input = [0u8; 139];
     let mut buys = [[0u32; WORDS]; PLACES];
     let mut sells = [[0u32; WORDS]; PLACES];
-    let piece = night::work_piece(replay::begin(), day, &mut buys, &mut sells, out);
-    if piece.is_written {
-        night::finish(day.len() - piece.at, out);
-    }
-    piece.is_written
+    take_turns(day, &mut input, &mut buys, &mut sells, out)
 }
 
 // The days, each under the line that names it.
 fn run_days(days: &[u8], out: &mut [u8])
-    requires { ⌜ 5 ≤ length (now out) ⌝ }
+    requires { ⌜ leastRoom ≤ length (now out) ⌝ }
 {
     let mut at = 0;
     while at < days.len() {
-        let start = night::line_after(days, at);
+        let start = line_after(days, at);
         let end = day_after(days, start);
-        if !io::write_all(STDOUT_FILENO, &days[at..start]) {
-            night::fail_writing();
+        if !hand_over(&days[at..start]) {
             return;
         }
         let last = day_end(days, at, start, end);
@@ -83,7 +163,7 @@ fn input_room() -> [u8; 1048576]
 
 fn main() {
     let mut input = input_room();
-    let mut out = [0u8; 69632];
-    let end = night::read_all(&mut input);
+    let mut out = [0u8; 4200];
+    let end = io::read_full(STDIN_FILENO, &mut input);
     run_days(&input[..end], &mut out);
 }

@@ -1,10 +1,10 @@
 -- The three ways of a line to a book of which one side is lent: the table does not fit, the line is refused, or it is accepted; and
--- what `work`, `answer` and `answer_over` return, by those ways. Assumes nothing.
+-- what `work`, `answer`, `answer_over` and `answer_lending` return, by those ways. Assumes nothing.
 use Prim.Native.Nat.{ℕ}
 use mathlib.Core.Bool.{Bool, true, false}
 use mathlib.Core.List.{List}
 use mathlib.Core.Logic.{_≢_, ⊎-elim}
-use mathlib.Core.Path.{_≡_, refl, _∙_}
+use mathlib.Core.Path.{_≡_, refl, ap}
 use lib.Dec.{eqb}
 use lib.ListN.{length}
 use borrow.Author.Tests.{eq-eqb, ne-eqb}
@@ -19,7 +19,8 @@ use Rattle.book.specs.declared.Reply.{Reply}
 use Rattle.book.specs.declared.Side.{Side}
 use Rattle.book.specs.Record.{placesOn, sideWith, recordIn, bookWith, replyOf}
 use Rattle.lent.specs.declared.Worked.{Worked}
-use Rattle.lent.specs.Lent.{Lent, placesIn, noPlaces, isEmpty, sideOf, withSide, fits, lentStep, replyOf as replyIn, workedOf, lendingStep}
+use Rattle.lent.specs.Lent.{Lent, placesIn, noPlaces, isEmpty, sideOf, withSide, fits, lentStep, replyOf as replyIn, workedOf, takenApart}
+use Rattle.lent.proofs.LawsSame.{Counted, lent-is-answer, uncounted-refused, refused-same, accepted-again}
 
 module _ (buys : Bool) (r : BookRecord) (table : List Resting) (line out : List ℕ) where
   abbrev pub whole : Returned
@@ -120,17 +121,49 @@ module _ (buys : Bool) (book : value.Book) (table : List Resting) (line out : Li
       → (w ≡ workedOf it) × (out′ ≡ it .out)
   answered-over r table′ out′ told w wIs = rw (wIs, told .0, told .1) (refl, told .2)
 
--- ── A side taken out, lent, and put in again ──
+-- ── A side taken out, lent, and put in again: what comes back is the book's own answer ──
 
 module _ (buys : Bool) (book : value.Book) (line out : List ℕ) (side : Side) (sideIs : side ≡ sideWith (sideOf buys (recordIn book)))
-    (apart : value.Book) (apartIs : apart ≡ bookWith (withSide buys noPlaces (recordIn book)))
-    (worked : Worked) (workedIs : worked ≡ workedOf (lentStep buys (recordIn apart) (side .places) line out))
-    (used : ℕ) (usedIs : used ≡ firstWhere isUnused (worked .places))
-    (whole : value.Book) (wholeIs : whole ≡ bookWith (withSide buys (record { used = used; places = worked .places }) (recordIn (worked .reply .book)))) where
-  pub lent-and-back : record { refusal = worked .reply .refusal; length = worked .reply .length; book = whole } ≡ replyOf (lendingStep buys (recordIn book) line out)
-  unfolding lendingStep
-  lent-and-back = rw (wholeIs, usedIs, workedIs, apartIs, sideIs) refl
+    (used : ℕ) (usedIs : used ≡ firstWhere isUnused (side .places)) where
+  abbrev own : Returned
+  own = step (recordIn book) line out
 
-  pub lent-out : (out′ : List ℕ) → out′ ≡ lentStep buys (recordIn apart) (side .places) line out .out → out′ ≡ lendingStep buys (recordIn book) line out .out
-  unfolding lendingStep
-  lent-out out′ e = e ∙ rw (apartIs, sideIs) refl
+  -- the side's count is not that of its leading records
+  pub lending-uncounted : side .used ≢ used → (reply : Reply) → reply ≡ refused book (length out) → (reply ≡ replyOf own) × (out ≡ own .out)
+  lending-uncounted uncounted reply replyIs =
+      let told =
+      uncounted-refused buys (recordIn book) line out
+      (λ (counted : Counted (sideOf buys (recordIn book))). uncounted (rw (usedIs, sideIs) counted)) in
+      rw (told, replyIs) (refl, refl)
+
+  -- it is: what came of the lent side is the book's own answer, taken apart
+  module _ (counted : side .used ≡ used) (all : length (side .places) ≡ placesASide)
+      (apart : value.Book) (apartIs : apart ≡ bookWith (withSide buys noPlaces (recordIn book)))
+      (worked : Worked) (out′ : List ℕ)
+      (lent : (worked ≡ workedOf (lentStep buys (recordIn apart) (side .places) line out))
+      × (out′ ≡ lentStep buys (recordIn apart) (side .places) line out .out)) where
+    same-lent : lentStep buys (recordIn apart) (side .places) line out ≡ takenApart buys (recordIn apart) (side .places) own
+    same-lent = rw (apartIs, sideIs) (lent-is-answer buys (recordIn book) line out (rw (usedIs, sideIs) at counted) (rw sideIs at all))
+
+    workedIs : worked ≡ workedOf (takenApart buys (recordIn apart) (side .places) own)
+    workedIs = rw same-lent at (lent .0)
+
+    outIs : out′ ≡ own .out
+    outIs = rw same-lent at (lent .1)
+
+    -- the line is refused
+    pub lending-refused : worked .reply .refusal ≢ 0
+        → (record { refusal = worked .reply .refusal; length = worked .reply .length; book = book } ≡ replyOf own) × (out′ ≡ own .out)
+    lending-refused n = (rw (workedIs, refused-same (recordIn book) line out (rw workedIs at n)) refl, outIs)
+
+    -- it is accepted
+    pub lending-accepted : worked .reply .refusal ≡ 0 → (again : ℕ) → again ≡ firstWhere isUnused (worked .places)
+        → (whole : value.Book) → whole ≡ bookWith (withSide buys (record { used = again; places = worked .places }) (recordIn (worked .reply .book)))
+        → (record { refusal = worked .reply .refusal; length = worked .reply .length; book = whole } ≡ replyOf own) × (out′ ≡ own .out)
+    lending-accepted z again againIs whole wholeIs =
+        let accepted : own .refusal ≡ 0 = rw workedIs at z in
+        let same = accepted-again buys (recordIn book) line out accepted in
+        (rw (wholeIs, againIs, workedIs, eq-eqb (own .refusal) 0 accepted) (ap with-book same), outIs)
+      where
+        with-book : BookRecord → Reply
+        with-book r = record { refusal = own .refusal; length = own .length; book = bookWith r }

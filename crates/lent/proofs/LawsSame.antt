@@ -1,26 +1,35 @@
--- Through the table and through the book, the same: a sound book whose one side is taken out and lent answers as the book itself does.
--- Assumes nothing.
-use Prim.Native.Nat.{ℕ, zero, suc, _≤_}
-use mathlib.Core.Bool.{Bool, true, false, not, _&&_}
+-- Through the table and through the book, the same: a book whose one side is taken out and lent, and put in again, answers as the book
+-- itself does. Where the side's count is that of its leading records, the table put in is the very side; where it is another, the book is
+-- not sound, and refuses. Assumes nothing.
+use Prim.Native.Nat.{ℕ, zero, suc, _≤_, _<_}
+use mathlib.Core.Bool.{Bool, true, false, _&&_}
 use mathlib.Core.List.{List, [], _∷_}
-use mathlib.Core.Logic.{⊎-elim}
-use mathlib.Core.Path.{_≡_, refl, sym, ap, _∙_}
-use lib.Dec.{eqb, leb}
+use mathlib.Core.Logic.{_≢_, ⊎-elim}
+use mathlib.Core.Path.{_≡_, refl, ap}
+use lib.Dec.{eqb, leb, ltb}
 use lib.ListN.{length, take, drop}
 use native.Mathlib.Omega.{arith}
-use borrow.Author.Tests.{ne-eqb, eqb-true, leb-true}
+use borrow.Author.Tests.{eq-eqb, ne-eqb, eqb-true, leb-true}
 use Rattle.basics.specs.Lists.{every, firstWhere, All, also}
 use Rattle.basics.proofs.LawsChoice.{holds-or-not, and-left, and-right}
 use Rattle.kinds.specs.declared.Number.{Number}
 use Rattle.rules.specs.declared.Resting.{Resting}
 use Rattle.rules.specs.Book.{Places, BookRecord, placesASide, isUnused, placesSound, bookIn, sound, recordSound}
-use Rattle.rules.specs.Step.{Returned, step, stepOn}
+use Rattle.rules.specs.CommandLines.{commandIn}
+use Rattle.rules.specs.Refusals.{firstOf, leastRoom, lineRefusals, fitRefusals, refusals}
+use Rattle.rules.specs.Step.{step, stepOn}
+use Rattle.rules.proofs.LawsRefusals.{fit-facts}
 use Rattle.soundness.proofs.LawsKept.{step-sound}
 use Rattle.soundness.proofs.LawsSides.{InRange, Sides, sides-of}
 use Rattle.soundness.proofs.LawsSound.{sound-is}
-use Rattle.lent.specs.Lent.{placesIn, noPlaces, isEmpty, sideOf, withSide, takenApart, fits, lentStep, lendingStep}
+use Rattle.book.proofs.LawsStep.{step-unfit}
+use Rattle.lent.specs.Lent.{placesIn, noPlaces, isEmpty, sideOf, withSide, takenApart, fits, lentStep}
 
 -- ── The count of a sound side ──
+
+-- a side's count is that of its leading records
+abbrev pub Counted : Places → Type 0
+Counted p = p .used ≡ firstWhere isUnused (p .places)
 
 -- an order with a number is no unused place
 used : (last : Number) (h : Resting) → InRange last h → isUnused h ≡ false
@@ -29,86 +38,96 @@ used last h r =
     rw n refl
 
 -- the places that are used come first, so the first that is not tells how many they are
-count-is : (last : Number) (n : ℕ) (s : List Resting) → n ≤ length s → All (InRange last) (take n s) → every isUnused (drop n s) ≡ true → firstWhere isUnused s ≡ n
+count-is : (last : Number) (n : ℕ) (s : List Resting) → n ≤ length s → All (InRange last) (take n s) → every isUnused (drop n s) ≡ true
+    → n ≡ firstWhere isUnused s
 unfolding every firstWhere
 count-is last zero [] l a e = refl
 count-is last zero (h ∷ s) l a e = rw (and-left (isUnused h) (every isUnused s) e)
 count-is last (suc n) [] l a e = let z : ⊥ = omega arith in absurd z
 count-is last (suc n) (h ∷ s) l (also r a) e = rw (used last h r) (ap suc (count-is last n s (omega arith) a e))
 
--- ── The side put back ──
+places-counted : (last : Number) (p : Places) → placesSound p ≡ true → All (InRange last) (take (p .used) (p .places)) → Counted p
+places-counted last p isSound a =
+    let few = leb (p .used) placesASide in
+    let all = eqb (length (p .places)) placesASide in
+    let rest = every isUnused (drop (p .used) (p .places)) in
+    let both = and-left (few && all) rest isSound in
+    let most = leb-true (p .used) placesASide (and-left few all both) in
+    let long = eqb-true (length (p .places)) placesASide (and-right few all both) in
+    count-is last (p .used) (p .places) (omega (arith, most, long)) a (and-right (few && all) rest isSound)
 
-module _ (p : Places) (isSound : placesSound p ≡ true) where
-  both : (leb (p .used) placesASide && eqb (length (p .places)) placesASide) ≡ true
-  both = and-left (leb (p .used) placesASide && eqb (length (p .places)) placesASide) (every isUnused (drop (p .used) (p .places))) isSound
+-- either side of a sound record is so counted
+side-counted : (buys : Bool) (r : BookRecord) → recordSound r ≡ true → Counted (sideOf buys r)
+unfolding recordSound bookIn
+side-counted buys r isSound =
+    let both = placesSound (r .buys) && placesSound (r .sells) in
+    by-side buys (and-left both (sound (bookIn r)) isSound)
+    (sides-of true (bookIn r) (sound-is (bookIn r) (and-right both (sound (bookIn r)) isSound)))
+  where
+    by-side : (buys : Bool) → (placesSound (r .buys) && placesSound (r .sells)) ≡ true → Sides true (r .last) (bookIn r .buys) (bookIn r .sells)
+        → Counted (sideOf buys r)
+    by-side true t s = places-counted (r .last) (r .buys) (and-left (placesSound (r .buys)) (placesSound (r .sells)) t) (s .ownInRange)
+    by-side false t s = places-counted (r .last) (r .sells) (and-right (placesSound (r .buys)) (placesSound (r .sells)) t) (s .oppositeInRange)
 
-  all-places : length (p .places) ≡ placesASide
-  all-places = eqb-true (length (p .places)) placesASide (and-right (leb (p .used) placesASide) (eqb (length (p .places)) placesASide) both)
+-- ── The side put in ──
 
-  put-back : (last : Number) → All (InRange last) (take (p .used) (p .places)) → placesIn (p .places) ≡ p
-  put-back last a =
-      let most = leb-true (p .used) placesASide (and-left (leb (p .used) placesASide) (eqb (length (p .places)) placesASide) both) in
-      let rest = and-right (leb (p .used) placesASide && eqb (length (p .places)) placesASide) (every isUnused (drop (p .used) (p .places))) isSound in
-      ap counted (count-is last (p .used) (p .places) (omega (arith, most, all-places)) a rest)
-    where
-      counted : ℕ → Places
-      counted n = record { used = n; places = p .places }
+-- the table put in is the side that was taken out
+put-in : (buys : Bool) (r : BookRecord) → Counted (sideOf buys r) → withSide buys (placesIn (sideOf buys r .places)) (withSide buys noPlaces r) ≡ r
+put-in true r counted = rw (← counted) refl
+put-in false r counted = rw (← counted) refl
 
-empty-fits : isEmpty noPlaces ≡ true
+taken-out : (buys : Bool) (r : BookRecord) → isEmpty (sideOf buys (withSide buys noPlaces r)) ≡ true
 unfolding isEmpty every
-empty-fits = refl
+taken-out true r = refl
+taken-out false r = refl
 
 -- ── The same answer ──
 
-module _ (r : BookRecord) (line out : List ℕ) (isSound : recordSound r ≡ true) where
-  sides : (placesSound (r .buys) && placesSound (r .sells)) ≡ true
-  unfolding recordSound
-  sides = and-left (placesSound (r .buys) && placesSound (r .sells)) (sound (bookIn r)) isSound
+-- a line to the book with its side lent is the line to the book, taken apart
+pub lent-is-answer : (buys : Bool) (r : BookRecord) (line out : List ℕ) → Counted (sideOf buys r) → length (sideOf buys r .places) ≡ placesASide
+    → lentStep buys (withSide buys noPlaces r) (sideOf buys r .places) line out
+    ≡ takenApart buys (withSide buys noPlaces r) (sideOf buys r .places) (step r line out)
+unfolding lentStep fits
+lent-is-answer buys r line out counted all =
+    let apart = withSide buys noPlaces r in
+    let table = sideOf buys r .places in
+    rw (eq-eqb (length table) placesASide all, taken-out buys r)
+    (ap (λ (x : BookRecord). takenApart buys apart table (step x line out)) (put-in buys r counted))
 
-  side-sound : (buys : Bool) → placesSound (sideOf buys r) ≡ true
-  side-sound true = and-left (placesSound (r .buys)) (placesSound (r .sells)) sides
-  side-sound false = and-right (placesSound (r .buys)) (placesSound (r .sells)) sides
+-- refusal 1 is given, or else 2
+some-refusal : (room : ℕ) → 0 < firstOf (fitRefusals room false)
+unfolding firstOf
+some-refusal room =
+    ⊎-elim
+    (λ (t : ltb room leastRoom ≡ true). rw t (omega arith))
+    (λ (t : ltb room leastRoom ≡ false). rw t (omega arith))
+    (holds-or-not (ltb room leastRoom))
 
-  in-range : (buys : Bool) → All (InRange (r .last)) (take (sideOf buys r .used) (sideOf buys r .places))
-  unfolding recordSound bookIn
-  in-range buys = by-side buys (sides-of true (bookIn r) (sound-is (bookIn r) (and-right (placesSound (r .buys) && placesSound (r .sells)) (sound (bookIn r)) isSound)))
-    where
-      by-side : (buys : Bool) → Sides true (r .last) (bookIn r .buys) (bookIn r .sells) → All (InRange (r .last)) (take (sideOf buys r .used) (sideOf buys r .places))
-      by-side true s = s .ownInRange
-      by-side false s = s .oppositeInRange
-
-  whole-again : (buys : Bool) → withSide buys (placesIn (sideOf buys r .places)) (withSide buys noPlaces r) ≡ r
-  whole-again true = rw (put-back (r .buys) (side-sound true) (r .last) (in-range true)) refl
-  whole-again false = rw (put-back (r .sells) (side-sound false) (r .last) (in-range false)) refl
-
-  pub same-as-book : (buys : Bool)
-      → lentStep buys (withSide buys noPlaces r) (sideOf buys r .places) line out
-      ≡ takenApart buys (withSide buys noPlaces r) (sideOf buys r .places) (step r line out)
-  unfolding lentStep fits
-  same-as-book buys =
-      rw (table-fits buys) (ap (λ (x : BookRecord). takenApart buys (withSide buys noPlaces r) (sideOf buys r .places) (step x line out)) (whole-again buys))
-    where
-      table-fits : (buys : Bool) → fits buys (withSide buys noPlaces r) (sideOf buys r .places) ≡ true
-      table-fits true = rw (all-places (r .buys) (side-sound true)) empty-fits
-      table-fits false = rw (all-places (r .sells) (side-sound false)) empty-fits
+-- a book with a side that counts otherwise is not sound, so it is refused
+pub uncounted-refused : (buys : Bool) (r : BookRecord) (line out : List ℕ) → (Counted (sideOf buys r) → ⊥)
+    → step r line out ≡ record { refusal = firstOf (fitRefusals (length out) false); length = 0; book = r; out = out }
+unfolding step
+uncounted-refused buys r line out uncounted =
+    let refusal = firstOf (fitRefusals (length out) false) in
+    ⊎-elim
+    (λ (t : recordSound r ≡ true). absurd (uncounted (side-counted buys r t)))
+    (λ (t : recordSound r ≡ false). step-unfit r out (commandIn line) refusal (rw t refl) (some-refusal (length out)))
+    (holds-or-not (recordSound r))
 
 -- a refusal hands back the same book
-refused-same : (r : BookRecord) (line out : List ℕ) → eqb (step r line out .refusal) 0 ≡ false → step r line out .book ≡ r
+pub refused-same : (r : BookRecord) (line out : List ℕ) → step r line out .refusal ≢ 0 → step r line out .book ≡ r
 unfolding step stepOn
-refused-same r line out t = rw t refl
+refused-same r line out refused = rw (ne-eqb (step r line out .refusal) 0 refused) refl
 
--- a sound book answers by way of the table as it answers by itself: the refusal, the length, the book and every byte
-pub lending-is-answer : (buys : Bool) (r : BookRecord) (line out : List ℕ) → recordSound r ≡ true → lendingStep buys r line out ≡ step r line out
-unfolding lendingStep
-lending-is-answer buys r line out isSound =
-    let s = step r line out in
-    rw (same-as-book r line out isSound buys)
-    (⊎-elim
-    (λ (t : eqb (s .refusal) 0 ≡ true).
-    rw t (ap (λ (b : BookRecord). returned s b) (whole-again (s .book) line out (step-sound r line out isSound) buys)))
-    (λ (t : eqb (s .refusal) 0 ≡ false).
-    rw t (ap (λ (b : BookRecord). returned s b) (whole-again r line out isSound buys ∙ sym (refused-same r line out t))))
-    (holds-or-not (eqb (s .refusal) 0)))
-  where
-    returned : Returned → BookRecord → Returned
-    returned s b = record { refusal = s .refusal; length = s .length; book = b; out = s .out }
+-- a book that accepts a line is sound ..
+accepted-sound : (r : BookRecord) (line out : List ℕ) → step r line out .refusal ≡ 0 → recordSound r ≡ true
+unfolding step stepOn refusals
+accepted-sound r line out accepted = fit-facts (length out) (recordSound r) (lineRefusals (bookIn r) (commandIn line)) accepted .1
+
+-- .. and so is the book that it leaves: the side put in again is its side
+pub accepted-again : (buys : Bool) (r : BookRecord) (line out : List ℕ) → step r line out .refusal ≡ 0
+    → let after = step r line out .book in
+    withSide buys (placesIn (sideOf buys after .places)) (withSide buys noPlaces after) ≡ after
+accepted-again buys r line out accepted =
+    let after = step r line out .book in
+    put-in buys after (side-counted buys after (step-sound r line out (accepted-sound r line out accepted)))

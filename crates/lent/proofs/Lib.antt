@@ -2,3 +2,4 @@ pub mod LawsLentStep
 pub mod LawsLent
 pub mod LawsSame
 pub mod Determined
+pub mod LawsPromised

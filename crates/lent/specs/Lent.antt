@@ -88,9 +88,3 @@ workedOf l = record { reply = replyOf l; places = l .table }
 abbrev pub Answered : Bool → BookRecord → List Resting → List ℕ → List ℕ → Reply → List Resting → List ℕ → Type 0
 Answered buys r table line out reply table′ out′ =
     (reply ≡ replyOf (lentStep buys r table line out)) × (table′ ≡ lentStep buys r table line out .table) × (out′ ≡ lentStep buys r table line out .out)
-
--- a line to a whole book by way of the table: one side is taken out and lent, and what comes back is put together
-unfoldable pub lendingStep : Bool → BookRecord → List ℕ → List ℕ → Returned
-lendingStep buys r line out =
-    let l = lentStep buys (withSide buys noPlaces r) (sideOf buys r .places) line out in
-    record { refusal = l .refusal; length = l .length; book = withSide buys (placesIn (l .table)) (l .book); out = l .out }

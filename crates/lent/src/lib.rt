@@ -14,7 +14,8 @@ ghost use Rattle.basics.specs.Lists.{every, firstWhere};
 ghost use Rattle.book.specs.Record.{recordIn, bookWith, placesOn, sideWith, replyOf};
 ghost use Rattle.rules.specs.Book.{placesASide, unused, isUnused};
 ghost use Rattle.rules.specs.Refusals.{firstOf, fitRefusals};
-ghost use Rattle.lent.specs.Lent.{isEmpty, sideOf, withSide, lentStep, workedOf, Answered, lendingStep};
+ghost use Rattle.rules.specs.Step.{step};
+ghost use Rattle.lent.specs.Lent.{isEmpty, sideOf, withSide, lentStep, workedOf, Answered};
 
 // What comes back: the reply, and the records of the table.
 struct Worked {
@@ -141,7 +142,7 @@ fn with_side(book: Book, buys: bool, side: Side) -> Book
     }
 }
 
-// Refusal 1, or else 2: the table does not fit, or that side of the book is not empty.
+// Refusal 1, or else 2: the table does not fit, that side of the book is not empty, or its count is not that of its records.
 fn refuse(book: Book, room: usize) -> Reply
     ensures { λ r. ⌜ r ≡ record { refusal = firstOf (fitRefusals room false); length = 0; book = book } ⌝ }
 {
@@ -236,17 +237,27 @@ fn answer_over(
     worked_of(reply, table)
 }
 
-// A line to a whole book by way of the table: one side is taken out and lent, and put in again.
+// A line to a whole book by way of the table: one side is taken out and lent, and put in again. It answers as the book itself does; a
+// side whose count is not that of its leading records is not sound.
 pub fn answer_lending(book: Book, buys: bool, line: &[u8], out: &mut [u8]) -> Reply
-    ensures { λ r. ⌜ r ≡ replyOf (lendingStep buys (recordIn book) (now (line .entry)) (now (out .entry))) ⌝ }
-    ensures { λ _. ⌜ now (out .exit) ≡ lendingStep buys (recordIn book) (now (line .entry)) (now (out .entry)) .out ⌝ }
+    ensures { λ r. ⌜ r ≡ replyOf (step (recordIn book) (now (line .entry)) (now (out .entry))) ⌝ }
+    ensures { λ _. ⌜ now (out .exit) ≡ step (recordIn book) (now (line .entry)) (now (out .entry)) .out ⌝ }
 {
     let side = side_of(book, buys);
     let places = side.places;
+    if side.used != used_in(places) {
+        return refuse(book, out.len());
+    }
     let apart = with_side(book, buys, NO_ORDERS);
     let worked = answer_over(apart, buys, places, line, out);
-    let left = worked.places;
     let reply = worked.reply;
+    if reply.refusal != 0 {
+        return Reply {
+            book: book,
+            ..reply
+        };
+    }
+    let left = worked.places;
     let rest = reply.book;
     let again = Side {
         used: used_in(left),

@@ -1,22 +1,23 @@
 -- Each public contract determines what its function leaves: any two outcomes that meet it are equal. A contract is read here as the
 -- checker reads it from the source (`Post`), not from a copy. Assumes nothing.
-use Prim.Native.Nat.{ℕ, _+_}
+use Prim.Native.Nat.{ℕ}
 use mathlib.Core.Path.{_≡_, sym, _∙_}
-use native.Mathlib.Omega.{arith}
 use denote.Ref.{now}
 use Rattle.lines.specs.declared.Line.{Line}
+use Rattle.lines.specs.declared.Read.{Read}
 use Rattle.lines.proofs.scan_line.Reads as scan
 use Rattle.lines.proofs.first_line.Reads as first
 use Rattle.lines.proofs.carry.Reads as carry
+use Rattle.lines.proofs.after_read.Reads as read
+
+pub scan-line-determined : (κs : _) (a : _) (r r′ : ℕ) (s s′ : _) → scan.Post κs a r s → scan.Post κs a r′ s′ → r ≡ r′
+scan-line-determined κs a r r′ s s′ p q = p ∙ sym q
 
 pub first-line-determined : (κs : _) (a : _) (r r′ : Line) (s s′ : _) → first.Post κs a r s → first.Post κs a r′ s′ → r ≡ r′
 first-line-determined κs a r r′ s s′ p q = p ∙ sym q
 
-same-sum : (k m n : ℕ) → k + m ≡ k + n → m ≡ n
-same-sum k m n e = omega (arith, e)
-
 pub carry-determined : (κs : _) (a : _) (r r′ : ℕ) (s s′ : _) → carry.Post κs a r s → carry.Post κs a r′ s′ → (r ≡ r′) × (now (s .0) ≡ now (s′ .0))
-carry-determined κs a r r′ s s′ p q = (same-sum _ r r′ (p .0 ∙ sym (q .0)), p .1 ∙ sym (q .1))
+carry-determined κs a r r′ s s′ p q = (p .0 ∙ sym (q .0), p .1 ∙ sym (q .1))
 
-pub scan-line-determined : (κs : _) (a : _) (r r′ : ℕ) (s s′ : _) → scan.Post κs a r s → scan.Post κs a r′ s′ → r ≡ r′
-scan-line-determined κs a r r′ s s′ p q = p ∙ sym q
+pub after-read-determined : (κs : _) (a : _) (r r′ : Read) (s s′ : _) → read.Post κs a r s → read.Post κs a r′ s′ → r ≡ r′
+after-read-determined κs a r r′ s s′ p q = p ∙ sym q

@@ -37,3 +37,13 @@ cut-none (c ∷ s) l =
     (λ (t : isLineFeed c ≡ true). let m : suc (length s) ≤ 0 = rw t at l in let z : ⊥ = omega arith in absurd z)
     (λ (t : isLineFeed c ≡ false). let m : suc (length s) ≤ suc (firstWhere isLineFeed s) = rw t at l in rw (t, cut-none s (omega arith)))
     (holds-or-not (isLineFeed c))
+
+-- the first line feed, or the end, stands within the bytes
+pub line-within : (s : List ℕ) → firstWhere isLineFeed s ≤ length s
+unfolding firstWhere
+line-within [] = omega arith
+line-within (c ∷ s) =
+    ⊎-elim
+    (λ (t : isLineFeed c ≡ true). rw t (omega arith))
+    (λ (t : isLineFeed c ≡ false). rw t (omega (arith, line-within s)))
+    (holds-or-not (isLineFeed c))

@@ -2,4 +2,5 @@ pub mod LawsLines
 pub mod LawsFirst
 pub mod LawsCut
 pub mod LawsPieces
+pub mod LawsRead
 pub mod Determined

@@ -1,12 +1,15 @@
 -- An input worked piece by piece, however it is cut: any state that lines lead on, one after the other. Between two pieces stand the
 -- state and the part of a line that the next piece goes on with. `LawsPieces` shows that the pieces of an input lead to what its
 -- lines do, wherever it is cut.
-use Prim.Native.Nat.{ℕ, _+_}
+use Prim.Native.Nat.{ℕ, zero, suc, _+_, min}
 use mathlib.Core.List.{List, [], _∷_, _++_}
 use lib.Dec.{eqb}
-use lib.ListN.{take}
+use lib.IntN.{ℤ, pos, negsuc}
+use lib.ListN.{take, drop}
 use Rattle.basics.specs.Choice.{if_then_else_}
 use Rattle.rules.specs.CommandLines.{longestLine, lineFeed}
+use Rattle.lines.specs.declared.Read.{Read}
+use Rattle.lines.specs.declared.Read.the-variants.{Failed, Ended, Upto}
 
 -- an input cut after its last line feed: its whole lines, each with its line feed, and the part of a line behind them
 pub record Cut : Type 0 where
@@ -28,6 +31,17 @@ cut (c ∷ s) =
 -- memory stays bounded
 abbrev pub partKept : ℕ
 partKept = longestLine + 1
+
+-- what is carried of the bytes from one place to another: no more of them than so many
+abbrev pub carried : List ℕ → ℕ → ℕ → ℕ → List ℕ
+carried input from end most = take most (drop from (take end input))
+
+-- what a read answers, where so many bytes stood in a buffer of so much room: it failed, or the input has ended, or bytes stand up to a
+-- place, never beyond the room
+abbrev pub readBehind : ℤ → ℕ → ℕ → Read
+readBehind (negsuc k) have room = Failed
+readBehind (pos zero) have room = Ended
+readBehind (pos (suc k)) have room = Upto (min room (have + suc k))
 
 -- the input that pieces are cut from
 unfoldable pub allOf : List (List ℕ) → List ℕ

@@ -1,14 +1,15 @@
 // Where the first line of some bytes ends, and what it reads as (01, Command lines). A line that is a command is read before its
-// line feed is looked for. A part of a line that a piece of input ends with is moved to the front, for the next piece to go on with.
+// line feed is looked for. What is left of a piece of input is moved to the front, for the next piece to go on with.
 use rules::Reading;
 ghost use mathlib.Core.Path.{_≡_};
-ghost use Prim.Native.Nat.{_+_, _≤_, min};
+ghost use Prim.Native.Nat.{_≤_};
 ghost use lib.Dec.{eqb};
 ghost use lib.ListN.{length};
-ghost use Rattle.basics.specs.Lists.{firstWhere, moved};
+ghost use Rattle.basics.specs.Bytes.{onto};
+ghost use Rattle.basics.specs.Lists.{firstWhere};
 ghost use Rattle.rules.specs.CommandLines.{lineFeed};
 ghost use Rattle.lines.specs.Lines.{digitsAfter, firstLine, otherLine};
-ghost use Rattle.lines.specs.Pieces.{partKept};
+ghost use Rattle.lines.specs.Pieces.{carried, readBehind};
 
 // The first line of some bytes: how many stand before its line feed, and what it reads as.
 pub struct Line {
@@ -75,19 +76,44 @@ pub fn first_line(s: &[u8]) -> Line
     }
 }
 
-// ── A part of a line ──
+// ── An input in pieces ──
 
-// Moves the part of a line that stands from `from` to `end` to the front, of which no more is kept than one byte over the longest
-// line, and tells how many bytes these are.
-pub fn carry(input: &mut [u8], from: usize, end: usize) -> usize
+// Moves the bytes that stand from `from` to `end` to the front, of which no more than `most` are kept, and tells how many these are.
+pub fn carry(input: &mut [u8], from: usize, end: usize, most: usize) -> usize
     requires { ⌜ (from ≤ end) × (end ≤ length (now input)) ⌝ }
-    ensures { λ r. ⌜ from + r ≡ min end (from + partKept) ⌝ }
-    ensures { λ _. ⌜ now (input .exit) ≡ moved (now (input .entry)) from (min end (from + partKept)) ⌝ }
+    ensures { λ r. ⌜ r ≡ length (carried (now (input .entry)) from end most) ⌝ }
+    ensures { λ _. ⌜ now (input .exit) ≡ onto (carried (now (input .entry)) from end most) (now (input .entry)) ⌝ }
 {
     let mut i = from;
-    while (i < end) & (i - from <= rules::LONGEST_LINE) {
+    while (i < end) & (i - from < most) {
         input[i - from] = input[i];
         i += 1;
     }
     i - from
+}
+
+// What a read leaves behind the bytes that stood in a buffer: it failed, or the input has ended, or bytes stand up to a place.
+pub enum Read {
+    Failed,
+    Ended,
+    Upto(usize),
+}
+
+// What `read` answered, where `have` bytes stood in a buffer of so much room. It gives no more than the room behind them, and more is not
+// believed.
+pub fn after_read(got: isize, have: usize, room: usize) -> Read
+    requires { ⌜ have ≤ room ⌝ }
+    ensures { λ r. ⌜ r ≡ readBehind got have room ⌝ }
+{
+    if got < 0 {
+        return Read::Failed;
+    }
+    if got == 0 {
+        return Read::Ended;
+    }
+    let more = got as usize;
+    if room - have < more {
+        return Read::Upto(room);
+    }
+    Read::Upto(have + more)
 }

@@ -1,12 +1,91 @@
 // Runs a day: command lines on standard input, event lines on standard output, to the end of the input (01, Examples from the
-// desk: the program). Here the room of a day is made; all else is in `night`.
+// desk: the program). It reads, lets `night` take a turn, writes what that hands over, and stops at a read or a write that failed.
+use libc::STDIN_FILENO;
+use libc::STDOUT_FILENO;
+use lines::Read;
 use rows::PLACES;
 use rows::WORDS;
+ghost use mathlib.Core.Bool.{false};
+ghost use mathlib.Core.List.{[]};
+ghost use mathlib.Core.Path.{_≡_};
+ghost use Prim.Native.Nat.{ℕ, _≤_, _<_};
+ghost use lib.ListN.{length, take};
+ghost use Rattle.lines.specs.Pieces.{partKept};
+ghost use Rattle.lines.specs.declared.Read.the-variants.{Upto};
+ghost use Rattle.rows.specs.Table.{tableOf};
+ghost use Rattle.rules.specs.Refusals.{leastRoom};
+
+// Reads behind the bytes that wait, if a turn asks for it.
+fn read_on(input: &mut [u8], have: usize, reads: bool) -> Read
+    requires { ⌜ have ≤ length (now input) ⌝ }
+    ensures { λ r. ⌜ (reads ≡ false → r ≡ Upto have) ⌝ }
+    ensures { λ r. ⌜ ((end : ℕ) → r ≡ Upto end → end ≤ length (now (input .exit))) ⌝ }
+    ensures { λ _. ⌜ take have (now (input .exit)) ≡ take have (now (input .entry)) ⌝ }
+{
+    if !reads {
+        return Read::Upto(have);
+    }
+    let got = libc::read(STDIN_FILENO, &mut input[have..]);
+    lines::after_read(got, have, input.len())
+}
+
+// Writes what a turn handed over; whether it was written.
+fn hand_over(bytes: &[u8]) -> bool {
+    if io::write_all(STDOUT_FILENO, bytes) {
+        return true;
+    }
+    os::fail(b"yarvotem: writing standard output");
+    false
+}
+
+// Writes what the end of the input hands over, of the part of a line that waits.
+fn end_day(part: &[u8], out: &mut [u8])
+    requires { ⌜ leastRoom ≤ length (now out) ⌝ }
+{
+    let length = night::finish(part, out);
+    hand_over(&out[..length]);
+}
+
+// A day, from a fresh book to the end of the input. A proved loop has to end, and nothing says that an input does: so the turns
+// are counted down from a number that no day uses up.
+fn run(
+    input: &mut [u8],
+    buys: &mut [[u32; WORDS]; PLACES],
+    sells: &mut [[u32; WORDS]; PLACES],
+    out: &mut [u8],
+)
+    requires { ⌜ (now buys ≡ tableOf []) × (now sells ≡ tableOf []) × (partKept < length (now input)) × (leastRoom ≤ length (now out)) ⌝ }
+{
+    let mut head = replay::begin();
+    let mut have = 0;
+    let mut turns = u64::MAX;
+    while 0 < turns {
+        let turn = night::take_turn(head, input, have, buys, sells, out);
+        if !hand_over(&out[..turn.length]) {
+            return;
+        }
+        head = turn.head;
+        have = turn.have;
+        let read = read_on(input, have, turn.reads);
+        match read {
+            Read::Failed => {
+                os::fail(b"yarvotem: reading standard input");
+                return;
+            }
+            Read::Ended => {
+                end_day(&input[..have], out);
+                return;
+            }
+            Read::Upto(end) => have = end,
+        }
+        turns -= 1;
+    }
+}
 
 fn main() {
     let mut input = [0u8; 65536];
     let mut out = [0u8; 69632];
     let mut buys = [[0u32; WORDS]; PLACES];
     let mut sells = [[0u32; WORDS]; PLACES];
-    night::run(&mut input, &mut buys, &mut sells, &mut out);
+    run(&mut input, &mut buys, &mut sells, &mut out);
 }

@@ -1,2 +1,4 @@
 pub mod Promises
+pub mod Beyond
 pub mod Worked
+pub mod Entries

@@ -1,49 +1,62 @@
 -- The front door: what the customer asked for (00-demands), sentence by sentence, each a statement and a citation of its proof. To
--- believe these a reader needs the definitions that they name: 01 itself in `rules/specs`, the customer's words in `demands/specs`,
--- and nothing of the machinery. Assumes nothing.
+-- believe these a reader needs the definitions that they name: 01 itself in `rules/specs`, the customer's words in `demands/specs`; for the
+-- tally `tally/specs/Tally`, for the program `night/specs/Turns` with `replay/specs` and `lines/specs/Pieces`. What else holds of a day, and
+-- of the lent table, stands in `Beyond` beside this file, and what the code itself is proved to do in `Entries`. Assumes nothing.
 use Prim.Native.Nat.{ℕ, _+_, _≤_}
 use mathlib.Core.Bool.{true, false}
-use mathlib.Core.List.{List, [], _∷_, _++_}
-use mathlib.Core.Logic.{_⊎_}
+use mathlib.Core.List.{List, [], _∷_, _++_, map}
+use mathlib.Core.Logic.{_⊎_, _≢_}
 use mathlib.Core.Path.{_≡_}
-use denote.Ref.{now}
-use lib.ListN.{length}
+use lib.ListN.{length, take}
 use Rattle.basics.specs.Bytes.{onto}
-use Rattle.basics.specs.Lists.{distinct, All}
+use Rattle.basics.specs.Lists.{distinct, All, OneOf}
+use Rattle.kinds.specs.declared.Cents.{Cents}
 use Rattle.kinds.specs.declared.Number.{Number}
+use Rattle.kinds.specs.declared.Shares.{Shares}
 use Rattle.rules.specs.declared.Away.{Away}
 use Rattle.rules.specs.declared.Body.the-variants as body
 use Rattle.rules.specs.declared.Command.{Command}
 use Rattle.rules.specs.declared.Event.{Event}
+use Rattle.rules.specs.declared.Event.the-variants.{Executed}
 use Rattle.rules.specs.declared.EventReading.the-variants as event
 use Rattle.rules.specs.declared.Order.{Order}
 use Rattle.rules.specs.declared.Reading.the-variants as reading
 use Rattle.rules.specs.declared.Resting.{Resting}
-use Rattle.rules.specs.Book.{Book, BookRecord, fresh, sound, recordOf}
+use Rattle.rules.specs.Book.{Book, BookRecord, fresh, sound, bookIn, recordOf, recordSound}
 use Rattle.rules.specs.CommandLines.{commandIn, lineOf, Fits}
 use Rattle.rules.specs.Day.{printed, bookAfter, printedOf, output}
-use Rattle.rules.specs.EventLines.{FitsEvent, eventLine, eventLines}
+use Rattle.rules.specs.EventLines.{FitsEvent, eventLine, eventLines, refusalLine}
 use Rattle.rules.specs.EventReading.{eventIn}
+use Rattle.rules.specs.Examples.{DeskExamples, QuoteExamples}
 use Rattle.rules.specs.Instructions.{has, postOnly}
 use Rattle.rules.specs.Refusals.{leastRoom}
-use Rattle.rules.specs.Step.{answerTo, step}
-use Rattle.rules.specs.Working.{wouldNowCross, does}
+use Rattle.rules.specs.Step.{answerTo, step, stepOn}
+use Rattle.rules.specs.Working.{does}
+use Rattle.rules.proofs.Examples.{desk-examples, quote-examples}
 use Rattle.rules.proofs.LawsEventReading.{eventIn-eventLine, eventIn-is}
 use Rattle.rules.proofs.LawsLines.{commandIn-lineOf, commandIn-is, lineOf-once}
 use Rattle.soundness.proofs.LawsKept.{fresh-sound, after-sound}
-use Rattle.demands.specs.Once.{EventLines, Refused, endOf, eventLinesOf, actingNumbers, struckOut, noneRefused, acts, byLine, Call, byCall}
-use Rattle.demands.specs.Run.{eventsOf, Enters}
-use Rattle.demands.specs.Told.{eventsIn, executedIn, cancelledIn, restingOf}
+use Rattle.demands.specs.Beyond.{oneTo, repeated}
+use Rattle.demands.specs.ExactlyWhen.{Applies, NoLower}
 use Rattle.demands.specs.Executes.{Executes}
-use Rattle.demands.proofs.LawsOnce.{lines-or-refusal, lines-once, lines-end, lines-tell, lines-act, lines-print, calls-once, calls-end, calls-tell, calls-act, repeat-refused}
-use Rattle.demands.proofs.LawsRun.{call-answers, accepted-does, quote-crossed-by-none, run-executes, run-read, run-conserved}
-use Rattle.book.specs.declared.Reply.{Reply}
-use Rattle.book.specs.Record.{recordIn, replyOf}
-use Rattle.book.proofs.Book.answer.Reads as answer
-use Rattle.book.proofs.Determined.{answer-determined}
+use Rattle.demands.specs.Once.{EventLines, Refused, endOf, eventLinesOf, actingNumbers, struckOut, noneRefused, acts, byLine, readingOf, lineAsked, Call, returned, byCall, linesWithRoom}
+use Rattle.demands.specs.Quoted.{Crosses, Quoted, WritesBoth}
+use Rattle.demands.specs.Run.{eventsOf, Enters}
+use Rattle.demands.specs.ShareOut.{opposite}
+use Rattle.demands.specs.Told.{eventsIn, executedIn, givenIn, cancelledIn, restingOf}
+use Rattle.demands.specs.Written.{OrderWrites, CancelWrites, closeLine, IsOrder}
+use Rattle.demands.proofs.LawsBeyond as beyond
+use Rattle.demands.proofs.LawsCalls as calling
+use Rattle.demands.proofs.LawsFills as fills
+use Rattle.demands.proofs.LawsOnce as once
+use Rattle.demands.proofs.LawsQuoted as quoted
+use Rattle.demands.proofs.LawsRun as run
+use Rattle.demands.proofs.LawsWritten as written
 use Rattle.lines.specs.Pieces.{allOf}
-use Rattle.replay.specs.Pieces.{begun, printedOfPieces}
-use Rattle.replay.proofs.LawsPieces.{cut-anywhere}
+use Rattle.night.specs.Turns.{Runs, Ran, Stops, Begins}
+use Rattle.night.proofs.LawsTurns as turns
+use Rattle.rows.specs.Table.{tableOf}
+use Rattle.tables.specs.Tables.{bookOn, headOf}
 use Rattle.tally.specs.declared.Stop.the-variants.{Going}
 use Rattle.tally.specs.Tally.{tallyOf, tallyOfPieces}
 use Rattle.tally.proofs.LawsAgree.{tally-agrees}
@@ -52,39 +65,55 @@ use Rattle.tally.proofs.LawsLong.{tally-cut}
 -- ── Demand 1 ──
 
 -- "Any bytes may arrive as a command, and any book record may be lent with them. The call ends with event lines or with one numbered
--- refusal from document 01. A refusal hands back the same book and writes no byte."
-pub any-call : (r : BookRecord) (line out : List ℕ) → EventLines out (step r line out) ⊎ Refused r out (step r line out)
-any-call = lines-or-refusal
+-- refusal from document 01. A refusal hands back the same book and writes no byte.": of a call by a line or by a method, with any output
+pub any-call : (r : BookRecord) (c : Call) → EventLines (c .out) (returned r c) ⊎ Refused r (c .out) (returned r c)
+any-call = calling.call-ends
+
+-- a method call is the call of its line; its fields have their widths, as those of every command that the machine holds (`write-says`)
+pub a-method-is-its-line : (r : BookRecord) (c : Command) (out : List ℕ) → Fits c → stepOn r (reading.Is c) out ≡ step r (lineOf c) out
+a-method-is-its-line = calling.method-line
+
+-- the table of refusals, "Given exactly when": a refusal is given exactly if its row applies and no lower one does
+pub refused-exactly-when : (r : BookRecord) (c : Call) (k : ℕ) → 1 ≤ k
+    → (returned r c .refusal ≡ k → Applies r (lineAsked (c .asks)) (c .out) k × NoLower r (lineAsked (c .asks)) (c .out) k)
+    × (Applies r (lineAsked (c .asks)) (c .out) k → NoLower r (lineAsked (c .asks)) (c .out) k → returned r c .refusal ≡ k)
+refused-exactly-when = calling.call-refused-exactly
+
+-- and a call is accepted exactly if no row applies
+pub accepted-exactly-when : (r : BookRecord) (c : Call)
+    → (returned r c .refusal ≡ 0 → (k : ℕ) → Applies r (lineAsked (c .asks)) (c .out) k → ⊥)
+    × (((k : ℕ) → Applies r (lineAsked (c .asks)) (c .out) k → ⊥) → returned r c .refusal ≡ 0)
+accepted-exactly-when = calling.call-accepted-exactly
 
 -- "In one day from a fresh book each command number acts at most once": a day is a run of such calls, each with the record that the
 -- one before handed back and with any output, so that some may be refused for want of room
 pub each-number-once : (calls : List Call) → distinct (actingNumbers byCall (recordOf fresh) calls) ≡ true
-each-number-once = calls-once (recordOf fresh)
+each-number-once = once.calls-once (recordOf fresh)
 
 -- "and that day with its refused commands struck out ends with the same book"
 pub struck-out-ends : (calls : List Call)
     → endOf byCall (recordOf fresh) (struckOut byCall (recordOf fresh) calls) ≡ endOf byCall (recordOf fresh) calls
-struck-out-ends = calls-end (recordOf fresh)
+struck-out-ends = once.calls-end (recordOf fresh)
 
 -- "and the same event lines"
 pub struck-out-tells : (calls : List Call)
     → eventLinesOf byCall (recordOf fresh) (struckOut byCall (recordOf fresh) calls) ≡ eventLinesOf byCall (recordOf fresh) calls
-struck-out-tells = calls-tell (recordOf fresh)
+struck-out-tells = once.calls-tell (recordOf fresh)
 
 -- and nothing of it is refused
 pub struck-out-acts : (calls : List Call) → noneRefused byCall (recordOf fresh) (struckOut byCall (recordOf fresh) calls) ≡ true
-struck-out-acts = calls-act (recordOf fresh)
+struck-out-acts = once.calls-act (recordOf fresh)
 
--- the program's day is a run of lines: on the record of a sound book, with room for the lines of a command, a call is one of them
-pub a-day-of-calls : (b : Book) (line out : List ℕ) → sound b ≡ true → leastRoom ≤ length out
-    → (step (recordOf b) line out .refusal ≡ answerTo b line .refusal) × (step (recordOf b) line out .book ≡ recordOf (answerTo b line .book))
-    × (step (recordOf b) line out .length ≡ length (eventLines (answerTo b line .events)))
-    × (step (recordOf b) line out .out ≡ onto (eventLines (answerTo b line .events)) out)
-a-day-of-calls = call-answers
+-- from any sound record a run of calls ends, tells and acts as the run of the lines of those calls that had room
+pub calls-are-lines : (r : BookRecord) → recordSound r ≡ true → (calls : List Call)
+    → (endOf byCall r calls ≡ recordOf (bookAfter (bookIn r) (linesWithRoom calls)))
+    × (eventLinesOf byCall r calls ≡ eventLinesOf byLine (bookIn r) (linesWithRoom calls))
+    × (actingNumbers byCall r calls ≡ actingNumbers byLine (bookIn r) (linesWithRoom calls))
+calls-are-lines = calling.calls-are-lines
 
--- of such a day all this holds too: each number acts at most once ..
+-- the program's day is such a run of lines: each number acts at most once ..
 pub each-number-once-by-line : (lines : List (List ℕ)) → distinct (actingNumbers byLine fresh lines) ≡ true
-each-number-once-by-line = lines-once fresh
+each-number-once-by-line = once.lines-once fresh
 
 -- .. and with its refused lines struck out it ends with the same book and the same event lines, nothing of it is refused, and those
 -- event lines are all that is printed of it
@@ -93,7 +122,7 @@ pub struck-out-by-line : (lines : List (List ℕ))
     × (eventLinesOf byLine fresh (struckOut byLine fresh lines) ≡ eventLinesOf byLine fresh lines)
     × (noneRefused byLine fresh (struckOut byLine fresh lines) ≡ true)
     × (printedOf fresh (struckOut byLine fresh lines) ≡ eventLinesOf byLine fresh lines)
-struck-out-by-line lines = (lines-end fresh lines, lines-tell fresh lines, lines-act fresh lines, lines-print fresh lines)
+struck-out-by-line lines = (once.lines-end fresh lines, once.lines-tell fresh lines, once.lines-act fresh lines, once.lines-print fresh lines)
 
 -- the repeat at three in the morning: once a line has acted, a line with its number is refused, whatever came between them,
 -- whatever its time
@@ -101,7 +130,24 @@ pub a-repeat-is-refused : (earlier between : List (List ℕ)) (line again : List
     → commandIn line ≡ reading.Is c → commandIn again ≡ reading.Is d → d .number ≡ c .number
     → answerTo (bookAfter fresh (earlier ++ (line ∷ between))) again
     ≡ record { refusal = 4; book = bookAfter fresh (earlier ++ (line ∷ between)); events = [] }
-a-repeat-is-refused = repeat-refused fresh
+a-repeat-is-refused = once.repeat-refused fresh
+
+-- the same by calls: one with room gets 4
+pub a-repeated-call-is-refused : (earlier between : List Call) (call again : Call) (c d : Command)
+    → byCall .acts (endOf byCall (recordOf fresh) earlier) call ≡ true → readingOf (call .asks) ≡ reading.Is c
+    → readingOf (again .asks) ≡ reading.Is d → d .number ≡ c .number → leastRoom ≤ length (again .out)
+    → returned (endOf byCall (recordOf fresh) (earlier ++ (call ∷ between))) again .refusal ≡ 4
+a-repeated-call-is-refused = calling.repeat-refused-by-call
+
+-- the accepted lines of a day, sent again after it in any order and number, get only refusal 4 and change nothing
+pub sent-again : (lines again : List (List ℕ)) → All (λ (l : List ℕ). OneOf l (struckOut byLine fresh lines)) again
+    → (bookAfter (bookAfter fresh lines) again ≡ bookAfter fresh lines)
+    × (printedOf (bookAfter fresh lines) again ≡ repeated (length again) (refusalLine 4))
+sent-again = beyond.sent-again
+
+-- the accepted numbers of a day are exactly 1 to the last
+pub numbers-follow : (calls : List Call) → actingNumbers byCall (recordOf fresh) calls ≡ oneTo (endOf byCall (recordOf fresh) calls .last .0)
+numbers-follow = beyond.numbers-follow-by-call
 
 -- ── Demand 2 ──
 
@@ -109,19 +155,76 @@ a-repeat-is-refused = repeat-refused fresh
 pub does-what-01-says : (b : Book) (line : List ℕ) (c : Command) → commandIn line ≡ reading.Is c → acts b line ≡ true
     → (answerTo b line .book ≡ does (c .number) (c .time) (c .body) b .book)
     × (answerTo b line .events ≡ does (c .number) (c .time) (c .body) b .events)
-does-what-01-says = accepted-does
+does-what-01-says = run.accepted-does
 
--- "a non-displayed order that would now cross the away quote is set at the Locking Price" (02, W2), or cancelled: after an accepted
--- quote none would cross it, on either side
-pub none-crosses-a-quote : (b : Book) (line : List ℕ) (n : Number) (time : ℕ) (away : Away)
-    → commandIn line ≡ reading.Is (record { number = n; time = time; body = body.Quote away }) → acts b line ≡ true
-    → All (λ (h : Resting). wouldNowCross true away h ≡ false) (answerTo b line .book .buys)
-    × All (λ (h : Resting). wouldNowCross false away h ≡ false) (answerTo b line .book .sells)
-none-crosses-a-quote = quote-crossed-by-none
+-- the same of a call: the record that it hands back, and the bytes that it writes
+pub a-call-does-what-01-says : (r : BookRecord) (k : Call) (c : Command) → readingOf (k .asks) ≡ reading.Is c → byCall .acts r k ≡ true
+    → (returned r k .book ≡ recordOf (does (c .number) (c .time) (c .body) (bookIn r) .book))
+    × (byCall .tells r k ≡ eventLines (does (c .number) (c .time) (c .body) (bookIn r) .events))
+a-call-does-what-01-says = calling.call-does
 
--- the book of a day is always sound
-pub sound-all-day : (lines : List (List ℕ)) → sound (bookAfter fresh lines) ≡ true
-sound-all-day lines = after-sound fresh lines fresh-sound
+-- That `does` is 01 is for its reader to see. What follows from it, in words of its own:
+
+-- an order writes its executions, one at most of each opposite order, in rank order, each at that order's price, and then at most one
+-- `12`, which tells how it rests, or `13`
+pub an-order-writes : (b : Book) (line : List ℕ) (c : Command) (o : Order) → sound b ≡ true → acts b line ≡ true → commandIn line ≡ reading.Is c
+    → c .body ≡ body.Order o → OrderWrites (c .number) o b (answerTo b line .book) (eventsIn (printed (answerTo b line)))
+an-order-writes = written.order-writes
+
+-- and nothing but an order writes an execution
+pub only-orders-execute : (b : Book) (line : List ℕ) (c : Command) (incoming resting : Number) (price : Cents) (shares : Shares) → sound b ≡ true
+    → acts b line ≡ true → commandIn line ≡ reading.Is c
+    → OneOf (Executed incoming resting price shares) (eventsIn (printed (answerTo b line))) → IsOrder (c .body)
+only-orders-execute = written.only-orders-execute
+
+-- a cancel takes the order of that number off the book, reason 1, and no other
+pub a-cancel-writes : (b : Book) (line : List ℕ) (c : Command) (of : Number) → sound b ≡ true → acts b line ≡ true → commandIn line ≡ reading.Is c
+    → c .body ≡ body.Cancel of
+    → CancelWrites of (b .buys ++ b .sells) (answerTo b line .book .buys ++ answerTo b line .book .sells) (eventsIn (printed (answerTo b line)))
+a-cancel-writes = written.cancel-writes
+
+-- "Close cancels all buys in rank order, then all sells, and closes."
+pub a-close-writes : (b : Book) (line : List ℕ) (c : Command) → sound b ≡ true → acts b line ≡ true → commandIn line ≡ reading.Is c
+    → c .body ≡ body.Close
+    → (eventsIn (printed (answerTo b line)) ≡ map closeLine (b .buys ++ b .sells))
+    × (answerTo b line .book .buys ≡ []) × (answerTo b line .book .sells ≡ []) × (answerTo b line .book .closed ≡ true)
+a-close-writes = written.close-writes
+
+-- every accepted command leaves its number and its time ..
+pub a-command-leaves : (b : Book) (line : List ℕ) (c : Command) → acts b line ≡ true → commandIn line ≡ reading.Is c
+    → (answerTo b line .book .last ≡ c .number) × (answerTo b line .book .time ≡ c .time)
+a-command-leaves = written.number-and-time-left
+
+-- .. a quote its away prices, and no other command changes those ..
+pub a-quote-is-held : (b : Book) (line : List ℕ) (c : Command) (away : Away) → acts b line ≡ true → commandIn line ≡ reading.Is c
+    → c .body ≡ body.Quote away → answerTo b line .book .away ≡ away
+a-quote-is-held = written.quote-held
+
+pub a-quote-is-kept : (b : Book) (line : List ℕ) (c : Command) → acts b line ≡ true → commandIn line ≡ reading.Is c
+    → ((away : Away) → c .body ≢ body.Quote away) → answerTo b line .book .away ≡ b .away
+a-quote-is-kept = written.away-kept
+
+-- .. and none but a close closes the book
+pub only-a-close-closes : (b : Book) (line : List ℕ) (c : Command) → acts b line ≡ true → commandIn line ≡ reading.Is c → c .body ≢ body.Close
+    → answerTo b line .book .closed ≡ false
+only-a-close-closes = written.open-unless-closed
+
+-- P1 to P12, "a single table with a single proved claim", and the sources' examples of a moved quote (02, W2)
+pub examples-from-the-desk : DeskExamples
+examples-from-the-desk = desk-examples
+
+pub examples-of-a-moved-quote : QuoteExamples
+examples-of-a-moved-quote = quote-examples
+
+-- every call keeps a sound record sound, so the record of a day is always sound, and so is the book of a day of lines
+pub sound-after-a-call : (r : BookRecord) (c : Call) → recordSound r ≡ true → recordSound (returned r c .book) ≡ true
+sound-after-a-call = calling.call-sound
+
+pub sound-all-day : (calls : List Call) → recordSound (endOf byCall (recordOf fresh) calls) ≡ true
+sound-all-day = calling.calls-sound
+
+pub sound-all-day-by-line : (lines : List (List ℕ)) → sound (bookAfter fresh lines) ≡ true
+sound-all-day-by-line lines = after-sound fresh lines fresh-sound
 
 -- "Command lines are read and written, each command having one line": what is written of a command is read as that command ..
 pub one-line-a-command : (c : Command) → Fits c → commandIn (lineOf c) ≡ reading.Is c
@@ -142,22 +245,64 @@ no-shared-line = lineOf-once
 -- no resting order gives a share while a better-ranked one that could lawfully give keeps one.": said of the lines that the order
 -- itself prints, read back from their bytes
 pub executes-the-greatest : (lines : List (List ℕ)) (stood : Book) (line : List ℕ) (c : Command) (o : Order)
-    → Enters fresh lines stood line c o → has (o .word) postOnly ≡ false → Executes stood c o (eventsIn (printed (answerTo stood line)))
-executes-the-greatest = run-executes
+    → Enters byLine fresh lines stood line c o → has (o .word) postOnly ≡ false → Executes stood c o (eventsIn (printed (answerTo stood line)))
+executes-the-greatest = run.run-executes
+
+-- the same of any run of lines from a sound book, and of any run of calls from any record lent: on one that is not sound no order enters
+pub executes-the-greatest-from : (b : Book) (lines : List (List ℕ)) (stood : Book) (line : List ℕ) (c : Command) (o : Order) → sound b ≡ true
+    → Enters byLine b lines stood line c o → has (o .word) postOnly ≡ false → Executes stood c o (eventsIn (printed (answerTo stood line)))
+executes-the-greatest-from b lines stood line c o = run.executes-from
+
+pub executes-the-greatest-by-call : (r : BookRecord) (calls : List Call) (stood : BookRecord) (call : Call) (c : Command) (o : Order)
+    → Enters byCall r calls stood call c o → has (o .word) postOnly ≡ false
+    → Executes (bookIn stood) c o (eventsIn (byCall .tells stood call))
+executes-the-greatest-by-call = calling.calls-execute
 
 -- what is printed is read back whole: nothing that a day tells is lost in the reading, and refusals tell nothing
 pub nothing-unread : (lines : List (List ℕ)) → eventsIn (printedOf fresh lines) ≡ eventsOf fresh lines
-nothing-unread = run-read
+nothing-unread = run.run-read
 
 -- "For each accepted order, shares entered equal shares executed plus cancelled, both summed from the event lines, plus those still
 -- resting.": from all that the day prints, read back from its bytes
-pub no-share-lost : (lines : List (List ℕ)) (stood : Book) (line : List ℕ) (c : Command) (o : Order) → Enters fresh lines stood line c o
+pub no-share-lost : (lines : List (List ℕ)) (stood : Book) (line : List ℕ) (c : Command) (o : Order) → Enters byLine fresh lines stood line c o
     → o .shares .0
     ≡ executedIn (c .number) (eventsIn (printedOf fresh lines)) + cancelledIn (c .number) (eventsIn (printedOf fresh lines))
     + restingOf (c .number) (bookAfter fresh lines)
-no-share-lost = run-conserved
+no-share-lost = run.run-conserved
+
+-- the same of any run of lines from a sound book, and of any run of calls from any record lent
+pub no-share-lost-from : (b : Book) (lines : List (List ℕ)) (stood : Book) (line : List ℕ) (c : Command) (o : Order) → sound b ≡ true
+    → Enters byLine b lines stood line c o
+    → o .shares .0
+    ≡ executedIn (c .number) (eventsIn (printedOf b lines)) + cancelledIn (c .number) (eventsIn (printedOf b lines))
+    + restingOf (c .number) (bookAfter b lines)
+no-share-lost-from b lines stood line c o = run.told-conserved
+
+pub no-share-lost-by-call : (r : BookRecord) (calls : List Call) (stood : BookRecord) (call : Call) (c : Command) (o : Order)
+    → Enters byCall r calls stood call c o
+    → o .shares .0
+    ≡ executedIn (c .number) (eventsIn (eventLinesOf byCall r calls)) + cancelledIn (c .number) (eventsIn (eventLinesOf byCall r calls))
+    + restingOf (c .number) (bookIn (endOf byCall r calls))
+no-share-lost-by-call = calling.calls-conserve
+
+-- and of the orders that rest in a sound book when a run begins
+pub no-resting-share-lost : (n : Number) (r : BookRecord) (calls : List Call) → recordSound r ≡ true → n .0 ≤ r .last .0
+    → restingOf n (bookIn r)
+    ≡ executedIn n (eventsIn (eventLinesOf byCall r calls)) + cancelledIn n (eventsIn (eventLinesOf byCall r calls))
+    + restingOf n (bookIn (endOf byCall r calls))
+no-resting-share-lost = calling.calls-settle
+
+-- demand 3 determines the fills: two outcomes that meet it give each resting order the same, and the same in all
+pub fills-determined : (stood : Book) (c : Command) (o : Order) (es fs : List Event) → sound stood ≡ true
+    → Executes stood c o es → Executes stood c o fs
+    → ((h : Resting) → OneOf h (opposite o stood) → givenIn (h .number) es ≡ givenIn (h .number) fs)
+    × (executedIn (c .number) es ≡ executedIn (c .number) fs)
+fills-determined = fills.fills-determined
 
 -- ── W1: our own lines, read back ──
+
+-- In which order a bad line's faults are tried, and what stops a tally, is said in `eventIn` of `rules/specs/EventReading` and in `turn` of
+-- `tally/specs/Tally`; the readers meet those (`read-event-says`, `tally-says`).
 
 -- "It is the exact opposite of the event writer": what is written of an event is read as that event ..
 pub one-line-an-event : (e : Event) → FitsEvent e → eventIn (eventLine e) ≡ event.Is e
@@ -169,39 +314,68 @@ one-event-a-line line e is = let read = eventIn-is line e is in (read .line-is, 
 
 -- the tally of a day's own lines "must agree with demand 3's sums": for each accepted order nothing stops it, and it gives just the
 -- executed and the cancelled shares that the sums above count
-pub the-tally-agrees : (lines : List (List ℕ)) (stood : Book) (line : List ℕ) (c : Command) (o : Order) → Enters fresh lines stood line c o
+pub the-tally-agrees : (lines : List (List ℕ)) (stood : Book) (line : List ℕ) (c : Command) (o : Order) → Enters byLine fresh lines stood line c o
     → (tallyOf (c .number) (printedOf fresh lines) .stop ≡ Going)
     × (tallyOf (c .number) (printedOf fresh lines) .executed .0 ≡ executedIn (c .number) (eventsIn (printedOf fresh lines)))
     × (tallyOf (c .number) (printedOf fresh lines) .cancelled .0 ≡ cancelledIn (c .number) (eventsIn (printedOf fresh lines)))
 the-tally-agrees lines stood line c o r = let has = tally-agrees lines stood line c o r in (has .going, has .executed-are, has .cancelled-are)
 
 -- so that shares entered = executed + cancelled + resting is read off the tally
-pub read-off-the-tally : (lines : List (List ℕ)) (stood : Book) (line : List ℕ) (c : Command) (o : Order) → Enters fresh lines stood line c o
+pub read-off-the-tally : (lines : List (List ℕ)) (stood : Book) (line : List ℕ) (c : Command) (o : Order) → Enters byLine fresh lines stood line c o
     → o .shares .0
     ≡ tallyOf (c .number) (printedOf fresh lines) .executed .0 + tallyOf (c .number) (printedOf fresh lines) .cancelled .0
     + restingOf (c .number) (bookAfter fresh lines)
 read-off-the-tally lines stood line c o r =
     let has = tally-agrees lines stood line c o r in
-    rw (has .executed-are, has .cancelled-are) (run-conserved lines stood line c o r)
+    rw (has .executed-are, has .cancelled-are) (run.run-conserved lines stood line c o r)
 
 -- and the tally of the pieces of an output is that of the whole output, however it is cut
 pub tally-however-cut : (n : Number) (pieces : List (List ℕ)) → tallyOfPieces n pieces ≡ tallyOf n (allOf pieces)
 tally-however-cut = tally-cut
 
--- ── The code, and the program's step ──
+-- ── W2: a moved quote ──
 
--- whatever the entry `Book::answer` returns, for any book, line and output, is the step that demand 1 speaks of
-pub the-entry : (κs : _) (a : _) (r : Reply) (s : _) → answer.Post κs a r s
-    → (r ≡ replyOf (step (recordIn (a .0)) (now (a .1 .0)) (now (a .1 .1 .0))))
-    × (now (s .1 .1 .0) ≡ step (recordIn (a .0)) (now (a .1 .0)) (now (a .1 .1 .0)) .out)
-the-entry κs a r s p = p
+-- an accepted quote on a sound book: who does not cross it stands as before; who does is set at the Locking Price with a new stamp, or is
+-- gone, with Cancel Back; those that moved keep their order, behind whoever stood at that price; on both sides, each told by its line
+pub a-quote-moves : (b : Book) (line : List ℕ) (n : Number) (time : ℕ) (away : Away) → sound b ≡ true
+    → commandIn line ≡ reading.Is (record { number = n; time = time; body = body.Quote away }) → acts b line ≡ true
+    → Quoted true n away (b .buys) (answerTo b line .book .buys) (eventsIn (printed (answerTo b line)))
+    × Quoted false n away (b .sells) (answerTo b line .book .sells) (eventsIn (printed (answerTo b line)))
+a-quote-moves = quoted.quote-moves
 
--- so any two results of it are one
-pub one-result : (κs : _) (a : _) (r r′ : Reply) (s s′ : _) → answer.Post κs a r s → answer.Post κs a r′ s′
-    → (r ≡ r′) × (now (s .1 .1 .0) ≡ now (s′ .1 .1 .0))
-one-result = answer-determined
+-- "Quote writes `14` .. or `13`, buys first, in former rank order", and nothing else
+pub a-quote-writes : (b : Book) (line : List ℕ) (n : Number) (time : ℕ) (away : Away) → sound b ≡ true
+    → commandIn line ≡ reading.Is (record { number = n; time = time; body = body.Quote away }) → acts b line ≡ true
+    → WritesBoth away (b .buys) (b .sells) (eventsIn (printed (answerTo b line)))
+a-quote-writes = quoted.quote-writes
 
--- and what is printed of the pieces of an input, which the program reads, feeds to `replay::feed` and writes, is what 01 says of the
--- whole input, however it is cut
-pub however-cut : (pieces : List (List ℕ)) → printedOfPieces begun pieces ≡ output (allOf pieces)
-however-cut = cut-anywhere
+-- so after it no non-displayed order crosses it; a displayed one may
+pub no-hidden-order-crosses : (b : Book) (line : List ℕ) (n : Number) (time : ℕ) (away : Away)
+    → commandIn line ≡ reading.Is (record { number = n; time = time; body = body.Quote away }) → acts b line ≡ true
+    → All (λ (h : Resting). Crosses away h true → ⊥) (answerTo b line .book .buys)
+    × All (λ (h : Resting). Crosses away h false → ⊥) (answerTo b line .book .sells)
+no-hidden-order-crosses = quoted.no-hidden-order-crosses
+
+-- ── The program ──
+
+-- Turns are taken as in `Runs`, which is how `program/src/main.rt` calls them (that is read there, and not proved): each is
+-- `night::take_turn` (`turn-says`), the end is `night::finish` (`finish-says`), and what a read gave is `lines::after_read` (`after-read-says`).
+
+-- whatever the reads give, piece by piece, all that such turns have handed to `write` when the input ends is what 01 says of the whole
+-- input ..
+pub the-program-prints : (room : ℕ) (pieces : List (List ℕ)) (handed : List ℕ) → Runs room fresh [] pieces handed → handed ≡ output (allOf pieces)
+the-program-prints = turns.runs-output
+
+-- .. and there are such turns for every input, however it is cut
+pub there-are-such-turns : (room : ℕ) → leastRoom ≤ room → (pieces : List (List ℕ)) → Ran room pieces
+there-are-such-turns = turns.runs-end
+
+-- where a read or a write fails, what was written is the beginning of it
+pub the-program-stops : (room : ℕ) (pieces : List (List ℕ)) (written : List ℕ) → Stops room fresh [] pieces written
+    → Begins written (output (allOf pieces))
+the-program-stops = turns.stops-output
+
+-- what one turn leaves the next one finds: the book in its header and tables, and the bytes that wait at the front of the input
+pub a-turn-hands-on : (b : Book) (waits input : List ℕ)
+    → (bookOn (headOf b) (tableOf (b .buys)) (tableOf (b .sells)) ≡ b) × (take (length waits) (onto waits input) ≡ waits)
+a-turn-hands-on = turns.hands-on

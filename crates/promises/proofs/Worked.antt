@@ -48,15 +48,15 @@ night-tells = refl
 
 -- three of the night's orders enter it: the Fill-or-Kill that the away price kills, the one that takes all it may, and the one whose
 -- remainder rests
-killed-enters : Enters fresh night (bookAfter fresh (take 5 night)) (lineOf theKilled) theKilled killed
+killed-enters : Enters byLine fresh night (bookAfter fresh (take 5 night)) (lineOf theKilled) theKilled killed
 unfolding ones onesIn onto every any distinct total digits nibbleOf allDigits numberAfter numberIn ranksBefore inRankOrder apart sound written lineOf numbersFrom orderIn cancelIn quoteIn closeIn bodyIn commandIn lawful firstOf restsOnFullSide headerRefusals bodyRefusals lineRefusals refusals doneBy answer answerTo nothing walk walked takings remainder executions after seeks endingWith ending insert accept kept cancels cancel quote close does bookAfter setAnew moveLines insertAll afterMoves
 killed-enters = later (later (later (later (later (now refl refl refl)))))
 
-greedy-enters : Enters fresh night (bookAfter fresh (take 6 night)) (lineOf theGreedy) theGreedy greedy
+greedy-enters : Enters byLine fresh night (bookAfter fresh (take 6 night)) (lineOf theGreedy) theGreedy greedy
 unfolding ones onesIn onto every any distinct total digits nibbleOf allDigits numberAfter numberIn ranksBefore inRankOrder apart sound written lineOf numbersFrom orderIn cancelIn quoteIn closeIn bodyIn commandIn lawful firstOf restsOnFullSide headerRefusals bodyRefusals lineRefusals refusals doneBy answer answerTo nothing walk walked takings remainder executions after seeks endingWith ending insert accept kept cancels cancel quote close does bookAfter setAnew moveLines insertAll afterMoves
 greedy-enters = later (later (later (later (later (later (now refl refl refl))))))
 
-resting-enters : Enters fresh night (bookAfter fresh (take 8 night)) (lineOf theResting) theResting resting
+resting-enters : Enters byLine fresh night (bookAfter fresh (take 8 night)) (lineOf theResting) theResting resting
 unfolding ones onesIn onto every any distinct total digits nibbleOf allDigits numberAfter numberIn ranksBefore inRankOrder apart sound written lineOf numbersFrom orderIn cancelIn quoteIn closeIn bodyIn commandIn lawful firstOf restsOnFullSide headerRefusals bodyRefusals lineRefusals refusals doneBy answer answerTo nothing walk walked takings remainder executions after seeks endingWith ending insert accept kept cancels cancel quote close does bookAfter setAnew moveLines insertAll afterMoves
 resting-enters = later (later (later (later (later (later (later (later (now refl refl refl))))))))
 

@@ -32,7 +32,7 @@ use Rattle.replay.specs.Feed.{answerFor, Worked, nothingOf, behind, work
 
 -- ── A sound book in its header and tables ──
 
-book-back : (b : Book) → bookOn (headOf b) (tableOf (b .buys)) (tableOf (b .sells)) ≡ b
+pub book-back : (b : Book) → bookOn (headOf b) (tableOf (b .buys)) (tableOf (b .sells)) ≡ b
 book-back b = rw (side-tableOf (b .buys), side-tableOf (b .sells))
 
 pub stands-back : (b : Book) → sound b ≡ true → Stands (headOf b) (tableOf (b .buys)) (tableOf (b .sells))

@@ -4,11 +4,13 @@
 use book::Book;
 use book::Reply;
 use book::Side;
+use libc::STDIN_FILENO;
 use libc::STDOUT_FILENO;
 use rows::PLACES;
 use rules::Resting;
 use rules::Stamp;
 ghost use mathlib.Core.Path.{_≡_};
+ghost use Prim.Native.Nat.{_≤_, _<_};
 ghost use lib.ListN.{length};
 
 // ── Two books compared ──
@@ -125,7 +127,7 @@ fn run_line(book: Book, buys: bool, line: &[u8], out: &mut [u8], other: &mut [u8
         return stop(book);
     }
     if !print(reply, out) {
-        night::fail_writing();
+        os::fail(b"yarvotem: writing standard output");
         return stop(book);
     }
     let next = reply.book;
@@ -137,13 +139,25 @@ fn run_line(book: Book, buys: bool, line: &[u8], out: &mut [u8], other: &mut [u8
 
 // ── The day ──
 
+// The place after the next line feed, or the end.
+fn line_after(day: &[u8], from: usize) -> usize
+    requires { ⌜ from < length (now day) ⌝ }
+    ensures { λ r. ⌜ (from < r) × (r ≤ length (now (day .entry))) ⌝ }
+{
+    let end = from + lines::scan_line(&day[from..]);
+    if end < day.len() {
+        return end + 1;
+    }
+    end
+}
+
 // The sells are lent for the first line, the buys for the next, and so in turn.
 fn run_day(day: &[u8], out: &mut [u8], other: &mut [u8]) {
     let mut book = Book::fresh();
     let mut buys = false;
     let mut at = 0;
     while at < day.len() {
-        let after = night::line_after(day, at);
+        let after = line_after(day, at);
         let turn = run_line(book, buys, &day[at..after], out, other);
         if !turn.goes_on {
             return;
@@ -166,6 +180,6 @@ fn main() {
     let mut input = input_room();
     let mut out = [0u8; rules::LEAST_ROOM];
     let mut other = [0u8; rules::LEAST_ROOM];
-    let end = night::read_all(&mut input);
+    let end = io::read_full(STDIN_FILENO, &mut input);
     run_day(&input[0..end], &mut out, &mut other);
 }

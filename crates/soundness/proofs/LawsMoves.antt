@@ -73,7 +73,7 @@ moves-fit n k buy away s =
 
 -- ── What holds of every order ──
 
-inserted-all : {P : Resting → Type 0} (buy : Bool) {xs s : List Resting} → All P xs → All P s → All P (insertAll buy xs s)
+pub inserted-all : {P : Resting → Type 0} (buy : Bool) {xs s : List Resting} → All P xs → All P s → All P (insertAll buy xs s)
 unfolding insertAll
 inserted-all buy none a = a
 inserted-all buy {s = s} (also {x = x} p more) a = inserted-all buy more (added-all p (added-insert buy x s) a)
@@ -112,7 +112,7 @@ module _ (buy : Bool) (away : Away) where
   pub within-stays : (h : Resting) → beyond buy (lockingPrice buy away) (h .price) ≡ false → wouldNowCross buy away h ≡ false
   within-stays h w = rw w (and-none (not (h .displayed) && not (absent (lockingPrice buy away))))
 
-  not-beyond-itself : (b : Bool) (p : Cents) → beyond b p p ≡ false
+  pub not-beyond-itself : (b : Bool) (p : Cents) → beyond b p p ≡ false
   not-beyond-itself true p = le-ltb (p .0) (p .0) (omega arith)
   not-beyond-itself false p = le-ltb (p .0) (p .0) (omega arith)
 
@@ -167,13 +167,13 @@ module _ (n : Number) (buy : Bool) (away : Away) where
 
 -- an order that would cross does so at a Locking Price that is there, and its own price is beyond it
 module _ (buy : Bool) (away : Away) (h : Resting) (crosses : wouldNowCross buy away h ≡ true) where
-  crosses-present : absent (lockingPrice buy away) ≡ false
+  pub crosses-present : absent (lockingPrice buy away) ≡ false
   crosses-present =
       let locking = lockingPrice buy away in
       let both = and-left (not (h .displayed) && not (absent locking)) (beyond buy locking (h .price)) crosses in
       not-true (absent locking) (and-right (not (h .displayed)) (not (absent locking)) both)
 
-  crosses-beyond : beyond buy (lockingPrice buy away) (h .price) ≡ true
+  pub crosses-beyond : beyond buy (lockingPrice buy away) (h .price) ≡ true
   crosses-beyond =
       let locking = lockingPrice buy away in
       and-right (not (h .displayed) && not (absent locking)) (beyond buy locking (h .price)) crosses

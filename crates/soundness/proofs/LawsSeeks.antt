@@ -58,7 +58,7 @@ beyond-further false a b c p q =
     lt-ltb (c .0) (a .0) (omega arith)
 
 -- beyond a price that is at or beyond a bound, so beyond the bound
-beyond-within : (buy : Bool) (bound limit price : Cents) → (eqb (limit .0) (bound .0) || beyond buy bound limit) ≡ true → beyond buy limit price ≡ true → beyond buy bound price ≡ true
+pub beyond-within : (buy : Bool) (bound limit price : Cents) → (eqb (limit .0) (bound .0) || beyond buy bound limit) ≡ true → beyond buy limit price ≡ true → beyond buy bound price ≡ true
 beyond-within buy bound limit price l b =
     ⊎-elim
     (λ (e : eqb (limit .0) (bound .0) ≡ true). let same : limit .0 ≡ bound .0 = eqb-true (limit .0) (bound .0) e in at-bound buy same b)
@@ -95,7 +95,7 @@ may-not false true false e = inr (refl, refl)
 may-not false false true e = absurd (true≢false e)
 may-not false false false e = absurd (true≢false e)
 
-or-right : (a : Bool) {b : Bool} → b ≡ true → (a || b) ≡ true
+pub or-right : (a : Bool) {b : Bool} → b ≡ true → (a || b) ≡ true
 or-right true e = refl
 or-right false e = e
 

@@ -13,3 +13,4 @@ pub mod LawsMoves
 pub mod LawsEndings
 pub mod LawsOrder
 pub mod LawsKept
+pub mod LawsRecords

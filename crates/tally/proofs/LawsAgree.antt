@@ -26,14 +26,14 @@ use Rattle.rules.specs.Step.{answerTo}
 use Rattle.rules.proofs.LawsEventReading.{eventIn-eventLine, event-kind, refusal-kind}
 use Rattle.rules.proofs.LawsLines.{commandIn-is}
 use Rattle.soundness.proofs.LawsKept.{fresh-sound, answer-sound}
-use Rattle.demands.specs.Once.{acts}
+use Rattle.demands.specs.Once.{acts, byLine}
 use Rattle.demands.specs.Run.{eventsOf, Enters, now, later}
 use Rattle.demands.specs.Told.{eventsIn, executedBy, cancelledBy, executedIn, cancelledIn}
 use Rattle.demands.proofs.LawsEventLines.{line-first}
 use Rattle.demands.proofs.LawsOnce.{refused-events}
 use Rattle.demands.proofs.LawsRun.{run-read}
 use Rattle.demands.proofs.LawsSums.{conserved}
-use Rattle.demands.proofs.LawsTold.{acting-fits, last-fits}
+use Rattle.demands.proofs.LawsTold.{acting-fits}
 use Rattle.tally.specs.declared.Stop.the-variants as stop
 use Rattle.tally.specs.declared.Tally.{Tally}
 use Rattle.tally.specs.Tally.{begun, executedShares, passedOver, added, goingOn, turn, tallyOf}
@@ -115,14 +115,14 @@ module _ (n : Number) where
       }
 
   -- what is printed of a line that acts
-  module _ (b : Book) (l : List ℕ) (s : sound b ≡ true) (small : b .last .0 < 2 ^ 32) where
+  module _ (b : Book) (l : List ℕ) (s : sound b ≡ true) where
     acts-then : (rest : List ℕ) (t : Tally) (x y : ℕ) → acts b l ≡ true → Has t x y
         → x + sumOf (executedBy n) (answerTo b l .events) ≤ largest → y + sumOf (cancelledBy n) (answerTo b l .events) ≤ largest
         → Then t (printed (answerTo b l) ++ rest) rest (x + sumOf (executedBy n) (answerTo b l .events)) (y + sumOf (cancelledBy n) (answerTo b l .events))
     unfolding printed
     acts-then rest t x y a h p q =
         let same = same-sums n (line-two b l s a) in
-        let u = events-then rest t x y (acting-fits b l s small a) h (omega (arith, same, p)) q in
+        let u = events-then rest t x y (acting-fits b l s a) h (omega (arith, same, p)) q in
         rw a (record { tally = u .tally; has = has-same (x + sumOf (executedBy n) (answerTo b l .events)) (y + sumOf (cancelledBy n) (answerTo b l .events)) (omega (arith, same)) refl (u .has); leads = u .leads })
 
     -- and of one that is refused
@@ -138,12 +138,12 @@ module _ (n : Number) where
 
   -- ── A run of lines ──
 
-  run-has : (b : Book) (ls : List (List ℕ)) → sound b ≡ true → b .last .0 < 2 ^ 32 → (t : Tally) (x y : ℕ) → Has t x y
+  run-has : (b : Book) (ls : List (List ℕ)) → sound b ≡ true → (t : Tally) (x y : ℕ) → Has t x y
       → x + sumOf (executedBy n) (eventsOf b ls) ≤ largest → y + sumOf (cancelledBy n) (eventsOf b ls) ≤ largest
       → Has (afterLines (turn n) t (linesIn (printedOf b ls))) (x + sumOf (executedBy n) (eventsOf b ls)) (y + sumOf (cancelledBy n) (eventsOf b ls))
   unfolding printedOf eventsOf linesIn afterLines sumOf
-  run-has b [] s small t x y h p q = has-same (x + 0) (y + 0) (omega arith) (omega arith) h
-  run-has b (l ∷ ls) s small t x y h p q =
+  run-has b [] s t x y h p q = has-same (x + 0) (y + 0) (omega arith) (omega arith) h
+  run-has b (l ∷ ls) s t x y h p q =
       let es = answerTo b l .events in
       let more = eventsOf (answerTo b l .book) ls in
       let rest = printedOf (answerTo b l .book) ls in
@@ -153,16 +153,16 @@ module _ (n : Number) where
       let q′ : y + sumOf (cancelledBy n) (es ++ more) ≤ largest = q in
       ⊎-elim
       (λ (k : acts b l ≡ true).
-      let u = acts-then b l s small rest t x y k h (omega (arith, p′, xs)) (omega (arith, q′, ys)) in
-      let ih = run-has (answerTo b l .book) ls (answer-sound b l s) (last-fits b l small) (u .tally) (x + sumOf (executedBy n) es) (y + sumOf (cancelledBy n) es) (u .has)
+      let u = acts-then b l s rest t x y k h (omega (arith, p′, xs)) (omega (arith, q′, ys)) in
+      let ih = run-has (answerTo b l .book) ls (answer-sound b l s) (u .tally) (x + sumOf (executedBy n) es) (y + sumOf (cancelledBy n) es) (u .has)
       (omega (arith, p′, xs)) (omega (arith, q′, ys)) in
       has-led (u .leads) (has-same (x + sumOf (executedBy n) (es ++ more)) (y + sumOf (cancelledBy n) (es ++ more)) (omega (arith, xs)) (omega (arith, ys)) ih))
       (λ (k : acts b l ≡ false).
       let nothing : es ≡ [] = refused-events b l k in
-      let u = refused-then b l s small rest t x y k h in
+      let u = refused-then b l s rest t x y k h in
       let x′ : sumOf (executedBy n) es ≡ 0 = rw nothing refl in
       let y′ : sumOf (cancelledBy n) es ≡ 0 = rw nothing refl in
-      let ih = run-has (answerTo b l .book) ls (answer-sound b l s) (last-fits b l small) (u .tally) x y (u .has)
+      let ih = run-has (answerTo b l .book) ls (answer-sound b l s) (u .tally) x y (u .has)
       (omega (arith, p′, xs, x′)) (omega (arith, q′, ys, y′)) in
       has-led (u .leads) (has-same (x + sumOf (executedBy n) (es ++ more)) (y + sumOf (cancelledBy n) (es ++ more)) (omega (arith, xs, x′)) (omega (arith, ys, y′)) ih))
       (holds-or-not (acts b l))
@@ -170,15 +170,15 @@ module _ (n : Number) where
 -- ── A day ──
 
 -- an order that was read has shares that four bytes hold
-order-small : {b : Book} {lines : List (List ℕ)} {stood : Book} {l : List ℕ} {c : Command} {o : Order} → Enters b lines stood l c o → o .shares .0 ≤ largest
+order-small : {b : Book} {lines : List (List ℕ)} {stood : Book} {l : List ℕ} {c : Command} {o : Order} → Enters byLine b lines stood l c o → o .shares .0 ≤ largest
 order-small (later r) = order-small r
-order-small (now {l = l} {c = c} {o = o} t e f) = by-fields o (subst (λ (x : Body). Fitting (formOf x) (numbersOf x)) f (commandIn-is l c e .fits-are .body))
+order-small (now {x = l} {c = c} {o = o} t e f) = by-fields o (subst (λ (x : Body). Fitting (formOf x) (numbersOf x)) f (commandIn-is l c e .fits-are .body))
   where
     by-fields : (o : Order) → Fitting orderForm (numbersOf (body.Order o)) → o .shares .0 ≤ largest
     by-fields o (fits w side i (fits x word j (fits y price p (fits z size q empty)))) = omega (arith, q)
 
 -- of a day from a fresh book the tally gives, for each accepted order, the sums of demand 3
-pub tally-agrees : (lines : List (List ℕ)) (stood : Book) (l : List ℕ) (c : Command) (o : Order) → Enters fresh lines stood l c o
+pub tally-agrees : (lines : List (List ℕ)) (stood : Book) (l : List ℕ) (c : Command) (o : Order) → Enters byLine fresh lines stood l c o
     → Has (tallyOf (c .number) (printedOf fresh lines)) (executedIn (c .number) (eventsIn (printedOf fresh lines))) (cancelledIn (c .number) (eventsIn (printedOf fresh lines)))
 unfolding tallyOf
 tally-agrees lines stood l c o r =
@@ -187,5 +187,5 @@ tally-agrees lines stood l c o r =
     let sum = conserved lines stood l c o r in
     let small = order-small r in
     let begins : Has begun 0 0 = record { executed-are = refl; cancelled-are = refl; going = refl } in
-    let has = run-has n fresh lines fresh-sound (omega arith) begun 0 0 begins (omega (arith, sum, small)) (omega (arith, sum, small)) in
+    let has = run-has n fresh lines fresh-sound begun 0 0 begins (omega (arith, sum, small)) (omega (arith, sum, small)) in
     rw (run-read lines) (has-same n (executedIn n es) (cancelledIn n es) (omega arith) (omega arith) has)

@@ -3,11 +3,13 @@
 use digits::Value;
 use kinds::Number;
 use libc::STDERR_FILENO;
+use libc::STDIN_FILENO;
 use libc::STDOUT_FILENO;
+use lines::Read;
 use tally::Stop;
 use tally::Tally;
 ghost use mathlib.Core.Path.{_≡_};
-ghost use Prim.Native.Nat.{_≤_};
+ghost use Prim.Native.Nat.{_≤_, _<_};
 ghost use lib.ListN.{length, take};
 ghost use Rattle.lines.specs.Pieces.{cut, partKept, afterLines, afterPart};
 ghost use Rattle.tally.specs.Tally.{turn};
@@ -59,7 +61,7 @@ fn take_piece(t: Tally, number: Number, input: &mut [u8], end: usize) -> Carried
     ensures { λ r. ⌜ r .have ≤ partKept ⌝ }
 {
     let fed = tally::feed(t, number, &input[..end]);
-    let have = lines::carry(input, fed.at, end);
+    let have = lines::carry(input, fed.at, end, rules::LONGEST_LINE + 1);
     let tally = fed.tally;
     Carried { tally, have }
 }
@@ -83,7 +85,7 @@ fn say_sums(executed: u32, cancelled: u32) {
         || !io::print_decimal(STDOUT_FILENO, cancelled as u64)
         || !io::write_all(STDOUT_FILENO, b"\n")
     {
-        night::fail_writing();
+        os::fail(b"yarvotem: writing standard output");
     }
 }
 
@@ -121,24 +123,29 @@ fn say(t: Tally) {
 // From the first piece to the end of the input. A proved loop has to end, and nothing says that an input does: so the turns are
 // counted down from a number that no day uses up.
 fn run(number: Number, input: &mut [u8])
-    requires { ⌜ partKept ≤ length (now input) ⌝ }
+    requires { ⌜ partKept < length (now input) ⌝ }
 {
     let mut tally = tally::begin();
     let mut have = 0;
     let mut turns = u64::MAX;
     while 0 < turns {
-        let got = night::read_piece(input, have);
-        let end = got.end;
-        if !got.is_read {
-            return;
+        let got = libc::read(STDIN_FILENO, &mut input[have..]);
+        let read = lines::after_read(got, have, input.len());
+        match read {
+            Read::Failed => {
+                os::fail(b"yarvotem: reading standard input");
+                return;
+            }
+            Read::Ended => {
+                say(finish(tally, number, &input[..have]));
+                return;
+            }
+            Read::Upto(end) => {
+                let carried = take_piece(tally, number, input, end);
+                tally = carried.tally;
+                have = carried.have;
+            }
         }
-        if end == have {
-            say(finish(tally, number, &input[..end]));
-            return;
-        }
-        let carried = take_piece(tally, number, input, end);
-        tally = carried.tally;
-        have = carried.have;
         turns -= 1;
     }
 }

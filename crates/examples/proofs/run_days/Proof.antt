@@ -21,20 +21,17 @@ line-after-requires c κs = search needs
 day-after-requires : tie.Need-day-after-requires Inv-loop μ-loop
 day-after-requires c κs = search needs
 
-sub-write-all : tie.Need-sub-write-all Inv-loop μ-loop
-sub-write-all c = search needs
+sub-hand-over : tie.Need-sub-hand-over Inv-loop μ-loop
+sub-hand-over c = search needs
 
-part-write-all-start : tie.Need-part-write-all-start Inv-loop μ-loop
-part-write-all-start c = search needs
+part-hand-over-start : tie.Need-part-hand-over-start Inv-loop μ-loop
+part-hand-over-start c = search needs
 
-part-write-all-end : tie.Need-part-write-all-end Inv-loop μ-loop
-part-write-all-end c = search needs
+part-hand-over-end : tie.Need-part-hand-over-end Inv-loop μ-loop
+part-hand-over-end c = search needs
 
-write-all-requires : tie.Need-write-all-requires Inv-loop μ-loop
-write-all-requires c κs = search needs
-
-fail-writing-requires : tie.Need-fail-writing-requires Inv-loop μ-loop
-fail-writing-requires c κs = search needs
+hand-over-requires : tie.Need-hand-over-requires Inv-loop μ-loop
+hand-over-requires c κs = search needs
 
 same-length : tie.Need-same-length Inv-loop μ-loop
 same-length c = search needs
@@ -84,11 +81,10 @@ run-days-spec =
     loop-holds
     line-after-requires
     day-after-requires
-    sub-write-all
-    part-write-all-start
-    part-write-all-end
-    write-all-requires
-    fail-writing-requires
+    sub-hand-over
+    part-hand-over-start
+    part-hand-over-end
+    hand-over-requires
     same-length
     returns
     day-end-requires

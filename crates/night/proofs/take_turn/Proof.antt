@@ -1,77 +1,81 @@
--- `night::take_turn` meets its contract: the book stands, and the part that is carried is short. Assumes nothing.
-use Prim.Native.Nat.{_≤_}
+-- `night::take_turn` meets its contract. Assumes nothing.
+use Prim.Native.Nat.{_-_}
+use mathlib.Core.Bool.{Bool, true, false}
+use mathlib.Core.Logic.{⊎-elim}
 use mathlib.Core.Path.{_≡_, sym}
-use lib.ListN.{length, take}
+use lib.Dec.{ltb}
+use lib.ListN.{length}
 use lib.Seq.{length-take-le}
 use native.Mathlib.Omega.{arith}
 use borrow.Author.Needs.{needs}
+use denote.Ref.{now}
+use Rattle.basics.specs.Choice.{if_then_else_}
+use Rattle.lines.specs.Pieces.{partKept}
+use Rattle.rules.specs.Refusals.{leastRoom}
+use Rattle.tables.specs.Tables.{bookOn}
+use Rattle.night.specs.Turns.{turned}
+use Rattle.night.proofs.LawsTurn.{turn-is}
 use Rattle.night.proofs.take_turn.Statement.{statement}
 use Rattle.night.proofs.take_turn.Tie as tie
 
-read-piece-requires : tie.Need-read-piece-requires
-read-piece-requires c κs = search needs
+slice-reshare-prefix-feed : tie.Need-slice-reshare-prefix-feed
+slice-reshare-prefix-feed c = search needs
+
+slice-aggregate-feed : tie.Need-slice-aggregate-feed
+slice-aggregate-feed c = let s = c .before .before .before in sym (length-take-le (s .args .have) (now (s .args .input)) (s .pre .1))
+
+feed-requires : tie.Need-feed-requires
+feed-requires c κs = search needs
+
+sub-is-short : tie.Need-sub-is-short
+sub-is-short c = search needs
+
+add-most : tie.Need-add-most
+add-most c = search needs
+
+carry-requires : tie.Need-carry-requires
+carry-requires c κs =
+    let s = c .before .before .before .before .before .before .before .before .before .before .before .before in
+    let long = length-take-le (s .args .have) (now (s .args .input)) (s .pre .1) in
+    (omega (arith, long, c .before .before .before .before .before .feed .ensures .1 .1 .1 .1 .0 .0), s .pre .1)
 
 same-length : tie.Need-same-length
 same-length c = search needs
 
-returns : tie.Need-returns
-returns c = search needs
-
-finish-requires : tie.Need-finish-requires
-finish-requires c κs = search needs
-
 same-length-2 : tie.Need-same-length-2
 same-length-2 c = search needs
 
-same-length-3 : tie.Need-same-length-3
-same-length-3 c = search needs
-
-returns-2 : tie.Need-returns-2
-returns-2 c = search needs
-
-slice-reshare-prefix-work-piece : tie.Need-slice-reshare-prefix-work-piece
-slice-reshare-prefix-work-piece c = search needs
-
-slice-aggregate-work-piece : tie.Need-slice-aggregate-work-piece
-slice-aggregate-work-piece c =
-    let x = c .before .before .before .before .before .before .read-piece in
-    sym (length-take-le (x .result .end) (x .last .0) (x .ensures .1))
-
-work-piece-requires : tie.Need-work-piece-requires
-work-piece-requires c κs = search needs
-
-carry-requires : tie.Need-carry-requires
-carry-requires c κs =
-    let x = c .before .before .before .before .before .before .before .before .before .before .before .before .before .before .read-piece in
-    let w = c .before .before .before .before .work-piece in
-    let most : w .result .at ≤ length (take (x .result .end) (x .last .0)) = w .ensures .1 in
-    let long : length (take (x .result .end) (x .last .0)) ≡ x .result .end = length-take-le (x .result .end) (x .last .0) (x .ensures .1) in
-    (omega (arith, most, long), x .ensures .1)
-
-same-length-4 : tie.Need-same-length-4
-same-length-4 c = search needs
-
-same-length-5 : tie.Need-same-length-5
-same-length-5 c = search needs
-
-returns-3 : tie.Need-returns-3
-returns-3 c = search needs
+returns : tie.Need-returns
+unfolding turned
+returns c =
+    let a = c .before .before .before .before .before .before .before .before .before .before .before .before .before .before .before .args in
+    let f = c .before .before .before .before .before .before .before .before .feed in
+    let k = c .before .before .carry in
+    let j = c .before .before .before .before .if1 in
+    let b = bookOn (a .h) (now (a .buys)) (now (a .sells)) in
+    let room = length (now (a .out)) in
+    let long : length (f .last .1 .1 .1 .1 .0) ≡ room = f .kept .1 .1 .1 .1 .0 in
+    let isShort : Bool = ltb (room - f .result .length) leastRoom in
+    let most : j .most ≡ (if isShort then a .have else partKept) =
+    ⊎-elim
+    (λ w. let t : isShort ≡ true = rw long at (w .0 .taken) in rw t (w .1))
+    (λ w. let t : isShort ≡ false = rw long at (w .0 .left) in rw t (w .1))
+    (j .came) in
+    let (turn, input, left) =
+    turn-is room b (now (a .input)) (a .have) (f .result) (f .ensures .0) (j .most) most (k .result) (k .last .0) (k .ensures .0) (k .ensures .1) in
+    let (_, (buys, (sells, (out, ((_, printed), stands))))) = f .ensures in
+    (rw long turn, (buys, (sells, (input, (out, (stands, left, printed))))))
 
 pub take-turn-spec : {M : Type 1} → statement M
 take-turn-spec =
     tie.close
     (tie.spec
-    read-piece-requires
-    same-length
-    returns
-    finish-requires
-    same-length-2
-    same-length-3
-    returns-2
-    slice-reshare-prefix-work-piece
-    slice-aggregate-work-piece
-    work-piece-requires
+    slice-reshare-prefix-feed
+    slice-aggregate-feed
+    feed-requires
+    sub-is-short
+    add-most
     carry-requires
-    same-length-4
-    same-length-5
-    returns-3)
+    same-length
+    same-length-2
+    returns)

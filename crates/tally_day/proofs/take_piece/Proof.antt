@@ -1,11 +1,12 @@
 -- `tally_day::take_piece` meets its contract: the part behind the whole lines is what is carried. Assumes nothing.
 use mathlib.Core.Path.{sym, ap}
 use lib.Seq.{length-take-le}
+use native.Mathlib.Omega.{arith}
 use borrow.Author.Needs.{needs}
 use denote.Ref.{now}
 use Rattle.tally.specs.declared.Fed.{Fed}
 use Rattle.tally.specs.Tally.{fedOn}
-use Rattle.tally_day.proofs.LawsCarried.{at-within, have-small, carried}
+use Rattle.tally_day.proofs.LawsCarried.{part-kept}
 use Rattle.tally_day.proofs.take_piece.Statement.{statement}
 use Rattle.tally_day.proofs.take_piece.Tie as tie
 
@@ -20,13 +21,16 @@ slice-aggregate-feed c =
 feed-requires : tie.Need-feed-requires
 feed-requires c κs = search needs
 
+add-carry : tie.Need-add-carry
+add-carry c = search needs
+
 -- where the whole lines end, by the feed's contract
 carry-requires : tie.Need-carry-requires
 unfolding fedOn
 carry-requires c κs =
-    let a = c .before .before .before .before .args in
-    let most = c .before .before .before .before .pre in
-    (at-within (now (a .input)) (a .end) (c .before .feed .result .at) most (ap (λ (f : Fed). f .at) (c .before .feed .ensures)), most)
+    let s = c .before .before .before .before in
+    let long = length-take-le (s .args .end) (now (s .args .input)) (s .pre) in
+    (omega (arith, ap (λ (f : Fed). f .at) (c .before .feed .ensures), long), s .pre)
 
 same-length : tie.Need-same-length
 same-length c = search needs
@@ -35,15 +39,11 @@ returns : tie.Need-returns
 unfolding fedOn
 returns c =
     let a = c .before .before .before .before .before .before .before .before .args in
-    let most = c .before .before .before .before .before .before .before .before .pre in
     let fed = c .before .before .before .before .before .feed in
     let k = c .before .before .before .carry in
     let place = ap (λ (f : Fed). f .at) (fed .ensures) in (
       ap (λ (f : Fed). f .tally) (fed .ensures),
-      (
-        carried (now (a .input)) (a .end) (fed .result .at) most place (k .result) (k .ensures .0) (k .last .0) (k .ensures .1),
-        have-small (now (a .input)) (a .end) (fed .result .at) most place (k .result) (k .ensures .0),
-      ),
+      part-kept (now (a .input)) (a .end) (fed .result .at) (k .result) (k .last .0) place (k .ensures .0) (k .ensures .1),
     )
 
 pub take-piece-spec : {M : Type 1} → statement M
@@ -53,6 +53,7 @@ take-piece-spec =
     slice-reshare-prefix-feed
     slice-aggregate-feed
     feed-requires
+    add-carry
     carry-requires
     same-length
     returns)

@@ -1,0 +1,309 @@
+-- What each accepted command writes and leaves (01, How an order is worked): an order's lines one by one, a cancel, a close, and what every
+-- command leaves of the number, the time, the away quote and the session. Assumes nothing.
+use Prim.Native.Nat.{ℕ, _<_}
+use mathlib.Core.Bool.{Bool, true, false, not, _||_, true≢false}
+use mathlib.Core.List.{List, [], _∷_, _++_, map}
+use mathlib.Core.Logic.{_≢_, ⊎-elim}
+use mathlib.Core.Path.{_≡_, refl, sym, ap, subst, _∙_}
+use lib.Dec.{eqb}
+use native.Mathlib.Omega.{arith}
+use borrow.Author.Tests.{eq-eqb, ne-eqb, eqb-true, eqb-false, not-false}
+use Rattle.basics.specs.Lists.{any, All, none, also, OneOf, first, later}
+use Rattle.basics.proofs.LawsChoice.{holds-or-not}
+use Rattle.basics.proofs.LawsLists.{all-alike, all-both}
+use Rattle.kinds.specs.Kinds.{shares, number}
+use Rattle.kinds.specs.declared.Cents.{Cents}
+use Rattle.kinds.specs.declared.Number.{Number}
+use Rattle.kinds.specs.declared.Shares.{Shares}
+use Rattle.rules.specs.declared.Away.{Away}
+use Rattle.rules.specs.declared.Body.{Body}
+use Rattle.rules.specs.declared.Body.the-variants as body
+use Rattle.rules.specs.declared.Command.{Command}
+use Rattle.rules.specs.declared.Ending.{Ending}
+use Rattle.rules.specs.declared.Ending.the-variants.{Filled, Rests, Cancels}
+use Rattle.rules.specs.declared.Event.{Event}
+use Rattle.rules.specs.declared.Event.the-variants.{Executed, Rested, Cancelled, Moved}
+use Rattle.rules.specs.declared.Order.{Order}
+use Rattle.rules.specs.declared.Reading.the-variants as reading
+use Rattle.rules.specs.declared.Resting.{Resting}
+use Rattle.rules.specs.Book.{Book, sound}
+use Rattle.rules.specs.CommandLines.{commandIn}
+use Rattle.rules.specs.Day.{printed}
+use Rattle.rules.specs.EventLines.{byCommand, atClose}
+use Rattle.rules.specs.Refusals.{firstOf, isResting, bodyRefusals}
+use Rattle.rules.specs.Step.{answerTo}
+use Rattle.rules.specs.Working.{buying, takings, remainder, executions, ending, lastLine, remainderOf, withRemainder, ownSide, oppositeSide, accept, kept, cancels, isNumber, cancel, moveLines, quote, close, does}
+use Rattle.rules.proofs.LawsRefusals.{none-given}
+use Rattle.soundness.proofs.LawsInsert.{added-insert}
+use Rattle.soundness.proofs.LawsSound.{sound-is}
+use Rattle.demands.specs.Once.{acts}
+use Rattle.demands.specs.ShareOut.{Each, empty, with}
+use Rattle.demands.specs.Told.{eventsIn}
+use Rattle.demands.specs.Written.{Executions, ofNobody, ofNone, ofOne, LastLine, filled, rests, isCancelled, OrderWrites, CancelWrites, closeLine, IsOrder}
+use Rattle.demands.proofs.LawsCrossing.{added-new, kept-are, kept-has}
+use Rattle.demands.proofs.LawsExecutes.{acts-accepted}
+use Rattle.demands.proofs.LawsFairly.{every-cancel, every-move}
+use Rattle.demands.proofs.LawsHeld.{NoMore, takings-no-more}
+use Rattle.demands.proofs.LawsLinesTell.{onceEach, NoneIs, once-first, once-rest, one-of-all}
+use Rattle.demands.proofs.LawsOrigins.{each-there, in-front, behind, another-number}
+use Rattle.demands.proofs.LawsRows.{NoneHas, has-other, either-holds}
+use Rattle.demands.proofs.LawsRun.{accepted-does}
+use Rattle.demands.proofs.LawsTold.{line-told}
+
+-- ── An accepted command of a known body ──
+
+-- what holds of what its body does holds after it
+after-body : (P : Book → List Event → Type 0) (b : Book) (line : List ℕ) (c : Command) (x : Body) → acts b line ≡ true
+    → commandIn line ≡ reading.Is c → c .body ≡ x
+    → P (does (c .number) (c .time) x b .book) (does (c .number) (c .time) x b .events) → P (answerTo b line .book) (answerTo b line .events)
+after-body P b line c x t e f p =
+    let done = accepted-does b line c e t in
+    rw (done .0, done .1, f) p
+
+-- .. and of what is printed of it, read back
+printed-body : (P : Book → List Event → Type 0) (b : Book) (line : List ℕ) (c : Command) (x : Body) → sound b ≡ true → acts b line ≡ true
+    → commandIn line ≡ reading.Is c → c .body ≡ x → P (does (c .number) (c .time) x b .book) (does (c .number) (c .time) x b .events)
+    → P (answerTo b line .book) (eventsIn (printed (answerTo b line)))
+printed-body P b line c x s t e f p = rw (line-told b line s) (after-body P b line c x t e f p)
+
+-- ── An order ──
+
+-- each taking that is not nothing has its line, in turn
+executions-are : (n : Number) {s : List Resting} {ts : List ℕ} → Each NoMore s ts → Executions n s (executions n s ts)
+unfolding executions
+executions-are n empty = ofNobody
+executions-are n (with {y = t} m e) =
+    ⊎-elim
+    (λ (z : eqb t 0 ≡ true). rw z (ofNone (executions-are n e)))
+    (λ (z : eqb t 0 ≡ false). rw z (ofOne (shares t) (omega (arith, eqb-false t 0 z)) m (executions-are n e)))
+    (holds-or-not (eqb t 0))
+
+-- the last line says what becomes of the rest, on its own side, where no order had its number
+last-line-is : (n : Number) (o : Order) (left : ℕ) (e : Ending) (side : List Resting) → NoneHas n side
+    → LastLine n (withRemainder n o left e side) (lastLine n left e)
+last-line-is n o left Filled side new = filled new
+last-line-is n o left (Rests price) side new =
+    let x = remainderOf n o left price in
+    rests x (added-new (added-insert (buying o) x side)) refl
+last-line-is n o left (Cancels reason) side new = isCancelled (shares left) reason new
+
+-- so of an order that is entered under a number that no order has
+accept-writes : (b : Book) (n : Number) (time : ℕ) (o : Order) → NoneHas n (ownSide (buying o) b)
+    → OrderWrites n o b (accept n time o b .book) (accept n time o b .events)
+unfolding accept
+accept-writes b n time o new =
+    let side = oppositeSide (buying o) b in
+    let left = remainder o (b .away) side in
+    let end = ending o (b .away) side in
+    let last = last-line-is n o left end (ownSide (buying o) b) new in
+    record {
+      executions = executions n side (takings o (b .away) side);
+      last = lastLine n left end;
+      inTurn = refl;
+      inRank = executions-are n (takings-no-more o (b .away) side);
+      atMostOne =
+          ⊎-elim
+          (λ (t : buying o ≡ true). rw t (rw t at last))
+          (λ (t : buying o ≡ false). rw t (rw t at last))
+          (holds-or-not (buying o));
+    }
+
+-- no order of a sound book has the number of the next command
+none-new : (b : Book) → sound b ≡ true → (n : Number) → b .last .0 < n .0 → (buy : Bool) → NoneHas n (ownSide buy b)
+none-new b s n l buy =
+    all-alike (λ h p is. another-number b (sound-is b s) n l buy p (ap (λ (m : Number). m .0) is)) (each-there (ownSide buy b))
+
+-- so of an accepted order
+pub order-writes : (b : Book) (line : List ℕ) (c : Command) (o : Order) → sound b ≡ true → acts b line ≡ true → commandIn line ≡ reading.Is c
+    → c .body ≡ body.Order o → OrderWrites (c .number) o b (answerTo b line .book) (eventsIn (printed (answerTo b line)))
+unfolding does
+order-writes b line c o s t e f =
+    let next = acts-accepted b line c t e .next in
+    let new = none-new b s (c .number) (omega (arith, next)) (buying o) in
+    printed-body (OrderWrites (c .number) o b) b line c (body.Order o) s t e f (accept-writes b (c .number) (c .time) o new)
+
+-- ── A cancel ──
+
+-- both sides are one list, of those that are kept and of the lines of those that are not
+kept-both : (gone : Resting → Bool) (s u : List Resting) → kept gone (s ++ u) ≡ kept gone s ++ kept gone u
+unfolding kept
+kept-both gone [] u = refl
+kept-both gone (h ∷ s) u =
+    ⊎-elim
+    (λ (t : gone h ≡ true). rw t (kept-both gone s u))
+    (λ (t : gone h ≡ false). rw t (ap (λ (r : List Resting). h ∷ r) (kept-both gone s u)))
+    (holds-or-not (gone h))
+
+cancels-both : (reason : ℕ) (gone : Resting → Bool) (s u : List Resting)
+    → cancels reason gone (s ++ u) ≡ cancels reason gone s ++ cancels reason gone u
+unfolding cancels
+cancels-both reason gone [] u = refl
+cancels-both reason gone (h ∷ s) u =
+    ⊎-elim
+    (λ (t : gone h ≡ true). rw t (ap (λ (es : List Event). Cancelled (h .number) (h .shares) reason ∷ es) (cancels-both reason gone s u)))
+    (λ (t : gone h ≡ false). rw t (cancels-both reason gone s u))
+    (holds-or-not (gone h))
+
+-- an order that is found by its number stands there
+found : (n : Number) (s : List Resting) → any (isNumber n) s ≡ true → (h : Resting) × (OneOf h s) × (h .number ≡ n)
+unfolding any
+found n [] a = absurd (true≢false (sym a))
+found n (h ∷ s) a =
+    ⊎-elim
+    (λ (t : isNumber n h ≡ true). (h, first, ap number (eqb-true (h .number .0) (n .0) t)))
+    (λ (t : isNumber n h ≡ false). let (x, p, e) = found n s (rw t at a) in (x, later p, e))
+    (holds-or-not (isNumber n h))
+
+found-on-one : (n : Number) (s u : List Resting) → (any (isNumber n) s || any (isNumber n) u) ≡ true
+    → (h : Resting) × (OneOf h (s ++ u)) × (h .number ≡ n)
+found-on-one n s u a =
+    ⊎-elim
+    (λ t. let (x, p, e) = found n s t in (x, in-front u p, e))
+    (λ t. let (x, p, e) = found n u t in (x, behind s p, e))
+    (either-holds (any (isNumber n) s) (any (isNumber n) u) a)
+
+-- the lines of a number: none where no order has it, and one where one has it and no number stands twice
+cancels-none : (reason : ℕ) (n : Number) {s : List Resting} → NoneIs n s → cancels reason (isNumber n) s ≡ []
+unfolding cancels
+cancels-none reason n none = refl
+cancels-none reason n (also {x = h} other a) = rw (ne-eqb (h .number .0) (n .0) (λ e. other (sym e))) (cancels-none reason n a)
+
+cancels-one : (reason : ℕ) {h : Resting} {s : List Resting} → onceEach s ≡ true → OneOf h s
+    → cancels reason (isNumber (h .number)) s ≡ Cancelled (h .number) (h .shares) reason ∷ []
+unfolding cancels
+cancels-one reason {h = h} d (first {s = s}) =
+    rw (eq-eqb (h .number .0) (h .number .0) refl, cancels-none reason (h .number) (once-first h s d)) refl
+cancels-one reason {h = h} d (later {y = y} {s = s} p) =
+    rw (ne-eqb (y .number .0) (h .number .0) (one-of-all (once-first y s d) p)) (cancels-one reason (once-rest y s d) p)
+
+-- so of the orders of both sides, one of which has the number
+cancels-write : (of : Number) (s : List Resting) → onceEach s ≡ true → (h : Resting) → OneOf h s → h .number ≡ of
+    → CancelWrites of s (kept (isNumber of) s) (cancels byCommand (isNumber of) s)
+cancels-write of s d h p e = record {
+  gone = h;
+  stood = p;
+  named = e;
+  told = subst (λ (n : Number). cancels byCommand (isNumber n) s ≡ Cancelled n (h .shares) byCommand ∷ []) e (cancels-one byCommand d p);
+  off = kept-are (isNumber of) s (λ x q t is. eqb-false (x .number .0) (of .0) t (ap (λ (n : Number). n .0) is));
+  others = λ x other q. kept-has (isNumber of) q (has-other of x other);
+  noneNew = λ x q. one-of-all (kept-are (isNumber of) s (λ y r t. r)) q;
+}
+
+-- an accepted cancel is of an order that rests
+accepted-cancel : (b : Book) (of : Number) → firstOf (bodyRefusals b (body.Cancel of)) ≡ 0 → isResting of b ≡ true
+unfolding bodyRefusals
+accepted-cancel b of e = not-false (isResting of b) (none-given 10 (not (isResting of b)) [] (omega arith) e .0)
+
+-- so it takes that order off, tells it, and leaves every other
+pub cancel-writes : (b : Book) (line : List ℕ) (c : Command) (of : Number) → sound b ≡ true → acts b line ≡ true → commandIn line ≡ reading.Is c
+    → c .body ≡ body.Cancel of
+    → CancelWrites of (b .buys ++ b .sells) (answerTo b line .book .buys ++ answerTo b line .book .sells) (eventsIn (printed (answerTo b line)))
+unfolding does cancel
+cancel-writes b line c of s t e f =
+    let byBody = subst (λ (x : Body). firstOf (bodyRefusals b x) ≡ 0) f (acts-accepted b line c t e .byBody) in
+    let (h, p, is) = found-on-one of (b .buys) (b .sells) (accepted-cancel b of byBody) in
+    let writes = cancels-write of (b .buys ++ b .sells) (sound-is b s .once) h p is in
+    printed-body (λ (a : Book) (es : List Event). CancelWrites of (b .buys ++ b .sells) (a .buys ++ a .sells) es) b line c (body.Cancel of) s t e f
+    (rw (kept-both (isNumber of) (b .buys) (b .sells), cancels-both byCommand (isNumber of) (b .buys) (b .sells)) at writes)
+
+-- ── A close ──
+
+-- where all are cancelled, each has its line
+cancels-every : (s : List Resting) → cancels atClose (λ h. true) s ≡ map closeLine s
+unfolding cancels
+cancels-every [] = refl
+cancels-every (h ∷ s) = ap (λ (es : List Event). closeLine h ∷ es) (cancels-every s)
+
+-- an accepted close tells all buys and then all sells, and leaves a closed book with no orders
+pub close-writes : (b : Book) (line : List ℕ) (c : Command) → sound b ≡ true → acts b line ≡ true → commandIn line ≡ reading.Is c
+    → c .body ≡ body.Close
+    → (eventsIn (printed (answerTo b line)) ≡ map closeLine (b .buys ++ b .sells))
+    × (answerTo b line .book .buys ≡ []) × (answerTo b line .book .sells ≡ []) × (answerTo b line .book .closed ≡ true)
+unfolding does close
+close-writes b line c s t e f =
+    let all = sym (cancels-both atClose (λ h. true) (b .buys) (b .sells)) ∙ cancels-every (b .buys ++ b .sells) in
+    printed-body
+    (λ (a : Book) (es : List Event). (es ≡ map closeLine (b .buys ++ b .sells)) × (a .buys ≡ []) × (a .sells ≡ []) × (a .closed ≡ true))
+    b line c body.Close s t e f (all, refl, refl, refl)
+
+-- ── What every command leaves ──
+
+-- its number and its time
+does-number-and-time : (n : Number) (time : ℕ) (x : Body) (b : Book) → (does n time x b .book .last ≡ n) × (does n time x b .book .time ≡ time)
+unfolding does accept cancel quote close
+does-number-and-time n time (body.Order o) b = (refl, refl)
+does-number-and-time n time (body.Cancel of) b = (refl, refl)
+does-number-and-time n time (body.Quote away) b = (refl, refl)
+does-number-and-time n time body.Close b = (refl, refl)
+
+pub number-and-time-left : (b : Book) (line : List ℕ) (c : Command) → acts b line ≡ true → commandIn line ≡ reading.Is c
+    → (answerTo b line .book .last ≡ c .number) × (answerTo b line .book .time ≡ c .time)
+number-and-time-left b line c t e =
+    after-body (λ (a : Book) (es : List Event). (a .last ≡ c .number) × (a .time ≡ c .time)) b line c (c .body) t e refl
+    (does-number-and-time (c .number) (c .time) (c .body) b)
+
+-- a quote is held, and every other command leaves the away quote
+pub quote-held : (b : Book) (line : List ℕ) (c : Command) (away : Away) → acts b line ≡ true → commandIn line ≡ reading.Is c
+    → c .body ≡ body.Quote away → answerTo b line .book .away ≡ away
+unfolding does quote
+quote-held b line c away t e f = after-body (λ (a : Book) (es : List Event). a .away ≡ away) b line c (body.Quote away) t e f refl
+
+does-away : (n : Number) (time : ℕ) (x : Body) (b : Book) → ((away : Away) → x ≢ body.Quote away) → does n time x b .book .away ≡ b .away
+unfolding does accept cancel close
+does-away n time (body.Order o) b other = refl
+does-away n time (body.Cancel of) b other = refl
+does-away n time (body.Quote away) b other = absurd (other away refl)
+does-away n time body.Close b other = refl
+
+pub away-kept : (b : Book) (line : List ℕ) (c : Command) → acts b line ≡ true → commandIn line ≡ reading.Is c
+    → ((away : Away) → c .body ≢ body.Quote away) → answerTo b line .book .away ≡ b .away
+away-kept b line c t e other =
+    after-body (λ (a : Book) (es : List Event). a .away ≡ b .away) b line c (c .body) t e refl (does-away (c .number) (c .time) (c .body) b other)
+
+-- an accepted command came to an open book, which only a close closes
+does-closed : (n : Number) (time : ℕ) (x : Body) (b : Book) → x ≢ body.Close → does n time x b .book .closed ≡ b .closed
+unfolding does accept cancel quote
+does-closed n time (body.Order o) b other = refl
+does-closed n time (body.Cancel of) b other = refl
+does-closed n time (body.Quote away) b other = refl
+does-closed n time body.Close b other = absurd (other refl)
+
+pub open-unless-closed : (b : Book) (line : List ℕ) (c : Command) → acts b line ≡ true → commandIn line ≡ reading.Is c → c .body ≢ body.Close
+    → answerTo b line .book .closed ≡ false
+open-unless-closed b line c t e other =
+    after-body (λ (a : Book) (es : List Event). a .closed ≡ false) b line c (c .body) t e refl
+    (does-closed (c .number) (c .time) (c .body) b other ∙ acts-accepted b line c t e .isOpen)
+
+-- ── Only orders execute ──
+
+-- an event is no execution
+abbrev NoExecution : Event → Type 0
+NoExecution (Executed incoming resting price given) = ⊥
+NoExecution (Rested n price left) = Unit {0}
+NoExecution (Cancelled n left reason) = Unit {0}
+NoExecution (Moved n price left) = Unit {0}
+
+-- cancels are none, and neither are the moves and cancels of a quote
+no-cancel : (reason : ℕ) (gone : Resting → Bool) (b : Book) → All NoExecution (cancels reason gone (b .buys) ++ cancels reason gone (b .sells))
+no-cancel reason gone b = all-both (every-cancel reason gone (λ h. tt) (b .buys)) (every-cancel reason gone (λ h. tt) (b .sells))
+
+no-move : (buy : Bool) (away : Away) (s : List Resting) → All NoExecution (moveLines buy away s)
+no-move buy away s = every-move buy away (all-alike (λ h p t. (tt, tt)) (each-there s))
+
+-- so a command that gives an execution is an order
+does-executes : (n : Number) (time : ℕ) (x : Body) (b : Book) (incoming resting : Number) (price : Cents) (given : Shares)
+    → OneOf (Executed incoming resting price given) (does n time x b .events) → IsOrder x
+unfolding does cancel quote close
+does-executes n time (body.Order o) b incoming resting price given p = record { order = o; is = refl }
+does-executes n time (body.Cancel of) b incoming resting price given p = absurd (one-of-all (no-cancel byCommand (isNumber of) b) p)
+does-executes n time (body.Quote away) b incoming resting price given p =
+    absurd (one-of-all (all-both (no-move true away (b .buys)) (no-move false away (b .sells))) p)
+does-executes n time body.Close b incoming resting price given p = absurd (one-of-all (no-cancel atClose (λ h. true) b) p)
+
+-- and so of what is printed
+pub only-orders-execute : (b : Book) (line : List ℕ) (c : Command) (incoming resting : Number) (price : Cents) (shares : Shares) → sound b ≡ true
+    → acts b line ≡ true → commandIn line ≡ reading.Is c
+    → OneOf (Executed incoming resting price shares) (eventsIn (printed (answerTo b line))) → IsOrder (c .body)
+only-orders-execute b line c incoming resting price shares s t e =
+    printed-body (λ (a : Book) (es : List Event). OneOf (Executed incoming resting price shares) es → IsOrder (c .body)) b line c (c .body) s t e refl
+    (does-executes (c .number) (c .time) (c .body) b incoming resting price shares)

@@ -1,0 +1,169 @@
+-- `examples::take_turns` is safe and ends: the book stands from turn to turn. Assumes nothing.
+use Prim.Native.Nat.{_≤_, _<_}
+use mathlib.Core.Path.{_≡_, refl, sym, _∙_}
+use lib.ListN.{length}
+use lib.Seq.{length-take-le}
+use native.Mathlib.Omega.{arith}
+use borrow.Author.Needs.{needs}
+use denote.Ref.{now}
+use Rattle.replay.proofs.LawsFeed.{stands-back}
+use Rattle.rules.specs.Book.{fresh}
+use Rattle.rules.specs.Refusals.{leastRoom}
+use Rattle.soundness.proofs.LawsKept.{fresh-sound}
+use Rattle.tables.specs.Answers.{Stands}
+use Rattle.examples.proofs.take_turns.Statement.{statement}
+use Rattle.examples.proofs.take_turns.Tie as tie
+
+abbrev Inv-loop : tie.InvT-loop
+Inv-loop day input₀ buys₀ sells₀ out₀ head₀ at₀ have₀ turns₀ input buys sells out head at have turns =
+    Stands head buys sells × (at ≤ length day) × (have ≤ length input₀) × (length input ≡ length input₀) × (length out ≡ length out₀)
+
+abbrev μ-loop : tie.MeasureT-loop
+μ-loop day input₀ buys₀ sells₀ out₀ head₀ at₀ have₀ turns₀ input buys sells out head at have turns = turns
+
+begin-requires : tie.Need-begin-requires Inv-loop μ-loop
+begin-requires c κs = search needs
+
+loop-holds : tie.Need-loop-holds Inv-loop μ-loop
+loop-holds c =
+    let s = c .before .before .before .before in
+    let begun : Stands (c .begin .result) (now (s .args .buys)) (now (s .args .sells)) =
+    rw (c .begin .ensures, s .pre .0, s .pre .1) (stands-back fresh fresh-sound) in
+    (begun, omega arith, omega arith, refl, refl)
+
+take-turn-requires : tie.Need-take-turn-requires Inv-loop μ-loop
+take-turn-requires c κs = search needs
+
+-- what a turn leaves stands within the input and the output, and all lengths are numbers of the machine
+module _ (c : tie.After-take-turn Inv-loop μ-loop) where
+  long-input : length (c .take-turn .last .1 .0)
+      ≡ length (now (c .before .before .before .before .before .before .before .before .before .before .before .args .input))
+  long-input = c .take-turn .kept .1 .0 ∙ c .before .before .before .before .before .before .loop .inv .3
+
+  long-out : length (c .take-turn .last .1 .1 .1 .1 .1 .0)
+      ≡ length (now (c .before .before .before .before .before .before .before .before .before .before .before .args .out))
+  long-out = c .take-turn .kept .1 .1 .1 .1 .1 .0 ∙ c .before .before .before .before .before .before .loop .inv .4
+
+  day-short : length (now (c .before .before .before .before .before .before .before .before .before .before .before .args .day)) < 18446744073709551616
+  day-short = c .before .before .before .before .before .before .before .before .before .before .before .good .0 .0
+
+  input-short : length (c .take-turn .last .1 .0) < 18446744073709551616
+  input-short = omega (arith, long-input, c .before .before .before .before .before .before .before .before .before .before .before .good .1 .0 .0)
+
+  room-stays : leastRoom ≤ length (c .take-turn .last .1 .1 .1 .1 .1 .0)
+  room-stays = omega (arith, long-out, c .before .before .before .before .before .before .before .before .before .before .before .pre .2)
+
+  waits-fit : c .take-turn .result .have ≤ length (c .take-turn .last .1 .0)
+  waits-fit = omega (arith, long-input, c .take-turn .ensures .1 .1 .1 .1 .1 .1, c .before .before .before .before .before .before .loop .inv .2)
+
+  printed-fits : c .take-turn .result .length ≤ length (c .take-turn .last .1 .1 .1 .1 .1 .0)
+  printed-fits = omega (arith, c .take-turn .kept .1 .1 .1 .1 .1 .0, c .take-turn .ensures .1 .1 .1 .1 .1 .2)
+
+slice-reshare-prefix-hand-over : tie.Need-slice-reshare-prefix-hand-over Inv-loop μ-loop
+slice-reshare-prefix-hand-over c = search needs
+
+slice-aggregate-hand-over : tie.Need-slice-aggregate-hand-over Inv-loop μ-loop
+slice-aggregate-hand-over c =
+    let t = c .before .before .before .before .before in
+    sym (length-take-le (t .take-turn .result .length) (t .take-turn .last .1 .1 .1 .1 .1 .0) (printed-fits t))
+
+hand-over-requires : tie.Need-hand-over-requires Inv-loop μ-loop
+hand-over-requires c κs = search needs
+
+same-length : tie.Need-same-length Inv-loop μ-loop
+same-length c = search needs
+
+same-length-2 : tie.Need-same-length-2 Inv-loop μ-loop
+same-length-2 c = search needs
+
+returns : tie.Need-returns Inv-loop μ-loop
+returns c = search needs
+
+slice-reshare-prefix-end-day : tie.Need-slice-reshare-prefix-end-day Inv-loop μ-loop
+slice-reshare-prefix-end-day c = search needs
+
+slice-aggregate-end-day : tie.Need-slice-aggregate-end-day Inv-loop μ-loop
+slice-aggregate-end-day c =
+    let t = c .before .before .before .before .before .before .before .before .before .before .before in
+    sym (length-take-le (t .take-turn .result .have) (t .take-turn .last .1 .0) (waits-fit t))
+
+end-day-requires : tie.Need-end-day-requires Inv-loop μ-loop
+end-day-requires c κs = room-stays (c .before .before .before .before .before .before .before .before .before .before .before .before)
+
+same-length-3 : tie.Need-same-length-3 Inv-loop μ-loop
+same-length-3 c = search needs
+
+same-length-4 : tie.Need-same-length-4 Inv-loop μ-loop
+same-length-4 c = search needs
+
+returns-2 : tie.Need-returns-2 Inv-loop μ-loop
+returns-2 c = search needs
+
+copy-on-requires : tie.Need-copy-on-requires Inv-loop μ-loop
+copy-on-requires c κs = search needs
+
+add-at : tie.Need-add-at Inv-loop μ-loop
+add-at c = omega (arith, c .before .before .copy-on .ensures .0, day-short (c .before .before .before .before .before .before .before .before .before .before .before .before .before .before))
+
+add-have : tie.Need-add-have Inv-loop μ-loop
+add-have c =
+    let t = c .before .before .before .before .before .before .before .before .before .before .before .before .before .before in
+    let k = c .before .before .copy-on in
+    omega (arith, k .ensures .1, k .kept .1 .1 .0, input-short t)
+
+sub-turns : tie.Need-sub-turns Inv-loop μ-loop
+sub-turns c = search needs
+
+loop-less : tie.Need-loop-less Inv-loop μ-loop
+loop-less c = search needs
+
+loop-again : tie.Need-loop-again Inv-loop μ-loop
+loop-again c =
+    let t = c .before .before .before .before .before .before .before .before .before .before .before .before .before .before in
+    let k = c .before .before .copy-on in (
+      t .take-turn .ensures .1 .1 .1 .1 .1 .0,
+      k .ensures .0,
+      omega (arith, k .ensures .1, k .kept .1 .1 .0, long-input t),
+      k .kept .1 .1 .0 ∙ long-input t,
+      long-out t,
+    )
+
+same-length-5 : tie.Need-same-length-5 Inv-loop μ-loop
+same-length-5 c = search needs
+
+same-length-6 : tie.Need-same-length-6 Inv-loop μ-loop
+same-length-6 c = search needs
+
+returns-3 : tie.Need-returns-3 Inv-loop μ-loop
+returns-3 c = search needs
+
+pub take-turns-spec : {M : Type 1} → statement M
+take-turns-spec =
+    tie.close
+    (tie.spec
+    Inv-loop
+    μ-loop
+    begin-requires
+    loop-holds
+    take-turn-requires
+    slice-reshare-prefix-hand-over
+    slice-aggregate-hand-over
+    hand-over-requires
+    same-length
+    same-length-2
+    returns
+    slice-reshare-prefix-end-day
+    slice-aggregate-end-day
+    end-day-requires
+    same-length-3
+    same-length-4
+    returns-2
+    copy-on-requires
+    add-at
+    add-have
+    sub-turns
+    loop-less
+    loop-again
+    same-length-5
+    same-length-6
+    returns-3)

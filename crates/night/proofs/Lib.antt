@@ -1,0 +1,3 @@
+pub mod LawsTurn
+pub mod Determined
+pub mod LawsTurns
