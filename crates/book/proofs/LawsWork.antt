@@ -18,8 +18,7 @@ use Rattle.rules.specs.Step.{Answer, Returned, answer, stepOn}
 use Rattle.tables.specs.declared.Head.{Head}
 use Rattle.tables.specs.Tables.{bookOn, recordOn}
 use Rattle.tables.specs.declared.Step.{Step}
-use Rattle.tables.specs.Answers.{answerOf}
-use Rattle.tables.proofs.LawsAnswers.{Left}
+use Rattle.tables.specs.Answers.{Left, answerOf}
 use Rattle.book.specs.declared.Book as value
 use Rattle.book.specs.declared.Reply.{Reply}
 use Rattle.book.specs.Record.{recordIn, bookWith, replyOf}

@@ -14,20 +14,14 @@ sideWith p = record { used = p .used; places = p .places }
 
 abbrev pub recordIn : Book → BookRecord
 recordIn b = record {
-  last = b .last;
-  time = b .time;
-  away = b .away;
-  closed = b .closed;
+  held = b .held;
   buys = placesOn (b .buys);
   sells = placesOn (b .sells);
 }
 
 abbrev pub bookWith : BookRecord → Book
 bookWith r = record {
-  last = r .last;
-  time = r .time;
-  away = r .away;
-  closed = r .closed;
+  held = r .held;
   buys = sideWith (r .buys);
   sells = sideWith (r .sells);
 }
@@ -38,10 +32,7 @@ replyOf r = record { refusal = r .refusal; length = r .length; book = bookWith (
 -- the header of a book by value
 abbrev pub headIn : Book → Head
 headIn b = record {
-  last = b .last;
-  time = b .time;
-  away = b .away;
-  closed = b .closed;
+  held = b .held;
   buys = b .buys .used;
   sells = b .sells .used;
 }

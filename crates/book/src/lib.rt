@@ -7,6 +7,7 @@ use rows::WORDS;
 use rules::Away;
 use rules::Body;
 use rules::Command;
+use rules::Held;
 use rules::Order;
 use rules::Reading;
 use rules::Resting;
@@ -37,10 +38,7 @@ pub const NO_ORDERS: Side = Side {
 };
 
 pub struct Book {
-    pub last: Number,
-    pub time: u32,
-    pub away: Away,
-    pub closed: bool,
+    pub held: Held,
     pub buys: Side,
     pub sells: Side,
 }
@@ -70,11 +68,14 @@ impl Book {
             bid: Cents(0),
             offer: Cents(0),
         };
-        Book {
+        let held = Held {
             last: Number(0),
             time: judge::OPENING,
             away: away,
             closed: false,
+        };
+        Book {
+            held: held,
             buys: NO_ORDERS,
             sells: NO_ORDERS,
         }
@@ -85,15 +86,11 @@ impl Book {
     fn head(self) -> Head
         ensures { λ r. ⌜ r ≡ headIn self ⌝ }
     {
-        let last = self.last;
-        let away = self.away;
+        let held = self.held;
         let buys = self.buys;
         let sells = self.sells;
         Head {
-            last: last,
-            time: self.time,
-            away: away,
-            closed: self.closed,
+            held: held,
             buys: buys.used,
             sells: sells.used,
         }
@@ -114,8 +111,7 @@ impl Book {
     fn save(h: Head, buys: &[[u32; WORDS]; PLACES], sells: &[[u32; WORDS]; PLACES]) -> Book
         ensures { λ r. ⌜ r ≡ bookWith (recordOn h (now (buys .entry)) (now (sells .entry))) ⌝ }
     {
-        let last = h.last;
-        let away = h.away;
+        let held = h.held;
         let bought = Side {
             used: h.buys,
             places: tables::save(buys),
@@ -125,10 +121,7 @@ impl Book {
             places: tables::save(sells),
         };
         Book {
-            last: last,
-            time: h.time,
-            away: away,
-            closed: h.closed,
+            held: held,
             buys: bought,
             sells: sold,
         }

@@ -23,13 +23,13 @@ use Rattle.cancels.proofs.LawsCancelled.{kept-none, cancels-none, on-on
 module _ (b : Book) (s : Sound b) where
   pub buys-once : distinct (numbers (b .buys)) ≡ true
   buys-once =
-      let held = all-holding (b .last) (sides-of true b s .ownInRange) in
+      let held = all-holding (b .held .last) (sides-of true b s .ownInRange) in
       ap (λ (r : List Resting). distinct (numbers r)) (sym (append-nil (b .buys)))
       ∙ thinned-distinct (thinned-both (thinned-same held) (thinned-none (b .sells))) (s .once)
 
   pub sells-once : distinct (numbers (b .sells)) ≡ true
   sells-once =
-      let held = all-holding (b .last) (sides-of true b s .oppositeInRange) in
+      let held = all-holding (b .held .last) (sides-of true b s .oppositeInRange) in
       thinned-distinct (thinned-both (thinned-none (b .buys)) (thinned-same held)) (s .once)
 
 module _ (n : Number) (time : ℕ) (of : Number) (b : Book) where

@@ -3,6 +3,7 @@
 use kinds::Number;
 use rows::PLACES;
 use rows::WORDS;
+use rules::Held;
 use tables::Head;
 use tables::Step;
 ghost use mathlib.Core.Bool.{true};
@@ -15,9 +16,9 @@ ghost use Rattle.rows.specs.Table.{side, tableOf, Holds};
 ghost use Rattle.rules.specs.Book.{numbers};
 ghost use Rattle.rules.specs.EventLines.{eventLines, byCommand};
 ghost use Rattle.rules.specs.Refusals.{leastRoom};
-ghost use Rattle.rules.specs.Working.{kept, cancels, isNumber};
+ghost use Rattle.rules.specs.Working.{withAccepted, kept, cancels, isNumber};
 ghost use Rattle.rules.specs.declared.Body.the-variants as body;
-ghost use Rattle.tables.specs.Answers.{bodyAnswer, stepOf, Stands};
+ghost use Rattle.tables.specs.Answers.{bodyAnswer, Left, Stands};
 ghost use Rattle.tables.specs.Tables.{bookOn};
 
 // Takes the order of a number off a side and writes its line; the length of the line, or 0 where the side has no such order.
@@ -40,16 +41,20 @@ fn take_off(t: &mut [[u32; WORDS]; PLACES], n: usize, number: Number, out: &mut 
 fn leave(h: Head, number: Number, time: u32, buys: usize, sells: usize, len: usize) -> Step
     ensures { λ r. ⌜ r ≡ record {
       refusal = 0;
-      head = record { last = number; time = time; away = h .away; closed = h .closed; buys = buys; sells = sells };
+      head = record { held = withAccepted number time (h .held); buys = buys; sells = sells };
       length = len;
     } ⌝ }
 {
-    let head = Head {
+    let held = h.held;
+    let accepted = Held {
         last: number,
         time: time,
+        ..held
+    };
+    let head = Head {
+        held: accepted,
         buys: buys,
         sells: sells,
-        ..h
     };
     Step {
         refusal: 0,
@@ -68,10 +73,8 @@ pub fn cancel(
     out: &mut [u8],
 ) -> Step
     requires { ⌜ Stands h (now buys) (now sells) × (leastRoom ≤ length (now out)) ⌝ }
-    ensures { λ r. ⌜ r ≡ stepOf (bodyAnswer number time (body.Cancel of) (bookOn h (now (buys .entry)) (now (sells .entry)))) ⌝ }
-    ensures { λ _. ⌜ now (buys .exit) ≡ tableOf (bodyAnswer number time (body.Cancel of) (bookOn h (now (buys .entry)) (now (sells .entry))) .book .buys) ⌝ }
-    ensures { λ _. ⌜ now (sells .exit) ≡ tableOf (bodyAnswer number time (body.Cancel of) (bookOn h (now (buys .entry)) (now (sells .entry))) .book .sells) ⌝ }
-    ensures { λ _. ⌜ now (out .exit) ≡ onto (eventLines (bodyAnswer number time (body.Cancel of) (bookOn h (now (buys .entry)) (now (sells .entry))) .events)) (now (out .entry)) ⌝ }
+    ensures { λ r. ⌜ Left r (now (buys .exit)) (now (sells .exit)) (now (out .exit)) (now (out .entry))
+        (bodyAnswer number time (body.Cancel of) (bookOn h (now (buys .entry)) (now (sells .entry)))) ⌝ }
 {
     let n = h.buys;
     let m = h.sells;

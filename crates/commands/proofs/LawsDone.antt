@@ -11,7 +11,7 @@ use Rattle.rules.specs.declared.Resting.{Resting}
 use Rattle.rules.specs.Book.{Book}
 use Rattle.rules.specs.EventLines.{atClose}
 use Rattle.rules.specs.Refusals.{firstOf, bodyRefusals}
-use Rattle.rules.specs.Working.{does, cancels, close}
+use Rattle.rules.specs.Working.{withAccepted, shut, does, cancels, close}
 use Rattle.tables.specs.Answers.{bodyAnswer}
 use Rattle.tables.proofs.LawsAnswers.{body-done, doneWith}
 
@@ -22,7 +22,7 @@ cancels-all reason [] = refl
 cancels-all reason (h ∷ s) = ap (λ (es : List Event). cancelledFor reason h ∷ es) (cancels-all reason s)
 
 pub closed-is : (n : Number) (time : ℕ) (b : Book) → bodyAnswer n time body.Close b ≡ doneWith (record {
-  book = record { last = n; time = time; away = b .away; closed = true; buys = []; sells = [] };
+  book = record { held = shut (withAccepted n time (b .held)); buys = []; sells = [] };
   events = map (cancelledFor atClose) (b .buys) ++ map (cancelledFor atClose) (b .sells);
 })
 unfolding firstOf bodyRefusals does close

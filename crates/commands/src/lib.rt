@@ -1,11 +1,11 @@
 // A command on a sound book that stands in a header and two lent tables, worked in place (01, How an order is worked). It is judged
 // by its header first and then by its body; a refusal leaves the header, both tables and every byte as they were.
-use judge::Accepted;
 use kinds::Number;
 use rows::PLACES;
 use rows::WORDS;
 use rules::Body;
 use rules::Command;
+use rules::Held;
 use tables::Head;
 use tables::Step;
 ghost use mathlib.Core.Path.{_≡_};
@@ -16,7 +16,7 @@ ghost use Rattle.rows.specs.Table.{tableOf};
 ghost use Rattle.rules.specs.EventLines.{eventLines};
 ghost use Rattle.rules.specs.Refusals.{leastRoom};
 ghost use Rattle.rules.specs.declared.Body.the-variants as body;
-ghost use Rattle.tables.specs.Answers.{answerOf, bodyAnswer, stepOf, Stands};
+ghost use Rattle.tables.specs.Answers.{answerOf, bodyAnswer, Left, Stands};
 ghost use Rattle.tables.specs.Tables.{bookOn};
 
 // ── A close ──
@@ -30,10 +30,8 @@ fn close(
     out: &mut [u8],
 ) -> Step
     requires { ⌜ Stands h (now buys) (now sells) × (leastRoom ≤ length (now out)) ⌝ }
-    ensures { λ r. ⌜ r ≡ stepOf (bodyAnswer number time body.Close (bookOn h (now (buys .entry)) (now (sells .entry)))) ⌝ }
-    ensures { λ _. ⌜ now (buys .exit) ≡ tableOf (bodyAnswer number time body.Close (bookOn h (now (buys .entry)) (now (sells .entry))) .book .buys) ⌝ }
-    ensures { λ _. ⌜ now (sells .exit) ≡ tableOf (bodyAnswer number time body.Close (bookOn h (now (buys .entry)) (now (sells .entry))) .book .sells) ⌝ }
-    ensures { λ _. ⌜ now (out .exit) ≡ onto (eventLines (bodyAnswer number time body.Close (bookOn h (now (buys .entry)) (now (sells .entry))) .events)) (now (out .entry)) ⌝ }
+    ensures { λ r. ⌜ Left r (now (buys .exit)) (now (sells .exit)) (now (out .exit)) (now (out .entry))
+        (bodyAnswer number time body.Close (bookOn h (now (buys .entry)) (now (sells .entry)))) ⌝ }
 {
     let n = h.buys;
     let m = h.sells;
@@ -41,13 +39,17 @@ fn close(
     let more = reports::report_cancelled(sells, m, 7, &mut out[len..]);
     shifts::drop_first(buys, n, n);
     shifts::drop_first(sells, m, m);
-    let head = Head {
+    let held = h.held;
+    let shut = Held {
         last: number,
         time: time,
         closed: true,
+        ..held
+    };
+    let head = Head {
+        held: shut,
         buys: 0,
         sells: 0,
-        ..h
     };
     Step {
         refusal: 0,
@@ -66,21 +68,14 @@ pub fn apply(
     out: &mut [u8],
 ) -> Step
     requires { ⌜ Stands h (now buys) (now sells) × (leastRoom ≤ length (now out)) ⌝ }
-    ensures { λ r. ⌜ r ≡ stepOf (answerOf c (bookOn h (now (buys .entry)) (now (sells .entry)))) ⌝ }
-    ensures { λ _. ⌜ now (buys .exit) ≡ tableOf (answerOf c (bookOn h (now (buys .entry)) (now (sells .entry))) .book .buys) ⌝ }
-    ensures { λ _. ⌜ now (sells .exit) ≡ tableOf (answerOf c (bookOn h (now (buys .entry)) (now (sells .entry))) .book .sells) ⌝ }
-    ensures { λ _. ⌜ now (out .exit) ≡ onto (eventLines (answerOf c (bookOn h (now (buys .entry)) (now (sells .entry))) .events)) (now (out .entry)) ⌝ }
+    ensures { λ r. ⌜ Left r (now (buys .exit)) (now (sells .exit)) (now (out .exit)) (now (out .entry))
+        (answerOf c (bookOn h (now (buys .entry)) (now (sells .entry)))) ⌝ }
 {
     let number = c.number;
     let time = c.time;
     let body = c.body;
-    let last = h.last;
-    let accepted = Accepted {
-        last: last,
-        time: h.time,
-        closed: h.closed,
-    };
-    let refusal = judge::header_refusal(accepted, c);
+    let held = h.held;
+    let refusal = judge::header_refusal(held, c);
     if refusal != 0 {
         return tables::refuse(h, refusal);
     }

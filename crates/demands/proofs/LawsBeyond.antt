@@ -51,7 +51,7 @@ use Rattle.demands.proofs.LawsWalked.{taken}
 
 -- the last line of an order's work
 abbrev endOfWork : Number → Order → Book → List Event
-endOfWork n o b = lastLine n (remainder o (b .away) (oppositeSide (buying o) b)) (ending o (b .away) (oppositeSide (buying o) b))
+endOfWork n o b = lastLine n (remainder o (b .held .away) (oppositeSide (buying o) b)) (ending o (b .held .away) (oppositeSide (buying o) b))
 
 -- where nobody gives, there is no execution
 nothing-executes : (n : Number) (s : List Resting) → executions n s (nothing s) ≡ []
@@ -77,7 +77,7 @@ post-only-events : (b : Book) (line : List ℕ) (c : Command) (o : Order) → ac
     → c .body ≡ body.Order o → has (o .word) postOnly ≡ true → answerTo b line .events ≡ endOfWork (c .number) o b
 unfolding does accept
 post-only-events b line c o t e f p =
-    rw (accepted-does b line c e t .1, f, post-only-executions (c .number) o (b .away) (oppositeSide (buying o) b) p) refl
+    rw (accepted-does b line c e t .1, f, post-only-executions (c .number) o (b .held .away) (oppositeSide (buying o) b) p) refl
 
 -- .. whose fields fit their widths, on any book: they are of the line that was read, or in range
 end-of-work-fits : (n : Number) (o : Order) (b : Book) → n .0 < 2 ^ 32 → Fitting orderForm (numbersOf (body.Order o))
@@ -85,7 +85,7 @@ end-of-work-fits : (n : Number) (o : Order) (b : Book) → n .0 < 2 ^ 32 → Fit
 unfolding remainder
 end-of-work-fits n o b l (fits w side i (fits x word j (fits y price q (fits z size r empty)))) =
     let s = oppositeSide (buying o) b in
-    last-line-fits n (remainder o (b .away) s) l (omega (arith, r)) (ending-fits o (b .away) s q)
+    last-line-fits n (remainder o (b .held .away) s) l (omega (arith, r)) (ending-fits o (b .held .away) s q)
 
 -- so what is printed of it tells no execution
 pub post-only-executes-nothing : (b : Book) (line : List ℕ) (c : Command) (o : Order) → acts b line ≡ true → commandIn line ≡ reading.Is c
@@ -98,13 +98,13 @@ post-only-executes-nothing b line c o t e f p =
     let fitting = end-of-work-fits (c .number) o b (header-number (read .header)) asOrder in
     let told : eventsIn (eventLines es) ≡ es = sym (ap eventsIn (append-nil (eventLines es))) ∙ events-read [] fitting ∙ append-nil es in
     rw (t, post-only-events b line c o t e f p, told)
-    (last-no-execution (c .number) (remainder o (b .away) (oppositeSide (buying o) b)) (ending o (b .away) (oppositeSide (buying o) b)))
+    (last-no-execution (c .number) (remainder o (b .held .away) (oppositeSide (buying o) b)) (ending o (b .held .away) (oppositeSide (buying o) b)))
 
 -- ── The close ──
 
 -- an accepted close closes
 pub close-closes : (b : Book) (line : List ℕ) (c : Command) → acts b line ≡ true → commandIn line ≡ reading.Is c → c .body ≡ body.Close
-    → answerTo b line .book .closed ≡ true
+    → answerTo b line .book .held .closed ≡ true
 unfolding does close
 close-closes b line c t e f = rw (accepted-does b line c e t .0, f) refl
 
@@ -114,12 +114,12 @@ acts-reads {P = P} b line t f = by-reading (commandIn line) refl
   where
     by-reading : (r : Reading) → commandIn line ≡ r → P
     by-reading reading.Bad e =
-        let next = subst (λ (r : Reading). commandNumber r ≡ b .last .0 + 1) e (next-acts b line t .0) in
+        let next = subst (λ (r : Reading). commandNumber r ≡ b .held .last .0 + 1) e (next-acts b line t .0) in
         let z : ⊥ = omega (arith, next) in absurd z
     by-reading (reading.Is c) e = f c e
 
 -- a closed book refuses every line
-closed-refuses : (b : Book) (line : List ℕ) → b .closed ≡ true → acts b line ≡ false
+closed-refuses : (b : Book) (line : List ℕ) → b .held .closed ≡ true → acts b line ≡ false
 closed-refuses b line closed =
     ⊎-elim
     (λ (t : acts b line ≡ true). acts-reads b line t (λ c e. absurd (true≢false (sym closed ∙ acts-accepted b line c t e .isOpen))))
@@ -127,13 +127,13 @@ closed-refuses b line closed =
     (holds-or-not (acts b line))
 
 -- .. so it stays as it is
-pub closed-stays : (b : Book) (lines : List (List ℕ)) → b .closed ≡ true → bookAfter b lines ≡ b
+pub closed-stays : (b : Book) (lines : List (List ℕ)) → b .held .closed ≡ true → bookAfter b lines ≡ b
 unfolding bookAfter
 closed-stays b [] closed = refl
 closed-stays b (l ∷ ls) closed = rw (refused-book b l (closed-refuses b l closed)) (closed-stays b ls closed)
 
 -- a closed sound book holds no shares
-closed-holds-none : (n : Number) (b : Book) → sound b ≡ true → b .closed ≡ true → restingOf n b ≡ 0
+closed-holds-none : (n : Number) (b : Book) → sound b ≡ true → b .held .closed ≡ true → restingOf n b ≡ 0
 unfolding sumOf
 closed-holds-none n b s closed =
     let empty = rw closed at (sound-is b s .closedEmpty) in
@@ -146,7 +146,7 @@ closed-holds-none n b s closed =
 
 -- after the close every accepted order is settled: its shares were executed or cancelled, all told by the lines
 pub closed-settles : (lines : List (List ℕ)) (stood : Book) (line : List ℕ) (c : Command) (o : Order) → Enters byLine fresh lines stood line c o
-    → bookAfter fresh lines .closed ≡ true
+    → bookAfter fresh lines .held .closed ≡ true
     → o .shares .0
     ≡ executedIn (c .number) (eventsIn (printedOf fresh lines)) + cancelledIn (c .number) (eventsIn (printedOf fresh lines))
 closed-settles lines stood line c o r closed =
@@ -173,12 +173,12 @@ acting-on {a = a} {last = last} k b (c ∷ cs) =
     (holds-or-not (a .acts b c))
 
 -- the numbers that act in a day of lines are 1, 2, 3 .. to the last
-pub numbers-follow : (lines : List (List ℕ)) → actingNumbers byLine fresh lines ≡ oneTo (bookAfter fresh lines .last .0)
+pub numbers-follow : (lines : List (List ℕ)) → actingNumbers byLine fresh lines ≡ oneTo (bookAfter fresh lines .held .last .0)
 unfolding oneTo
-numbers-follow lines = acting-on by-line-keeps fresh lines ∙ ap (λ (b : Book). oneTo (b .last .0)) (end-is fresh lines)
+numbers-follow lines = acting-on by-line-keeps fresh lines ∙ ap (λ (b : Book). oneTo (b .held .last .0)) (end-is fresh lines)
 
 -- .. and in a day of calls
-pub numbers-follow-by-call : (calls : List Call) → actingNumbers byCall (recordOf fresh) calls ≡ oneTo (endOf byCall (recordOf fresh) calls .last .0)
+pub numbers-follow-by-call : (calls : List Call) → actingNumbers byCall (recordOf fresh) calls ≡ oneTo (endOf byCall (recordOf fresh) calls .held .last .0)
 unfolding oneTo recordOf
 numbers-follow-by-call calls = acting-on by-call-keeps (recordOf fresh) calls
 

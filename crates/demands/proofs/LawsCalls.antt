@@ -292,12 +292,12 @@ calls-conserve r calls stood call c o e =
     (conserved-from (book-sound r s) (entry .enters))
 
 -- a record's book has its last number
-last-held : {n : ℕ} (r : BookRecord) → n ≤ r .last .0 → n ≤ bookIn r .last .0
+last-held : {n : ℕ} (r : BookRecord) → n ≤ r .held .last .0 → n ≤ bookIn r .held .last .0
 unfolding bookIn
 last-held r l = l
 
 -- and so are those of each order that rested already
-pub calls-settle : (n : Number) (r : BookRecord) (calls : List Call) → recordSound r ≡ true → n .0 ≤ r .last .0
+pub calls-settle : (n : Number) (r : BookRecord) (calls : List Call) → recordSound r ≡ true → n .0 ≤ r .held .last .0
     → restingOf n (bookIn r)
     ≡ executedIn n (eventsIn (eventLinesOf byCall r calls)) + cancelledIn n (eventsIn (eventLinesOf byCall r calls))
     + restingOf n (bookIn (endOf byCall r calls))

@@ -181,7 +181,7 @@ acts-order b c o a f = accepted-order b o (subst (λ (x : Body). firstOf (bodyRe
 
 -- the lines of an accepted order are those of its work
 pub acts-lines : (b : Book) (line : List ℕ) (c : Command) (o : Order) → acts b line ≡ true → commandIn line ≡ reading.Is c → c .body ≡ body.Order o
-    → answerTo b line .events ≡ linesOf (c .number) o (b .away) (oppositeSide (buying o) b)
+    → answerTo b line .events ≡ linesOf (c .number) o (b .held .away) (oppositeSide (buying o) b)
 unfolding answerTo answer doneBy does accept
 acts-lines b line c o t e f = rw t (rw e (rw f refl))
 
@@ -203,10 +203,10 @@ works b line c o s t e f notPostOnly =
 
 -- the customer's sentences, one by one
 lines-are : (b : Book) (c : Command) (o : Order) → Works (c .number) o (oppositeSide (buying o) b)
-    → Executes b c o (linesOf (c .number) o (b .away) (oppositeSide (buying o) b))
+    → Executes b c o (linesOf (c .number) o (b .held .away) (oppositeSide (buying o) b))
 lines-are b c o w =
     let n = c .number in
-    let away = b .away in
+    let away = b .held .away in
     let s = oppositeSide (buying o) b in
     record {
       between = all-both (executions-between n s (takings o away s)) (last-between n s (remainder o away s) (ending o away s));

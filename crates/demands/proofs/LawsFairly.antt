@@ -135,10 +135,10 @@ post-only-takes-nothing o away s t = taken (λ (ts : List ℕ). ts ≡ nothing s
 -- the executions of an accepted order
 pub order-fairly : (b : Book) (line : List ℕ) (c : Command) (o : Order) → sound b ≡ true
     → acts b line ≡ true → commandIn line ≡ reading.Is c → c .body ≡ body.Order o
-    → All (FairlyExecuted o (b .away) (c .number) (oppositeSide (buying o) b)) (answerTo b line .events)
+    → All (FairlyExecuted o (b .held .away) (c .number) (oppositeSide (buying o) b)) (answerTo b line .events)
 order-fairly b line c o s t e f =
     let n = c .number in
-    let away = b .away in
+    let away = b .held .away in
     let side = oppositeSide (buying o) b in
     let fairly =
     ⊎-elim

@@ -118,7 +118,7 @@ pub ranked-fills-determined : (stood : Book) (c : Command) (o : Order) (es fs : 
     → ((h : Resting) → OneOf h (opposite o stood) → givenIn (h .number) es ≡ givenIn (h .number) fs)
     × (executedIn (c .number) es ≡ executedIn (c .number) fs)
 ranked-fills-determined stood c o es fs ranked x y =
-    let away = stood .away in
+    let away = stood .held .away in
     let side = opposite o stood in
     let inAll : executedIn (c .number) es ≡ executedIn (c .number) fs =
     omega (arith, executed-at-most stood c o es fs x y, executed-at-most stood c o fs es y x) in

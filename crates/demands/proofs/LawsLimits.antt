@@ -129,7 +129,7 @@ less-aggressive buy limit bound price b w =
     (λ (t : beyond buy limit bound ≡ false). t)
     (holds-or-not (beyond buy limit bound))
 
-module _ (b : Book) (isSound : Sound b) (n : Number) (next : b .last .0 < n .0) (time : ℕ) where
+module _ (b : Book) (isSound : Sound b) (n : Number) (next : b .held .last .0 < n .0) (time : ℕ) where
   -- when the order enters
   entered-limits : (o : Order) → Limits o n (does n time (body.Order o) b .book)
   entered-limits o buy = all-alike limited (does-comes b isSound n time (body.Order o) buy)
@@ -137,11 +137,11 @@ module _ (b : Book) (isSound : Sound b) (n : Number) (next : b .last .0 < n .0) 
       limited : (x : Resting) → Comes b n buy x (body.Order o) → x .number ≡ n → Limited o buy x
       limited x (stays h p a i e) same = absurd (another-number b isSound n next buy p (ap (λ (m : Number). m .0) (sym i ∙ same)))
       limited x (rests t e i) same =
-          let w : beyond (buying o) (o .price) (x .price) ≡ false = subst (WithinLimit o) e (ending-within o (b .away) (oppositeSide buy b)) in
+          let w : beyond (buying o) (o .price) (x .price) ≡ false = subst (WithinLimit o) e (ending-within o (b .held .away) (oppositeSide buy b)) in
           record { isSide = t; within = subst (λ (side : Bool). beyond side (o .price) (x .price) ≡ false) t w }
 
   -- by any later command
-  later-limits : (o : Order) (m : Number) → m .0 ≤ b .last .0 → Limits o m b → (c : Body) → Limits o m (does n time c b .book)
+  later-limits : (o : Order) (m : Number) → m .0 ≤ b .held .last .0 → Limits o m b → (c : Body) → Limits o m (does n time c b .book)
   later-limits o m l limits c buy = all-alike (limited c) (does-comes b isSound n time c buy)
     where
       limited : (c : Body) (x : Resting) → Comes b n buy x c → x .number ≡ m → Limited o buy x
@@ -159,7 +159,7 @@ module _ (b : Book) (isSound : Sound b) (n : Number) (next : b .last .0 < n .0) 
 -- ── A run of lines ──
 
 -- after the order has entered, over any run
-run-limits : (o : Order) (n : Number) (b : Book) (lines : List (List ℕ)) → sound b ≡ true → n .0 ≤ b .last .0 → Limits o n b
+run-limits : (o : Order) (n : Number) (b : Book) (lines : List (List ℕ)) → sound b ≡ true → n .0 ≤ b .held .last .0 → Limits o n b
     → Limits o n (bookAfter b lines)
 unfolding bookAfter
 run-limits o n b [] s l limits = limits

@@ -92,7 +92,7 @@ unfolding answerTo answer
 refused-events b line e = rw e refl
 
 -- a command leaves its number
-does-last : (n : Number) (time : ℕ) (c : Body) (b : Book) → does n time c b .book .last ≡ n
+does-last : (n : Number) (time : ℕ) (c : Body) (b : Book) → does n time c b .book .held .last ≡ n
 unfolding does accept cancel quote close
 does-last n time (body.Order o) b = refl
 does-last n time (body.Cancel of) b = refl
@@ -100,7 +100,7 @@ does-last n time (body.Quote away) b = refl
 does-last n time body.Close b = refl
 
 -- a line that no refusal is given for is a command with the number after the last, and leaves that number
-next-done : (b : Book) (a : Reading) → firstOf (lineRefusals b a) ≡ 0 → (commandNumber a ≡ b .last .0 + 1) × (doneBy a b .book .last .0 ≡ b .last .0 + 1)
+next-done : (b : Book) (a : Reading) → firstOf (lineRefusals b a) ≡ 0 → (commandNumber a ≡ b .held .last .0 + 1) × (doneBy a b .book .held .last .0 ≡ b .held .last .0 + 1)
 unfolding doneBy lineRefusals firstOf
 next-done b reading.Bad e = let z : ⊥ = omega (arith, e) in absurd z
 next-done b (reading.Is c) e =
@@ -108,7 +108,7 @@ next-done b (reading.Is c) e =
     (next, rw (does-last (c .number) (c .time) (c .body) b) next)
 
 pub next-acts : (b : Book) (line : List ℕ) → acts b line ≡ true
-    → (commandNumber (commandIn line) ≡ b .last .0 + 1) × (answerTo b line .book .last .0 ≡ b .last .0 + 1)
+    → (commandNumber (commandIn line) ≡ b .held .last .0 + 1) × (answerTo b line .book .held .last .0 ≡ b .held .last .0 + 1)
 unfolding answerTo answer refusals firstOf
 next-acts b line e =
     rw e (next-done b (commandIn line) (eqb-true (firstOf (lineRefusals b (commandIn line))) 0 e))
@@ -116,7 +116,7 @@ next-acts b line e =
 -- ── A day of lines ──
 
 -- lines keep to what `LawsRuns` asks of a kind
-pub by-line-keeps : Keeps byLine (λ (b : Book). b .last .0)
+pub by-line-keeps : Keeps byLine (λ (b : Book). b .held .last .0)
 unfolding eventLines
 by-line-keeps = record {
   sameBook = refused-book;
@@ -163,7 +163,7 @@ lines-print b lines = prints-events b (struckOut byLine b lines) (lines-act b li
 
 -- a call that is not refused is a command with the number after the last, and leaves that number
 call-next : (r : BookRecord) (c : Call) → byCall .acts r c ≡ true
-    → (commandNumber (readingOf (c .asks)) ≡ r .last .0 + 1) × (byCall .book r c .last .0 ≡ r .last .0 + 1)
+    → (commandNumber (readingOf (c .asks)) ≡ r .held .last .0 + 1) × (byCall .book r c .held .last .0 ≡ r .held .last .0 + 1)
 unfolding stepOn answer bookIn recordOf
 call-next r c t =
     let a = readingOf (c .asks) in
@@ -172,7 +172,7 @@ call-next r c t =
     (next .0, rw t (next .1))
 
 -- calls keep to what `LawsRuns` asks of a kind
-pub by-call-keeps : Keeps byCall (λ (r : BookRecord). r .last .0)
+pub by-call-keeps : Keeps byCall (λ (r : BookRecord). r .held .last .0)
 by-call-keeps = record {
   sameBook = λ r c t. refused r c t .0;
   noLine = λ r c t. rw (refused r c t .2) refl;
@@ -202,14 +202,14 @@ calls-act = struck-out-acts by-call-keeps
 -- ── The repeat at three in the morning ──
 
 -- the last number never falls
-pub answer-rises : (b : Book) (line : List ℕ) → b .last .0 ≤ answerTo b line .book .last .0
+pub answer-rises : (b : Book) (line : List ℕ) → b .held .last .0 ≤ answerTo b line .book .held .last .0
 answer-rises b line =
     ⊎-elim
     (λ (t : acts b line ≡ true). let next = next-acts b line t .1 in omega (arith, next))
     (λ (t : acts b line ≡ false). rw (refused-book b line t) (omega arith))
     (holds-or-not (acts b line))
 
-after-rises : (b : Book) (lines : List (List ℕ)) → b .last .0 ≤ bookAfter b lines .last .0
+after-rises : (b : Book) (lines : List (List ℕ)) → b .held .last .0 ≤ bookAfter b lines .held .last .0
 unfolding bookAfter
 after-rises b [] = omega arith
 after-rises b (l ∷ ls) =
@@ -223,10 +223,10 @@ after-append b [] later = refl
 after-append b (l ∷ ls) later = after-append (answerTo b l .book) ls later
 
 -- a line whose number is not above the last is refused with 4
-old-refused : (b : Book) (again : List ℕ) (d : Command) → commandIn again ≡ reading.Is d → d .number .0 ≤ b .last .0
+old-refused : (b : Book) (again : List ℕ) (d : Command) → commandIn again ≡ reading.Is d → d .number .0 ≤ b .held .last .0
     → answerTo b again ≡ record { refusal = 4; book = b; events = [] }
 unfolding answerTo answer refusals lineRefusals headerRefusals firstOf
-old-refused b again d e l = rw (e, le-leb (d .number .0) (b .last .0) l) refl
+old-refused b again d e l = rw (e, le-leb (d .number .0) (b .held .last .0) l) refl
 
 -- after a line has acted, whatever came since, a line with its number is refused with 4, whatever its time and its body
 pub repeat-refused : (b : Book) (earlier between : List (List ℕ)) (line again : List ℕ) (c d : Command)
@@ -237,9 +237,9 @@ unfolding bookAfter
 repeat-refused b earlier between line again c d t first second same =
     let held = bookAfter b earlier in
     let next = next-acts held line t in
-    let number : c .number .0 ≡ held .last .0 + 1 = subst (λ (a : Reading). commandNumber a ≡ held .last .0 + 1) first (next .0) in
+    let number : c .number .0 ≡ held .held .last .0 + 1 = subst (λ (a : Reading). commandNumber a ≡ held .held .last .0 + 1) first (next .0) in
     let alike : d .number .0 ≡ c .number .0 = ap (λ (n : Number). n .0) same in
     let since = after-rises (answerTo held line .book) between in
-    let old : d .number .0 ≤ bookAfter b (earlier ++ (line ∷ between)) .last .0 =
+    let old : d .number .0 ≤ bookAfter b (earlier ++ (line ∷ between)) .held .last .0 =
     rw (after-append b earlier (line ∷ between)) (omega (arith, next .1, number, alike, since)) in
     old-refused (bookAfter b (earlier ++ (line ∷ between))) again d second old

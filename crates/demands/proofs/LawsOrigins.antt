@@ -26,13 +26,13 @@ use Rattle.rules.specs.declared.Resting.{Resting}
 use Rattle.rules.specs.Book.{Book}
 use Rattle.rules.specs.CommandLines.{commandIn}
 use Rattle.rules.specs.Step.{answerTo}
-use Rattle.rules.specs.Working.{buying, lockingPrice, takings, remainder, after, ending, remainderOf, withRemainder, ownSide, oppositeSide, accept, kept, isNumber, cancel, wouldNowCross, setAnew, afterMoves, firstMove, quote, close, does}
+use Rattle.rules.specs.Working.{withShares, buying, lockingPrice, takings, remainder, after, ending, remainderOf, withRemainder, ownSide, oppositeSide, accept, kept, isNumber, cancel, wouldNowCross, setAnew, afterMoves, firstMove, quote, close, does}
 use Rattle.soundness.proofs.LawsAccepted.{InOrder}
 use Rattle.soundness.proofs.LawsInsert.{added-insert, added-all}
 use Rattle.soundness.proofs.LawsMoves.{inserted-all}
 use Rattle.soundness.proofs.LawsSides.{all-holding, sides-of}
 use Rattle.soundness.proofs.LawsSound.{Sound}
-use Rattle.soundness.proofs.LawsThinned.{Thinned, withShares, thinned-after, thinned-kept, thinned-all}
+use Rattle.soundness.proofs.LawsThinned.{Thinned, thinned-after, thinned-kept, thinned-all}
 use Rattle.demands.specs.Once.{commandNumber, acts}
 use Rattle.demands.proofs.LawsExecutes.{acts-accepted}
 use Rattle.demands.proofs.LawsLinesTell.{onceEach, once-first, once-rest, opposite-once, one-of-all}
@@ -69,7 +69,7 @@ pub data Comes (b : Book) (n : Number) (buy : Bool) (x : Resting) : Body → Typ
   stays : {c : Body} (h : Resting) → OneOf h (ownSide buy b) → LeftAlone c buy h → x .number ≡ h .number → x .price ≡ h .price → Comes b n buy x c
   moves : {away : Away} (h : Resting) → OneOf h (ownSide buy b) → wouldNowCross buy away h ≡ true → h .back ≡ false
       → x .number ≡ h .number → x .price ≡ lockingPrice buy away → Comes b n buy x (body.Quote away)
-  rests : {o : Order} → buying o ≡ buy → ending o (b .away) (oppositeSide buy b) ≡ Rests (x .price) → x .number ≡ n → Comes b n buy x (body.Order o)
+  rests : {o : Order} → buying o ≡ buy → ending o (b .held .away) (oppositeSide buy b) ≡ Rests (x .price) → x .number ≡ n → Comes b n buy x (body.Order o)
 
 module _ (b : Book) (isSound : Sound b) (n : Number) (time : ℕ) where
   -- fewer shares change neither number nor price
@@ -85,7 +85,7 @@ module _ (b : Book) (isSound : Sound b) (n : Number) (time : ℕ) where
 
   -- the orders of a sound book hold shares
   all-own : (buy : Bool) → All (λ (h : Resting). 1 ≤ h .shares .0) (ownSide buy b)
-  all-own buy = all-holding (b .last) (sides-of buy b isSound .ownInRange)
+  all-own buy = all-holding (b .held .last) (sides-of buy b isSound .ownInRange)
 
   -- an order: on the opposite side, and on its own
   opposite-comes : (o : Order) (buy : Bool) (ts : List ℕ) → All (λ x. Comes b n buy x (body.Order o)) (after (ownSide buy b) ts)
@@ -94,7 +94,7 @@ module _ (b : Book) (isSound : Sound b) (n : Number) (time : ℕ) where
   same-comes : (o : Order) (buy : Bool) → All (λ x. Comes b n buy x (body.Order o)) (ownSide buy b)
   same-comes o buy = all-alike (λ h p. stays h p tt refl refl) (each-there (ownSide buy b))
 
-  own-comes : (o : Order) (buy : Bool) → buying o ≡ buy → (left : ℕ) (e : Ending) → ending o (b .away) (oppositeSide buy b) ≡ e
+  own-comes : (o : Order) (buy : Bool) → buying o ≡ buy → (left : ℕ) (e : Ending) → ending o (b .held .away) (oppositeSide buy b) ≡ e
       → All (λ x. Comes b n buy x (body.Order o)) (withRemainder n o left e (ownSide buy b))
   own-comes o buy t left Filled i = same-comes o buy
   own-comes o buy t left (Cancels reason) i = same-comes o buy
@@ -105,13 +105,13 @@ module _ (b : Book) (isSound : Sound b) (n : Number) (time : ℕ) where
   unfolding accept
   accept-comes o true =
       ⊎-elim
-      (λ (t : buying o ≡ true). rw t (own-comes o true t (remainder o (b .away) (b .sells)) (ending o (b .away) (b .sells)) refl))
-      (λ (t : buying o ≡ false). rw t (opposite-comes o true (takings o (b .away) (b .buys))))
+      (λ (t : buying o ≡ true). rw t (own-comes o true t (remainder o (b .held .away) (b .sells)) (ending o (b .held .away) (b .sells)) refl))
+      (λ (t : buying o ≡ false). rw t (opposite-comes o true (takings o (b .held .away) (b .buys))))
       (holds-or-not (buying o))
   accept-comes o false =
       ⊎-elim
-      (λ (t : buying o ≡ true). rw t (opposite-comes o false (takings o (b .away) (b .sells))))
-      (λ (t : buying o ≡ false). rw t (own-comes o false t (remainder o (b .away) (b .buys)) (ending o (b .away) (b .buys)) refl))
+      (λ (t : buying o ≡ true). rw t (opposite-comes o false (takings o (b .held .away) (b .sells))))
+      (λ (t : buying o ≡ false). rw t (own-comes o false t (remainder o (b .held .away) (b .buys)) (ending o (b .held .away) (b .buys)) refl))
       (holds-or-not (buying o))
 
   -- a quote: who stays, and who is set anew
@@ -179,7 +179,7 @@ one-number b s true false p q e = absurd (other-number (b .sells) (s .once) p q 
 one-number b s false true p q e = absurd (other-number (b .sells) (s .once) q p (sym e))
 
 -- a resting order has another number than a new command
-pub another-number : (b : Book) → Sound b → (n : Number) → b .last .0 < n .0 → (buy : Bool) {h : Resting}
+pub another-number : (b : Book) → Sound b → (n : Number) → b .held .last .0 < n .0 → (buy : Bool) {h : Resting}
     → OneOf h (ownSide buy b) → h .number .0 ≢ n .0
 another-number b s n l buy p e = let r = one-of-all (sides-of buy b s .ownInRange) p in omega (arith, r .upToLast, e)
 
@@ -198,7 +198,7 @@ after-line P b line refused done =
   where
     by-reading : acts b line ≡ true → (r : Reading) → commandIn line ≡ r → P (answerTo b line .book) (answerTo b line .events)
     by-reading t reading.Bad e =
-        let z : 0 ≡ b .last .0 + 1 = subst (λ (r : Reading). commandNumber r ≡ b .last .0 + 1) e (next-acts b line t .0) in
+        let z : 0 ≡ b .held .last .0 + 1 = subst (λ (r : Reading). commandNumber r ≡ b .held .last .0 + 1) e (next-acts b line t .0) in
         let no : ⊥ = omega (arith, z) in
         absurd no
     by-reading t (reading.Is c) e =

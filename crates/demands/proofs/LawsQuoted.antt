@@ -155,9 +155,9 @@ module _ (b : Book) (line : List ℕ) (n : Number) (time : ℕ) (away : Away)
       (ap (λ (after : Book). after .buys) (d .0), ap (λ (after : Book). after .sells) (d .0), d .1)
 
   -- its number is above the last
-  quote-above : b .last .0 < n .0
+  quote-above : b .held .last .0 < n .0
   quote-above =
-      let next : n .0 ≡ b .last .0 + 1 = subst (λ (r : Reading). commandNumber r ≡ b .last .0 + 1) is (next-acts b line t .0) in
+      let next : n .0 ≡ b .held .last .0 + 1 = subst (λ (r : Reading). commandNumber r ≡ b .held .last .0 + 1) is (next-acts b line t .0) in
       omega (arith, next)
 
 -- what an accepted quote moves, on each side

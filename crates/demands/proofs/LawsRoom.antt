@@ -42,9 +42,9 @@ unfolding does accept cancel quote close
 does-long n time (body.Order o) b s =
     let fits = opposite-fits (buying o) b s in
     let s = oppositeSide (buying o) b in
-    let ts = takings o (b .away) s in
-    let left = remainder o (b .away) s in
-    let end = ending o (b .away) s in
+    let ts = takings o (b .held .away) s in
+    let left = remainder o (b .held .away) s in
+    let end = ending o (b .held .away) s in
     omega (arith, fits, both-long (executions n s ts) (lastLine n left end) (35 * length s) 27 (executions-long n s ts) (last-long n left end))
 does-long n time (body.Cancel of) b s =
     let f = sound-is b s in

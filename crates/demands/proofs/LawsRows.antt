@@ -101,13 +101,13 @@ module _ (r : BookRecord) (c : Command) where
   unfolding bookIn
   untimely-applies h =
       ⊎-elim
-      (λ (t : (ltb (c .time) (r .time) || ltb (c .time) opening) ≡ true).
+      (λ (t : (ltb (c .time) (r .held .time) || ltb (c .time) opening) ≡ true).
       ⊎-elim
-      (λ (u : ltb (c .time) (r .time) ≡ true). beforeTheLast (ltb-true (c .time) (r .time) u))
+      (λ (u : ltb (c .time) (r .held .time) ≡ true). beforeTheLast (ltb-true (c .time) (r .held .time) u))
       (λ (u : ltb (c .time) opening ≡ true). beforeTheOpening (ltb-true (c .time) opening u))
-      (either-holds (ltb (c .time) (r .time)) (ltb (c .time) opening) t))
+      (either-holds (ltb (c .time) (r .held .time)) (ltb (c .time) opening) t))
       late-applies
-      (either-holds (ltb (c .time) (r .time) || ltb (c .time) opening) (tooLate (c .body) (c .time)) h)
+      (either-holds (ltb (c .time) (r .held .time) || ltb (c .time) opening) (tooLate (c .body) (c .time)) h)
 
 -- ── 9: fields out of range ──
 
@@ -189,9 +189,9 @@ module _ (r : BookRecord) (c : Command) where
   body-applies (body.Order o) is (here t) = unlawful o is (not-true (lawful (o .word)) t)
   body-applies (body.Order o) is (later (here t)) = range-applies r c o is (not-true (orderInRange o) t)
   body-applies (body.Order o) is (later (later (here t))) =
-      let rest = isRest (ending o (r .away) (opposite o (bookIn r))) in
+      let rest = isRest (ending o (r .held .away) (opposite o (bookIn r))) in
       let full = leb placesASide (length (own o (bookIn r))) in
-      let at = rest-price (ending o (r .away) (opposite o (bookIn r))) (and-left rest full t) in
+      let at = rest-price (ending o (r .held .away) (opposite o (bookIn r))) (and-left rest full t) in
       sideFull o is (at .0) (at .1) (leb-true placesASide (length (own o (bookIn r))) (and-right rest full t))
   body-applies (body.Cancel n) is (here t) =
       let b = bookIn r in
@@ -206,8 +206,8 @@ module _ (r : BookRecord) (c : Command) where
   -- a number that the table gives on a command: its row applies
   pub gives-applies : {k : ℕ} → Gives k (commandRefusals (bookIn r) c) → AppliesTo r c k
   unfolding headerRefusals bookIn
-  gives-applies (here t) = seen (leb-true (c .number .0) (r .last .0) t)
-  gives-applies (later (here t)) = tooHigh (ltb-true (r .last .0 + 1) (c .number .0) t)
+  gives-applies (here t) = seen (leb-true (c .number .0) (r .held .last .0) t)
+  gives-applies (later (here t)) = tooHigh (ltb-true (r .held .last .0 + 1) (c .number .0) t)
   gives-applies (later (later (here t))) = isClosed t
   gives-applies (later (later (later (here t)))) = untimely-applies r c t
   gives-applies (later (later (later (later g)))) = body-applies (c .body) refl g
@@ -233,15 +233,15 @@ module _ (r : BookRecord) (c : Command) where
   -- a row that applies to a command: the table gives its number
   pub applies-gives : {k : ℕ} → AppliesTo r c k → Gives k (commandRefusals (bookIn r) c)
   unfolding headerRefusals bookIn bodyRefusals restsOnFullSide
-  applies-gives (seen l) = here (le-leb (c .number .0) (r .last .0) l)
-  applies-gives (tooHigh l) = later (here (lt-ltb (r .last .0 + 1) (c .number .0) l))
+  applies-gives (seen l) = here (le-leb (c .number .0) (r .held .last .0) l)
+  applies-gives (tooHigh l) = later (here (lt-ltb (r .held .last .0 + 1) (c .number .0) l))
   applies-gives (isClosed t) = later (later (here t))
-  applies-gives (beforeTheLast l) = by-time (rw (lt-ltb (c .time) (r .time) l) refl)
-  applies-gives (beforeTheOpening l) = by-time (rw (lt-ltb (c .time) opening l, or-true (ltb (c .time) (r .time))) refl)
+  applies-gives (beforeTheLast l) = by-time (rw (lt-ltb (c .time) (r .held .time) l) refl)
+  applies-gives (beforeTheOpening l) = by-time (rw (lt-ltb (c .time) opening l, or-true (ltb (c .time) (r .held .time))) refl)
   applies-gives (fromTheClosingOn l n) =
-      by-time (rw (from-too-late (c .body) (c .time) l n) (or-true (ltb (c .time) (r .time) || ltb (c .time) opening)))
+      by-time (rw (from-too-late (c .body) (c .time) l n) (or-true (ltb (c .time) (r .held .time) || ltb (c .time) opening)))
   applies-gives (afterTheClosing l) =
-      by-time (rw (after-too-late (c .body) (c .time) l) (or-true (ltb (c .time) (r .time) || ltb (c .time) opening)))
+      by-time (rw (after-too-late (c .body) (c .time) l) (or-true (ltb (c .time) (r .held .time) || ltb (c .time) opening)))
   applies-gives (unlawful o is t) = by-its-body (body.Order o) is (here (ap not t))
   applies-gives (noSide o is n m) = by-range o is (rw (lt-leb (o .side) 1 (omega (arith, n, m))) refl)
   applies-gives (sharesOutside o is out) =

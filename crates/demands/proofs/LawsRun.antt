@@ -83,7 +83,7 @@ pub told-conserved : {b : Book} {lines : List (List ℕ)} {stood : Book} {line :
 told-conserved {b = b} {lines = lines} s r = rw (run-told b lines s) (conserved-from s r)
 
 -- and so are those of each order that rested already
-pub told-settled : (n : Number) (b : Book) (lines : List (List ℕ)) → sound b ≡ true → n .0 ≤ b .last .0
+pub told-settled : (n : Number) (b : Book) (lines : List (List ℕ)) → sound b ≡ true → n .0 ≤ b .held .last .0
     → restingOf n b
     ≡ executedIn n (eventsIn (printedOf b lines)) + cancelledIn n (eventsIn (printedOf b lines)) + restingOf n (bookAfter b lines)
 told-settled n b lines s old = rw (run-told b lines s) (settled n b lines s old)

@@ -129,7 +129,7 @@ module _ (buy : Bool) (away : Away) where
 abbrev StandAsTold : List Event → Book → Type 0
 StandAsTold es b = (buy : Bool) → All (λ (h : Resting). standsAt (h .number) es ≡ h .price) (ownSide buy b)
 
-module _ (b : Book) (isSound : Sound b) (n : Number) (next : b .last .0 < n .0) (time : ℕ) where
+module _ (b : Book) (isSound : Sound b) (n : Number) (next : b .held .last .0 < n .0) (time : ℕ) where
   -- a quote tells nothing of one that would not cross it
   uncrossed-quiet : (away : Away) (buy : Bool) (h : Resting) → OneOf h (ownSide buy b) → wouldNowCross buy away h ≡ false
       → (side : Bool) → All (Quiet (h .number)) (moveLines side away (ownSide side b))
@@ -146,8 +146,8 @@ module _ (b : Book) (isSound : Sound b) (n : Number) (next : b .last .0 < n .0) 
   unfolding does accept cancel quote close
   stays-quiet (body.Order o) buy h p a =
       let s = oppositeSide (buying o) b in
-      all-both (executions-quiet (h .number) n s (takings o (b .away) s))
-      (last-quiet (h .number) n (remainder o (b .away) s) (ending o (b .away) s) (another-number b isSound n next buy p))
+      all-both (executions-quiet (h .number) n s (takings o (b .held .away) s))
+      (last-quiet (h .number) n (remainder o (b .held .away) s) (ending o (b .held .away) s) (another-number b isSound n next buy p))
   stays-quiet (body.Cancel of) buy h p a = all-both (cancels-quiet (h .number) _ _ (b .buys)) (cancels-quiet (h .number) _ _ (b .sells))
   stays-quiet (body.Quote away) buy h p a = all-both (uncrossed-quiet away buy h p a true) (uncrossed-quiet away buy h p a false)
   stays-quiet body.Close buy h p a = all-both (cancels-quiet (h .number) _ _ (b .buys)) (cancels-quiet (h .number) _ _ (b .sells))
@@ -167,14 +167,14 @@ module _ (b : Book) (isSound : Sound b) (n : Number) (next : b .last .0 < n .0) 
       ∙ moves-told false away h t c p (lastTold (h .number) before (moveLines true away (b .buys)))
 
   -- and one that comes to rest is told where
-  rested-told : (o : Order) (price : Cents) (buy : Bool) → buying o ≡ buy → ending o (b .away) (oppositeSide buy b) ≡ Rests price → (before : Cents)
+  rested-told : (o : Order) (price : Cents) (buy : Bool) → buying o ≡ buy → ending o (b .held .away) (oppositeSide buy b) ≡ Rests price → (before : Cents)
       → lastTold n before (does n time (body.Order o) b .events) ≡ price
   unfolding does accept
   rested-told o price buy t e before =
       let s = oppositeSide buy b in
       rw t
-      (told-append n before (executions n s (takings o (b .away) s)) (lastLine n (remainder o (b .away) s) (ending o (b .away) s))
-      ∙ last-told n (remainder o (b .away) s) (ending o (b .away) s) price e (lastTold n before (executions n s (takings o (b .away) s))))
+      (told-append n before (executions n s (takings o (b .held .away) s)) (lastLine n (remainder o (b .held .away) s) (ending o (b .held .away) s))
+      ∙ last-told n (remainder o (b .held .away) s) (ending o (b .held .away) s) price e (lastTold n before (executions n s (takings o (b .held .away) s))))
 
   -- so each that stands afterwards stands where it was last told to
   comes-told : (es : List Event) → StandAsTold es b → (c : Body) (buy : Bool) (x : Resting) → Comes b n buy x c
@@ -224,9 +224,9 @@ run-stands b (line ∷ lines) es s told =
 executes-where-told : (b : Book) (es : List Event) → sound b ≡ true → StandAsTold es b → (line : List ℕ) (c : Command) (o : Order)
     → acts b line ≡ true → commandIn line ≡ reading.Is c → c .body ≡ body.Order o
     → (incoming resting : Number) (price : Cents) (shares : Shares) → OneOf (Executed incoming resting price shares) (answerTo b line .events)
-    → (incoming ≡ c .number) × (price ≡ standsAt resting es) × Fair o (b .away) price
+    → (incoming ≡ c .number) × (price ≡ standsAt resting es) × Fair o (b .held .away) price
 executes-where-told b es s told line c o t e f incoming resting price shares p =
-    let x : Fairly o (b .away) (c .number) (oppositeSide (buying o) b) incoming resting price = one-of-all (order-fairly b line c o s t e f) p in
+    let x : Fairly o (b .held .away) (c .number) (oppositeSide (buying o) b) incoming resting price = one-of-all (order-fairly b line c o s t e f) p in
     let stands = one-of-all (opposite-told (buying o)) (x .there) in
     (x .isIncoming, x .atItsPrice ∙ sym stands ∙ ap (λ (n : Number). standsAt n es) (sym (x .isResting)), x .isFair)
   where
@@ -239,7 +239,7 @@ pub executions-where-told : (before : List (List ℕ)) (line : List ℕ) (c : Co
     → acts (bookAfter fresh before) line ≡ true → commandIn line ≡ reading.Is c → c .body ≡ body.Order o
     → (incoming resting : Number) (price : Cents) (shares : Shares)
     → OneOf (Executed incoming resting price shares) (eventsIn (printed (answerTo (bookAfter fresh before) line)))
-    → (incoming ≡ c .number) × (price ≡ standsAt resting (eventsIn (printedOf fresh before))) × Fair o (bookAfter fresh before .away) price
+    → (incoming ≡ c .number) × (price ≡ standsAt resting (eventsIn (printedOf fresh before))) × Fair o (bookAfter fresh before .held .away) price
 executions-where-told before line c o t e f incoming resting price shares p =
     let b = bookAfter fresh before in
     let s = after-sound fresh before fresh-sound in

@@ -73,8 +73,8 @@ accept-sum : (n m : Number) (time : ℕ) (o : Order) (b : Book)
 unfolding accept
 accept-sum n m time o b =
     ⊎-elim
-    (λ (t : buying o ≡ true). rw t (work-sum n m o (b .away) (b .buys) (b .sells)))
-    (λ (t : buying o ≡ false). rw t (omega (arith, work-sum n m o (b .away) (b .sells) (b .buys))))
+    (λ (t : buying o ≡ true). rw t (work-sum n m o (b .held .away) (b .buys) (b .sells)))
+    (λ (t : buying o ≡ false). rw t (omega (arith, work-sum n m o (b .held .away) (b .sells) (b .buys))))
     (holds-or-not (buying o))
 
 -- the shares that a command of number m enters under n
@@ -138,15 +138,15 @@ balance b line n s t c e =
 -- ── A run of lines ──
 
 -- a line that acts is a command with the number after the last
-next-number : (b : Book) (line : List ℕ) → acts b line ≡ true → (c : Command) → commandIn line ≡ reading.Is c → c .number .0 ≡ b .last .0 + 1
-next-number b line t c e = subst (λ (a : Reading). commandNumber a ≡ b .last .0 + 1) e (next-acts b line t .0)
+next-number : (b : Book) (line : List ℕ) → acts b line ≡ true → (c : Command) → commandIn line ≡ reading.Is c → c .number .0 ≡ b .held .last .0 + 1
+next-number b line t c e = subst (λ (a : Reading). commandNumber a ≡ b .held .last .0 + 1) e (next-acts b line t .0)
 
 -- under any other number it enters nothing
-acts-balance : (b : Book) (line : List ℕ) (n : Number) → sound b ≡ true → acts b line ≡ true → n .0 ≢ b .last .0 + 1
+acts-balance : (b : Book) (line : List ℕ) (n : Number) → sound b ≡ true → acts b line ≡ true → n .0 ≢ b .held .last .0 + 1
     → restingOf n b ≡ goneIn n (answerTo b line .events) + restingOf n (answerTo b line .book)
 acts-balance b line n s t other = by-reading (commandIn line) refl
   where
-    entered-none : (c : Command) (x : Body) → c .number .0 ≡ b .last .0 + 1 → enteredBy n (c .number) x ≡ 0
+    entered-none : (c : Command) (x : Body) → c .number .0 ≡ b .held .last .0 + 1 → enteredBy n (c .number) x ≡ 0
     entered-none c (body.Order o) e = counted-other n (c .number) (o .shares .0) (λ (z : n .0 ≡ c .number .0). other (z ∙ e))
     entered-none c (body.Cancel of) e = refl
     entered-none c (body.Quote away) e = refl
@@ -154,14 +154,14 @@ acts-balance b line n s t other = by-reading (commandIn line) refl
 
     by-reading : (a : Reading) → commandIn line ≡ a → restingOf n b ≡ goneIn n (answerTo b line .events) + restingOf n (answerTo b line .book)
     by-reading reading.Bad e =
-        let z : 0 ≡ b .last .0 + 1 = subst (λ (a : Reading). commandNumber a ≡ b .last .0 + 1) e (next-acts b line t .0) in
+        let z : 0 ≡ b .held .last .0 + 1 = subst (λ (a : Reading). commandNumber a ≡ b .held .last .0 + 1) e (next-acts b line t .0) in
         let no : ⊥ = omega (arith, z) in
         absurd no
     by-reading (reading.Is c) e =
         omega (arith, balance b line n s t c e, entered-none c (c .body) (next-number b line t c e))
 
 -- nothing more enters under a number that is not above the last
-pub settled : (n : Number) (b : Book) (lines : List (List ℕ)) → sound b ≡ true → n .0 ≤ b .last .0
+pub settled : (n : Number) (b : Book) (lines : List (List ℕ)) → sound b ≡ true → n .0 ≤ b .held .last .0
     → restingOf n b ≡ goneIn n (eventsOf b lines) + restingOf n (bookAfter b lines)
 unfolding eventsOf bookAfter sumOf
 settled n b [] s l = omega arith
@@ -170,7 +170,7 @@ settled n b (line ∷ lines) s l =
     (λ (t : acts b line ≡ true).
     let book = answerTo b line .book in
     let last = next-acts b line t .1 in
-    let other : n .0 ≢ b .last .0 + 1 = λ (z : n .0 ≡ b .last .0 + 1). omega (arith, z) in
+    let other : n .0 ≢ b .held .last .0 + 1 = λ (z : n .0 ≡ b .held .last .0 + 1). omega (arith, z) in
     omega (
       arith,
       gone-append n (answerTo b line .events) (eventsOf book lines),
@@ -184,7 +184,7 @@ settled n b (line ∷ lines) s l =
     (holds-or-not (acts b line))
 
 -- an order that enters has a number above the last
-enters-above : {b : Book} {lines : List (List ℕ)} {stood : Book} {entry : List ℕ} {c : Command} {o : Order} → Enters byLine b lines stood entry c o → b .last .0 < c .number .0
+enters-above : {b : Book} {lines : List (List ℕ)} {stood : Book} {entry : List ℕ} {c : Command} {o : Order} → Enters byLine b lines stood entry c o → b .held .last .0 < c .number .0
 enters-above (now {b = b} {x = line} {c = c} t e f) = omega (arith, next-number b line t c e)
 enters-above (later {b = b} {x = line} r) = omega (arith, answer-rises b line, enters-above r)
 
@@ -196,7 +196,7 @@ above-none n l (also {x = h} r a) =
     let other : n .0 ≢ h .number .0 = λ (z : n .0 ≡ h .number .0). omega (arith, z, r .upToLast) in
     omega (arith, counted-other n (h .number) (h .shares .0) other, above-none n l a)
 
-above-rests-none : (n : Number) (b : Book) → sound b ≡ true → b .last .0 < n .0 → restingOf n b ≡ 0
+above-rests-none : (n : Number) (b : Book) → sound b ≡ true → b .held .last .0 < n .0 → restingOf n b ≡ 0
 above-rests-none n b s l =
     let sides = sides-of true b (sound-is b s) in
     omega (arith, above-none n l (sides .ownInRange), above-none n l (sides .oppositeInRange))
@@ -226,7 +226,7 @@ conserved-from s (later {b = b} {x = line} {xs = lines} {stood = stood} {c = c} 
     (λ (t : acts b line ≡ true).
     let above = enters-above r in
     let last = next-acts b line t .1 in
-    let other : c .number .0 ≢ b .last .0 + 1 = λ (z : c .number .0 ≡ b .last .0 + 1). omega (arith, z, above, last) in
+    let other : c .number .0 ≢ b .held .last .0 + 1 = λ (z : c .number .0 ≡ b .held .last .0 + 1). omega (arith, z, above, last) in
     omega (
       arith,
       gone-append (c .number) (answerTo b line .events) (eventsOf book lines),

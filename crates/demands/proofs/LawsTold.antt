@@ -128,7 +128,7 @@ last-line-fits n left l m (cancelled reason k) = also (fits 1 cancelledKind (ome
 
 -- ── An accepted command ──
 
-module _ (b : Book) (s : sound b ≡ true) (l : b .last .0 < 2 ^ 32) (n : Number) (m : n .0 < 2 ^ 32) (time : ℕ) where
+module _ (b : Book) (s : sound b ≡ true) (l : b .held .last .0 < 2 ^ 32) (n : Number) (m : n .0 < 2 ^ 32) (time : ℕ) where
   -- the resting orders of both sides are small
   opposite-small : (buy : Bool) → All Small (oppositeSide buy b)
   opposite-small buy = all-small l (sides-of buy b (sound-is b s) .oppositeInRange)
@@ -138,8 +138,8 @@ module _ (b : Book) (s : sound b ≡ true) (l : b .last .0 < 2 ^ 32) (n : Number
   unfolding accept remainder
   accept-fits o p q =
       let opposite = oppositeSide (buying o) b in
-      all-both (executions-fit n m (opposite-small (buying o)) (takings-no-more o (b .away) opposite))
-      (last-line-fits n (remainder o (b .away) opposite) m (omega (arith, q)) (ending-fits o (b .away) opposite p))
+      all-both (executions-fit n m (opposite-small (buying o)) (takings-no-more o (b .held .away) opposite))
+      (last-line-fits n (remainder o (b .held .away) opposite) m (omega (arith, q)) (ending-fits o (b .held .away) opposite p))
 
   -- cancels on both sides
   all-cancels-fit : (reason : ℕ) → reason < 2 ^ 8 → (gone : Resting → Bool) → All FitsEvent (cancels reason gone (b .buys) ++ cancels reason gone (b .sells))
@@ -178,11 +178,11 @@ number-fits line = by-reading (commandIn line) refl
 
 module _ (b : Book) (line : List ℕ) (s : sound b ≡ true) where
   -- and where a line acts, the last number does, for it is one less
-  last-fits : acts b line ≡ true → b .last .0 < 2 ^ 32
+  last-fits : acts b line ≡ true → b .held .last .0 < 2 ^ 32
   last-fits t = let next = next-acts b line t in omega (arith, next .0, number-fits line)
 
   -- what is done by a line that was read
-  done-fits : b .last .0 < 2 ^ 32 → (r : Reading) → commandIn line ≡ r → All FitsEvent (doneBy r b .events)
+  done-fits : b .held .last .0 < 2 ^ 32 → (r : Reading) → commandIn line ≡ r → All FitsEvent (doneBy r b .events)
   unfolding doneBy
   done-fits l reading.Bad e = none
   done-fits l (reading.Is c) e =

@@ -113,7 +113,7 @@ module _ (ns : Bool → List Number) (b : Book) (line : List ℕ) (s : sound b �
 
   -- an execution of an order of one side is with one of the other
   fairly-pairs : (o : Order) (n : Number) (buy : Bool) → OneOf n (withLine ns b line buy)
-      → (e : Event) → FairlyExecuted o (b .away) n (oppositeSide buy b) e → Pairs (withLine ns b line true) (withLine ns b line false) e
+      → (e : Event) → FairlyExecuted o (b .held .away) n (oppositeSide buy b) e → Pairs (withLine ns b line true) (withLine ns b line false) e
   fairly-pairs o n true p (Executed incoming resting price shares) q =
       inl (rw (q .isIncoming) p, rw (q .isResting) (in-front (enteredAt 1 b line) (one-of-all (listed false) (q .there))))
   fairly-pairs o n false p (Executed incoming resting price shares) q =
@@ -223,7 +223,7 @@ module _ (m : Number) (k : ℕ) where
   one-side c body.Close = omega arith
 
   -- the same of a line
-  line-uncounted : (side : ℕ) (b : Book) (line : List ℕ) → m .0 ≢ b .last .0 + 1 → countOf m k (enteredAt side b line) ≡ 0
+  line-uncounted : (side : ℕ) (b : Book) (line : List ℕ) → m .0 ≢ b .held .last .0 + 1 → countOf m k (enteredAt side b line) ≡ 0
   unfolding sumOf
   line-uncounted side b line d =
       ⊎-elim
@@ -231,7 +231,7 @@ module _ (m : Number) (k : ℕ) where
       (λ (t : acts b line ≡ false). rw t refl)
       (holds-or-not (acts b line))
     where
-      by-reading : (r : Reading) → commandNumber r ≡ b .last .0 + 1 → countOf m k (numberEntered side r) ≡ 0
+      by-reading : (r : Reading) → commandNumber r ≡ b .held .last .0 + 1 → countOf m k (numberEntered side r) ≡ 0
       by-reading reading.Bad e = refl
       by-reading (reading.Is c) e = other-uncounted side c (c .body) (λ (z : c .number .0 ≡ m .0). d (sym z ∙ e))
 
@@ -255,11 +255,11 @@ module _ (m : Number) (k : ℕ) where
       ∙ sumOf-append (λ (n : Number). countedIf n m k) (enteredAt side b line) (entered side (answerTo b line .book) lines)
 
   -- no number up to the last is entered any more
-  old-uncounted : (side : ℕ) (b : Book) (lines : List (List ℕ)) → m .0 ≤ b .last .0 → countOf m k (entered side b lines) ≡ 0
+  old-uncounted : (side : ℕ) (b : Book) (lines : List (List ℕ)) → m .0 ≤ b .held .last .0 → countOf m k (entered side b lines) ≡ 0
   unfolding entered sumOf
   old-uncounted side b [] l = refl
   old-uncounted side b (line ∷ lines) l =
-      let other : m .0 ≢ b .last .0 + 1 = λ (z : m .0 ≡ b .last .0 + 1). omega (arith, z) in
+      let other : m .0 ≢ b .held .last .0 + 1 = λ (z : m .0 ≡ b .held .last .0 + 1). omega (arith, z) in
       let rest = old-uncounted side (answerTo b line .book) lines (omega (arith, answer-rises b line)) in
       omega (arith, count-first side b line lines, line-uncounted side b line other, rest)
 
@@ -271,10 +271,10 @@ module _ (m : Number) (k : ℕ) where
       let book = answerTo b line .book in
       let rest = entered-once book lines in
       ⊎-elim
-      (λ (n : eqb (m .0) (b .last .0 + 1) ≡ true).
+      (λ (n : eqb (m .0) (b .held .last .0 + 1) ≡ true).
       ⊎-elim
       (λ (t : acts b line ≡ true).
-      let old : m .0 ≤ book .last .0 = omega (arith, eqb-true (m .0) (b .last .0 + 1) n, next-acts b line t .1) in
+      let old : m .0 ≤ book .held .last .0 = omega (arith, eqb-true (m .0) (b .held .last .0 + 1) n, next-acts b line t .1) in
       omega (
         arith,
         line-once b line,
@@ -285,10 +285,10 @@ module _ (m : Number) (k : ℕ) where
       ))
       (λ (t : acts b line ≡ false). rw t rest)
       (holds-or-not (acts b line)))
-      (λ (n : eqb (m .0) (b .last .0 + 1) ≡ false).
-      let other = eqb-false (m .0) (b .last .0 + 1) n in
+      (λ (n : eqb (m .0) (b .held .last .0 + 1) ≡ false).
+      let other = eqb-false (m .0) (b .held .last .0 + 1) n in
       omega (arith, rest, count-first 0 b line lines, count-first 1 b line lines, line-uncounted 0 b line other, line-uncounted 1 b line other))
-      (holds-or-not (eqb (m .0) (b .last .0 + 1)))
+      (holds-or-not (eqb (m .0) (b .held .last .0 + 1)))
 
 -- ── What is bought is what is sold ──
 

@@ -93,14 +93,14 @@ accept-writes : (b : Book) (n : Number) (time : ℕ) (o : Order) → NoneHas n (
 unfolding accept
 accept-writes b n time o new =
     let side = oppositeSide (buying o) b in
-    let left = remainder o (b .away) side in
-    let end = ending o (b .away) side in
+    let left = remainder o (b .held .away) side in
+    let end = ending o (b .held .away) side in
     let last = last-line-is n o left end (ownSide (buying o) b) new in
     record {
-      executions = executions n side (takings o (b .away) side);
+      executions = executions n side (takings o (b .held .away) side);
       last = lastLine n left end;
       inTurn = refl;
-      inRank = executions-are n (takings-no-more o (b .away) side);
+      inRank = executions-are n (takings-no-more o (b .held .away) side);
       atMostOne =
           ⊎-elim
           (λ (t : buying o ≡ true). rw t (rw t at last))
@@ -109,7 +109,7 @@ accept-writes b n time o new =
     }
 
 -- no order of a sound book has the number of the next command
-none-new : (b : Book) → sound b ≡ true → (n : Number) → b .last .0 < n .0 → (buy : Bool) → NoneHas n (ownSide buy b)
+none-new : (b : Book) → sound b ≡ true → (n : Number) → b .held .last .0 < n .0 → (buy : Bool) → NoneHas n (ownSide buy b)
 none-new b s n l buy =
     all-alike (λ h p is. another-number b (sound-is b s) n l buy p (ap (λ (m : Number). m .0) is)) (each-there (ownSide buy b))
 
@@ -218,18 +218,18 @@ cancels-every (h ∷ s) = ap (λ (es : List Event). closeLine h ∷ es) (cancels
 pub close-writes : (b : Book) (line : List ℕ) (c : Command) → sound b ≡ true → acts b line ≡ true → commandIn line ≡ reading.Is c
     → c .body ≡ body.Close
     → (eventsIn (printed (answerTo b line)) ≡ map closeLine (b .buys ++ b .sells))
-    × (answerTo b line .book .buys ≡ []) × (answerTo b line .book .sells ≡ []) × (answerTo b line .book .closed ≡ true)
+    × (answerTo b line .book .buys ≡ []) × (answerTo b line .book .sells ≡ []) × (answerTo b line .book .held .closed ≡ true)
 unfolding does close
 close-writes b line c s t e f =
     let all = sym (cancels-both atClose (λ h. true) (b .buys) (b .sells)) ∙ cancels-every (b .buys ++ b .sells) in
     printed-body
-    (λ (a : Book) (es : List Event). (es ≡ map closeLine (b .buys ++ b .sells)) × (a .buys ≡ []) × (a .sells ≡ []) × (a .closed ≡ true))
+    (λ (a : Book) (es : List Event). (es ≡ map closeLine (b .buys ++ b .sells)) × (a .buys ≡ []) × (a .sells ≡ []) × (a .held .closed ≡ true))
     b line c body.Close s t e f (all, refl, refl, refl)
 
 -- ── What every command leaves ──
 
 -- its number and its time
-does-number-and-time : (n : Number) (time : ℕ) (x : Body) (b : Book) → (does n time x b .book .last ≡ n) × (does n time x b .book .time ≡ time)
+does-number-and-time : (n : Number) (time : ℕ) (x : Body) (b : Book) → (does n time x b .book .held .last ≡ n) × (does n time x b .book .held .time ≡ time)
 unfolding does accept cancel quote close
 does-number-and-time n time (body.Order o) b = (refl, refl)
 does-number-and-time n time (body.Cancel of) b = (refl, refl)
@@ -237,18 +237,18 @@ does-number-and-time n time (body.Quote away) b = (refl, refl)
 does-number-and-time n time body.Close b = (refl, refl)
 
 pub number-and-time-left : (b : Book) (line : List ℕ) (c : Command) → acts b line ≡ true → commandIn line ≡ reading.Is c
-    → (answerTo b line .book .last ≡ c .number) × (answerTo b line .book .time ≡ c .time)
+    → (answerTo b line .book .held .last ≡ c .number) × (answerTo b line .book .held .time ≡ c .time)
 number-and-time-left b line c t e =
-    after-body (λ (a : Book) (es : List Event). (a .last ≡ c .number) × (a .time ≡ c .time)) b line c (c .body) t e refl
+    after-body (λ (a : Book) (es : List Event). (a .held .last ≡ c .number) × (a .held .time ≡ c .time)) b line c (c .body) t e refl
     (does-number-and-time (c .number) (c .time) (c .body) b)
 
 -- a quote is held, and every other command leaves the away quote
 pub quote-held : (b : Book) (line : List ℕ) (c : Command) (away : Away) → acts b line ≡ true → commandIn line ≡ reading.Is c
-    → c .body ≡ body.Quote away → answerTo b line .book .away ≡ away
+    → c .body ≡ body.Quote away → answerTo b line .book .held .away ≡ away
 unfolding does quote
-quote-held b line c away t e f = after-body (λ (a : Book) (es : List Event). a .away ≡ away) b line c (body.Quote away) t e f refl
+quote-held b line c away t e f = after-body (λ (a : Book) (es : List Event). a .held .away ≡ away) b line c (body.Quote away) t e f refl
 
-does-away : (n : Number) (time : ℕ) (x : Body) (b : Book) → ((away : Away) → x ≢ body.Quote away) → does n time x b .book .away ≡ b .away
+does-away : (n : Number) (time : ℕ) (x : Body) (b : Book) → ((away : Away) → x ≢ body.Quote away) → does n time x b .book .held .away ≡ b .held .away
 unfolding does accept cancel close
 does-away n time (body.Order o) b other = refl
 does-away n time (body.Cancel of) b other = refl
@@ -256,12 +256,12 @@ does-away n time (body.Quote away) b other = absurd (other away refl)
 does-away n time body.Close b other = refl
 
 pub away-kept : (b : Book) (line : List ℕ) (c : Command) → acts b line ≡ true → commandIn line ≡ reading.Is c
-    → ((away : Away) → c .body ≢ body.Quote away) → answerTo b line .book .away ≡ b .away
+    → ((away : Away) → c .body ≢ body.Quote away) → answerTo b line .book .held .away ≡ b .held .away
 away-kept b line c t e other =
-    after-body (λ (a : Book) (es : List Event). a .away ≡ b .away) b line c (c .body) t e refl (does-away (c .number) (c .time) (c .body) b other)
+    after-body (λ (a : Book) (es : List Event). a .held .away ≡ b .held .away) b line c (c .body) t e refl (does-away (c .number) (c .time) (c .body) b other)
 
 -- an accepted command came to an open book, which only a close closes
-does-closed : (n : Number) (time : ℕ) (x : Body) (b : Book) → x ≢ body.Close → does n time x b .book .closed ≡ b .closed
+does-closed : (n : Number) (time : ℕ) (x : Body) (b : Book) → x ≢ body.Close → does n time x b .book .held .closed ≡ b .held .closed
 unfolding does accept cancel quote
 does-closed n time (body.Order o) b other = refl
 does-closed n time (body.Cancel of) b other = refl
@@ -269,9 +269,9 @@ does-closed n time (body.Quote away) b other = refl
 does-closed n time body.Close b other = absurd (other refl)
 
 pub open-unless-closed : (b : Book) (line : List ℕ) (c : Command) → acts b line ≡ true → commandIn line ≡ reading.Is c → c .body ≢ body.Close
-    → answerTo b line .book .closed ≡ false
+    → answerTo b line .book .held .closed ≡ false
 open-unless-closed b line c t e other =
-    after-body (λ (a : Book) (es : List Event). a .closed ≡ false) b line c (c .body) t e refl
+    after-body (λ (a : Book) (es : List Event). a .held .closed ≡ false) b line c (c .body) t e refl
     (does-closed (c .number) (c .time) (c .body) b other ∙ acts-accepted b line c t e .isOpen)
 
 -- ── Only orders execute ──

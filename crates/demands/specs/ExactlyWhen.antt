@@ -37,13 +37,13 @@ pub record NeitherNoneNorInRange (p : Cents) : Type 0 where
 -- the rows that are of a command, on the record that is lent with it
 pub data AppliesTo (r : BookRecord) (c : Command) : ℕ → Type 0 where
   -- 4 "number at or below the last: already seen"
-  seen : c .number .0 ≤ r .last .0 → AppliesTo r c 4
+  seen : c .number .0 ≤ r .held .last .0 → AppliesTo r c 4
   -- 5 "number above the last plus one"
-  tooHigh : r .last .0 + 1 < c .number .0 → AppliesTo r c 5
+  tooHigh : r .held .last .0 + 1 < c .number .0 → AppliesTo r c 5
   -- 6 "book closed"
-  isClosed : r .closed ≡ true → AppliesTo r c 6
+  isClosed : r .held .closed ≡ true → AppliesTo r c 6
   -- 7 "time before the last accepted time, below 34,200,000, or at or above 57,600,000 (a close may be at 57,600,000)"
-  beforeTheLast : c .time < r .time → AppliesTo r c 7
+  beforeTheLast : c .time < r .held .time → AppliesTo r c 7
   beforeTheOpening : c .time < 34200000 → AppliesTo r c 7
   fromTheClosingOn : 57600000 ≤ c .time → c .body ≢ body.Close → AppliesTo r c 7
   afterTheClosing : 57600000 < c .time → AppliesTo r c 7
@@ -62,7 +62,7 @@ pub data AppliesTo (r : BookRecord) (c : Command) : ℕ → Type 0 where
   notResting : (n : Number) → c .body ≡ body.Cancel n → All (λ (h : Resting). h .number ≢ n) (bookIn r .buys ++ bookIn r .sells)
       → AppliesTo r c 10
   -- 11 "the rules would rest a remainder and that side holds 64"
-  sideFull : (o : Order) → c .body ≡ body.Order o → (price : Cents) → ending o (r .away) (opposite o (bookIn r)) ≡ Rests price
+  sideFull : (o : Order) → c .body ≡ body.Order o → (price : Cents) → ending o (r .held .away) (opposite o (bookIn r)) ≡ Rests price
       → 64 ≤ length (own o (bookIn r)) → AppliesTo r c 11
 
 -- the whole table

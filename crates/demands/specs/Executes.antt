@@ -36,17 +36,17 @@ pub record Executes (stood : Book) (c : Command) (o : Order) (es : List Event) :
   pub shareOut : List Given
   pub told : Each (Tells es) (opposite o stood) shareOut
   pub inAll : executedIn (c .number) es ≡ given shareOut
-  pub isLawful : Lawful o (stood .away) (opposite o stood) shareOut
+  pub isLawful : Lawful o (stood .held .away) (opposite o stood) shareOut
   -- "A Fill-or-Kill is killed exactly if no lawful share-out totals its size, and then executes nothing."
-  pub killedOnly : isKilled (c .number) es ≡ true → Fills o (stood .away) (opposite o stood) → ⊥
-  pub killedIf : has (o .word) fok ≡ true → (Fills o (stood .away) (opposite o stood) → ⊥) → isKilled (c .number) es ≡ true
+  pub killedOnly : isKilled (c .number) es ≡ true → Fills o (stood .held .away) (opposite o stood) → ⊥
+  pub killedIf : has (o .word) fok ≡ true → (Fills o (stood .held .away) (opposite o stood) → ⊥) → isKilled (c .number) es ≡ true
   pub killedNothing : isKilled (c .number) es ≡ true → executedIn (c .number) es ≡ 0
   pub killedWhole : isKilled (c .number) es ≡ true → cancelledIn (c .number) es ≡ o .shares .0
   pub onlyFok : isKilled (c .number) es ≡ true → has (o .word) fok ≡ true
   -- "Every other such order executes the greatest lawful total"
-  pub greatest : isKilled (c .number) es ≡ false → (gs : List Given) → Lawful o (stood .away) (opposite o stood) gs
+  pub greatest : isKilled (c .number) es ≡ false → (gs : List Given) → Lawful o (stood .held .away) (opposite o stood) gs
       → given gs ≤ executedIn (c .number) es
   -- "and no resting order gives a share while a better-ranked one that could lawfully give keeps one"
   pub inRank : (better worse : Resting) → OneOf better (opposite o stood) → OneOf worse (opposite o stood)
-      → ranksBefore (not (buying o)) better worse ≡ true → 0 < givenIn (worse .number) es → Fair o (stood .away) (better .price)
+      → ranksBefore (not (buying o)) better worse ≡ true → 0 < givenIn (worse .number) es → Fair o (stood .held .away) (better .price)
       → givenIn (better .number) es ≡ better .shares .0

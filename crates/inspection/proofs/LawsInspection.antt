@@ -95,8 +95,8 @@ module _ (h : Head) (t u : List (List ℕ)) where
   module _ (wholeBuys : length t ≡ placesASide) (wholeSells : length u ≡ placesASide) (fit : (ltb placesASide (h .buys) || ltb placesASide (h .sells)) ≡ false) where
     -- what is left once the counts are at most 64
     inspected : recordSound (recordOn h t u)
-        ≡ (sideSound true (h .last) (h .buys) t
-        && sideSound false (h .last) (h .sells) u
+        ≡ (sideSound true (h .held .last) (h .buys) t
+        && sideSound false (h .held .last) (h .sells) u
         && every (noneOf (numbers (side (h .sells) u))) (numbers (side (h .buys) t))
         && (headSound h && apart (side (h .buys) t) (side (h .sells) u)))
     unfolding recordSound bookIn sound
@@ -109,7 +109,7 @@ module _ (h : Head) (t u : List (List ℕ)) where
           wholeSells,
           ← map-take orderOf (h .buys) t,
           ← map-take orderOf (h .sells) u,
-          every-append (restingInRange (h .last)) (side (h .buys) t) (side (h .sells) u),
+          every-append (restingInRange (h .held .last)) (side (h .buys) t) (side (h .sells) u),
           map-append (λ (o : Resting). o .number .0) (side (h .buys) t) (side (h .sells) u),
           distinct-append (numbers (side (h .buys) t)) (numbers (side (h .sells) u)),
           length-append (side (h .buys) t) (side (h .sells) u),
@@ -123,25 +123,25 @@ module _ (h : Head) (t u : List (List ℕ)) where
         (every isUnused (drop (h .buys) (map orderOf t)))
         (every isUnused (drop (h .sells) (map orderOf u)))
         (inRankOrder true (side (h .buys) t))
-        (every (restingInRange (h .last)) (side (h .buys) t))
+        (every (restingInRange (h .held .last)) (side (h .buys) t))
         (distinct (numbers (side (h .buys) t)))
         (inRankOrder false (side (h .sells) u))
-        (every (restingInRange (h .last)) (side (h .sells) u))
+        (every (restingInRange (h .held .last)) (side (h .sells) u))
         (distinct (numbers (side (h .sells) u)))
         (every (noneOf (numbers (side (h .sells) u))) (numbers (side (h .buys) t)))
         (apart (side (h .buys) t) (side (h .sells) u))
-        (leb opening (h .time))
-        (leb (h .time) closing)
-        (awayInRange (h .away .bid))
-        (awayInRange (h .away .offer))
-        (not (h .closed) || (eqb (h .buys) 0 && eqb (h .sells) 0)))
+        (leb opening (h .held .time))
+        (leb (h .held .time) closing)
+        (awayInRange (h .held .away .bid))
+        (awayInRange (h .held .away .offer))
+        (not (h .held .closed) || (eqb (h .buys) 0 && eqb (h .sells) 0)))
 
     -- the groups in the order in which they are inspected, with the answer of each
-    module _ (buys : Bool) (buysAre : buys ≡ sideSound true (h .last) (h .buys) t) where
+    module _ (buys : Bool) (buysAre : buys ≡ sideSound true (h .held .last) (h .buys) t) where
       pub buys-fail : not buys ≡ true → recordSound (recordOn h t u) ≡ false
       buys-fail fail = inspected ∙ rw (← buysAre, not-true buys fail)
 
-      module _ (buysPass : not buys ≡ false) (sells : Bool) (sellsAre : sells ≡ sideSound false (h .last) (h .sells) u) where
+      module _ (buysPass : not buys ≡ false) (sells : Bool) (sellsAre : sells ≡ sideSound false (h .held .last) (h .sells) u) where
         pub sells-fail : not sells ≡ true → recordSound (recordOn h t u) ≡ false
         sells-fail fail = inspected ∙ rw (← buysAre, not-false buys buysPass, ← sellsAre, not-true sells fail)
 

@@ -14,11 +14,11 @@ use Rattle.tables.specs.declared.Head.{Head}
 -- what is said of the header alone
 abbrev pub headSound : Head → Bool
 headSound h =
-    leb opening (h .time)
-    && leb (h .time) closing
-    && awayInRange (h .away .bid)
-    && awayInRange (h .away .offer)
-    && (not (h .closed) || (eqb (h .buys) 0 && eqb (h .sells) 0))
+    leb opening (h .held .time)
+    && leb (h .held .time) closing
+    && awayInRange (h .held .away .bid)
+    && awayInRange (h .held .away .offer)
+    && (not (h .held .closed) || (eqb (h .buys) 0 && eqb (h .sells) 0))
 
 -- what is said of one side alone, the unused places with it
 abbrev pub sideSound : Bool → Number → ℕ → List (List ℕ) → Bool

@@ -165,14 +165,15 @@ fn are_apart(
 fn head_sound(h: Head) -> bool
     ensures { λ r. ⌜ r ≡ headSound h ⌝ }
 {
-    let away = h.away;
+    let held = h.held;
+    let away = held.away;
     let bid = away.bid;
     let offer = away.offer;
-    (judge::OPENING <= h.time)
-        & (h.time <= judge::CLOSING)
+    (judge::OPENING <= held.time)
+        & (held.time <= judge::CLOSING)
         & judge::away_in_range(bid)
         & judge::away_in_range(offer)
-        & (!h.closed | ((h.buys == 0) & (h.sells == 0)))
+        & (!held.closed | ((h.buys == 0) & (h.sells == 0)))
 }
 
 // What sound says of one side alone, and of its unused places.
@@ -190,7 +191,8 @@ fn side_sound(t: &[[u32; WORDS]; PLACES], n: usize, buying: bool, last: Number) 
 pub fn is_sound(h: Head, buys: &[[u32; WORDS]; PLACES], sells: &[[u32; WORDS]; PLACES]) -> bool
     ensures { λ r. ⌜ r ≡ recordSound (recordOn h (now (buys .entry)) (now (sells .entry))) ⌝ }
 {
-    let last = h.last;
+    let held = h.held;
+    let last = held.last;
     let n = h.buys;
     let m = h.sells;
     rows::whole(buys);

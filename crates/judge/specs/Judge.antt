@@ -1,20 +1,8 @@
--- What a command's header is judged against: what the book last accepted, and whether it is closed.
+-- What a command's header is judged against: what the book holds besides its orders.
 use mathlib.Core.List.{[]}
-use Rattle.kinds.specs.Kinds.{cents}
+use Rattle.rules.specs.declared.Held.{Held}
 use Rattle.rules.specs.Book.{Book}
-use Rattle.judge.specs.declared.Accepted.{Accepted}
 
--- a book that has accepted just that; its sides and its away prices are of no account to the header
-abbrev pub bookHolding : Accepted → Book
-bookHolding a = record {
-  last = a .last;
-  time = a .time;
-  away = record { bid = cents 0; offer = cents 0 };
-  closed = a .closed;
-  buys = [];
-  sells = [];
-}
-
--- what a book has accepted
-abbrev pub acceptedBy : Book → Accepted
-acceptedBy b = record { last = b .last; time = b .time; closed = b .closed }
+-- a book that holds just that; its sides are of no account to the header
+abbrev pub bookHolding : Held → Book
+bookHolding h = record { held = h; buys = []; sells = [] }

@@ -1,21 +1,14 @@
 // Which refusal a command's own fields get, against what the book last accepted (01, What the machine says back): 4 to 7 by the
 // header, 9 by an order's body or a quote's. Refusal 8 is `instructions::lawful`.
 use kinds::Cents;
-use kinds::Number;
 use rules::Body;
 use rules::Command;
+use rules::Held;
 use rules::Order;
 ghost use mathlib.Core.Path.{_≡_};
 ghost use Rattle.rules.specs.Book.{awayInRange};
 ghost use Rattle.rules.specs.Refusals.{firstOf, isClose, headerRefusals, orderInRange};
 ghost use Rattle.judge.specs.Judge.{bookHolding};
-
-// What the book last accepted, and whether it is closed.
-pub struct Accepted {
-    pub last: Number,
-    pub time: u32,
-    pub closed: bool,
-}
 
 // The session, in milliseconds after midnight Eastern.
 pub const OPENING: u32 = 34200000;
@@ -37,23 +30,23 @@ fn is_close(body: Body) -> bool
 
 // The lowest of refusals 4 to 7 that the header gets, or 0. The difference of the numbers is taken, so that the last number may
 // be the largest of four bytes.
-pub fn header_refusal(a: Accepted, c: Command) -> u8
-    ensures { λ r. ⌜ r ≡ firstOf (headerRefusals (bookHolding a) c) ⌝ }
+pub fn header_refusal(h: Held, c: Command) -> u8
+    ensures { λ r. ⌜ r ≡ firstOf (headerRefusals (bookHolding h) c) ⌝ }
 {
     let number = c.number;
     let time = c.time;
     let body = c.body;
     let closing = is_close(body);
-    if number.0 <= a.last.0 {
+    if number.0 <= h.last.0 {
         return 4;
     }
-    if 1 < number.0 - a.last.0 {
+    if 1 < number.0 - h.last.0 {
         return 5;
     }
-    if a.closed {
+    if h.closed {
         return 6;
     }
-    if (time < a.time)
+    if (time < h.time)
         | (time < OPENING)
         | (closing & (CLOSING < time))
         | (!closing & (CLOSING <= time))

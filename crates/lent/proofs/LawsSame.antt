@@ -64,10 +64,10 @@ side-counted buys r isSound =
     by-side buys (and-left both (sound (bookIn r)) isSound)
     (sides-of true (bookIn r) (sound-is (bookIn r) (and-right both (sound (bookIn r)) isSound)))
   where
-    by-side : (buys : Bool) → (placesSound (r .buys) && placesSound (r .sells)) ≡ true → Sides true (r .last) (bookIn r .buys) (bookIn r .sells)
+    by-side : (buys : Bool) → (placesSound (r .buys) && placesSound (r .sells)) ≡ true → Sides true (r .held .last) (bookIn r .buys) (bookIn r .sells)
         → Counted (sideOf buys r)
-    by-side true t s = places-counted (r .last) (r .buys) (and-left (placesSound (r .buys)) (placesSound (r .sells)) t) (s .ownInRange)
-    by-side false t s = places-counted (r .last) (r .sells) (and-right (placesSound (r .buys)) (placesSound (r .sells)) t) (s .oppositeInRange)
+    by-side true t s = places-counted (r .held .last) (r .buys) (and-left (placesSound (r .buys)) (placesSound (r .sells)) t) (s .ownInRange)
+    by-side false t s = places-counted (r .held .last) (r .sells) (and-right (placesSound (r .buys)) (placesSound (r .sells)) t) (s .oppositeInRange)
 
 -- ── The side put in ──
 

@@ -35,10 +35,7 @@ sideOf buys r = if buys then r .buys else r .sells
 
 abbrev pub withSide : Bool → Places → BookRecord → BookRecord
 withSide buys p r = record {
-  last = r .last;
-  time = r .time;
-  away = r .away;
-  closed = r .closed;
+  held = r .held;
   buys = if buys then p else r .buys;
   sells = if buys then r .sells else p;
 }

@@ -2,19 +2,23 @@
 -- write stands one turn: the whole lines that were read are worked as far as the output has room, what they print is handed to `write`, and
 -- what is left of the bytes waits at the front. `LawsTurns` shows that whatever the reads give, all that is handed over is `Day.output` of
 -- the whole input.
-use Prim.Native.Nat.{ℕ, _-_}
+use Prim.Native.Nat.{ℕ, _-_, _≤_}
 use mathlib.Core.Bool.{Bool, true, false, not}
 use mathlib.Core.List.{List, [], _∷_, _++_}
 use mathlib.Core.Path.{_≡_}
 use lib.Dec.{ltb}
 use lib.ListN.{length, take, drop}
+use Rattle.basics.specs.Bytes.{onto}
 use Rattle.basics.specs.Choice.{if_then_else_}
 use Rattle.lines.specs.Pieces.{cut, partKept}
 use Rattle.replay.specs.Feed.{worked}
 use Rattle.replay.specs.Pieces.{printedAtEnd}
 use Rattle.rules.specs.Book.{Book, fresh}
 use Rattle.rules.specs.Refusals.{leastRoom}
-use Rattle.tables.specs.Tables.{headOf}
+use Rattle.rows.specs.Table.{tableOf}
+use Rattle.tables.specs.declared.Head.{Head}
+use Rattle.tables.specs.Answers.{Stands}
+use Rattle.tables.specs.Tables.{bookOn, headOf}
 use Rattle.night.specs.declared.Turn.{Turn}
 
 -- what a turn leaves: the book, the bytes that wait, what is handed to `write`, and whether more is to be read before the next turn
@@ -41,6 +45,13 @@ turned room b waits =
 -- the same in a header and numbers, as the code hands it back
 abbrev pub turnOf : Turned → Turn
 turnOf t = record { head = headOf (t .book); have = length (t .waits); length = length (t .printed); reads = t .reads }
+
+-- what a turn leaves of a sound book in a header and two tables, of the input whose first `have` bytes wait, and of the output
+abbrev pub Takes : Head → List ℕ → ℕ → List (List ℕ) → List (List ℕ) → List ℕ → Turn → List ℕ → List (List ℕ) → List (List ℕ) → List ℕ → Type 0
+Takes h input have buys sells out r input′ buys′ sells′ out′ =
+    let t = turned (length out) (bookOn h buys sells) (take have input) in
+    (r ≡ turnOf t) × ((buys′ ≡ tableOf (t .book .buys)) × ((sells′ ≡ tableOf (t .book .sells)) × ((input′ ≡ onto (t .waits) input)
+    × ((out′ ≡ onto (t .printed) out) × (Stands (r .head) buys′ sells′ × (r .have ≤ have) × (r .length ≤ length out))))))
 
 -- the turns of the program from a book and the bytes that wait: what its reads give, piece by piece up to the end of the input, and all
 -- that it hands to `write`, one after the other

@@ -5,14 +5,12 @@ use rows::WORDS;
 use tables::Head;
 ghost use mathlib.Core.Path.{_≡_};
 ghost use Prim.Native.Nat.{_≤_};
-ghost use lib.ListN.{length, take};
+ghost use lib.ListN.{length};
 ghost use Rattle.basics.specs.Bytes.{onto};
 ghost use Rattle.replay.specs.Pieces.{printedAtEnd};
-ghost use Rattle.rows.specs.Table.{tableOf};
 ghost use Rattle.rules.specs.Refusals.{leastRoom};
 ghost use Rattle.tables.specs.Answers.{Stands};
-ghost use Rattle.tables.specs.Tables.{bookOn};
-ghost use Rattle.night.specs.Turns.{turned, turnOf};
+ghost use Rattle.night.specs.Turns.{Takes};
 
 // What a turn leaves: the header, how many bytes wait at the front of the input, how many bytes of the output are to be written, and whether
 // more is to be read before the next turn.
@@ -33,12 +31,8 @@ pub fn take_turn(
     out: &mut [u8],
 ) -> Turn
     requires { ⌜ Stands h (now buys) (now sells) × (have ≤ length (now input)) × (leastRoom ≤ length (now out)) ⌝ }
-    ensures { λ r. ⌜ r ≡ turnOf (turned (length (now (out .entry))) (bookOn h (now (buys .entry)) (now (sells .entry))) (take have (now (input .entry)))) ⌝ }
-    ensures { λ _. ⌜ now (buys .exit) ≡ tableOf (turned (length (now (out .entry))) (bookOn h (now (buys .entry)) (now (sells .entry))) (take have (now (input .entry))) .book .buys) ⌝ }
-    ensures { λ _. ⌜ now (sells .exit) ≡ tableOf (turned (length (now (out .entry))) (bookOn h (now (buys .entry)) (now (sells .entry))) (take have (now (input .entry))) .book .sells) ⌝ }
-    ensures { λ _. ⌜ now (input .exit) ≡ onto (turned (length (now (out .entry))) (bookOn h (now (buys .entry)) (now (sells .entry))) (take have (now (input .entry))) .waits) (now (input .entry)) ⌝ }
-    ensures { λ _. ⌜ now (out .exit) ≡ onto (turned (length (now (out .entry))) (bookOn h (now (buys .entry)) (now (sells .entry))) (take have (now (input .entry))) .printed) (now (out .entry)) ⌝ }
-    ensures { λ r. ⌜ Stands (r .head) (now (buys .exit)) (now (sells .exit)) × (r .have ≤ have) × (r .length ≤ length (now (out .entry))) ⌝ }
+    ensures { λ r. ⌜ Takes h (now (input .entry)) have (now (buys .entry)) (now (sells .entry)) (now (out .entry)) r
+        (now (input .exit)) (now (buys .exit)) (now (sells .exit)) (now (out .exit)) ⌝ }
 {
     let fed = replay::feed(h, &input[..have], buys, sells, out);
     let head = fed.head;

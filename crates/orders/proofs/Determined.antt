@@ -1,8 +1,9 @@
 -- The public contract determines its result, both tables and the bytes: any two outcomes that meet it are equal. The contract is
 -- read here as the checker reads it from the source (`Post`), not from a copy. Assumes nothing.
-use mathlib.Core.Path.{_≡_, sym, _∙_}
+use mathlib.Core.Path.{_≡_}
 use denote.Ref.{now}
 use Rattle.tables.specs.declared.Step.{Step}
+use Rattle.tables.proofs.LawsAnswers.{left-determined}
 use Rattle.orders.proofs.enter.Reads as enter
 
 pub enter-determined : (κs : _) (a : _) (r r′ : Step) (s s′ : _) → enter.Post κs a r s → enter.Post κs a r′ s′
@@ -10,5 +11,4 @@ pub enter-determined : (κs : _) (a : _) (r r′ : Step) (s s′ : _) → enter.
     × (now (s .1 .1 .1 .1 .0) ≡ now (s′ .1 .1 .1 .1 .0))
     × (now (s .1 .1 .1 .1 .1 .0) ≡ now (s′ .1 .1 .1 .1 .1 .0))
     × (now (s .1 .1 .1 .1 .1 .1 .0) ≡ now (s′ .1 .1 .1 .1 .1 .1 .0))
-enter-determined κs a r r′ s s′ p q =
-    (p .0 ∙ sym (q .0), p .1 .0 ∙ sym (q .1 .0), p .1 .1 .0 ∙ sym (q .1 .1 .0), p .1 .1 .1 ∙ sym (q .1 .1 .1))
+enter-determined κs a r r′ s s′ p q = left-determined _ _ p q

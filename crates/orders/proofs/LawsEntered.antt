@@ -22,9 +22,9 @@ use Rattle.rules.specs.Refusals.{firstOf, bodyRefusals, orderInRange, restsOnFu
 use Rattle.rules.specs.Step.{Answer}
 use Rattle.rules.specs.Working.{buying, ending, ownSide, oppositeSide, withSides, does, accept}
 use Rattle.tables.specs.declared.Head.{Head}
-use Rattle.tables.specs.Answers.{bodyAnswer, Stands}
+use Rattle.tables.specs.Answers.{Left, bodyAnswer, Stands}
 use Rattle.tables.specs.Tables.{bookOn}
-use Rattle.tables.proofs.LawsAnswers.{refusedWith, doneWith, body-refused, body-done, Left, left-refused}
+use Rattle.tables.proofs.LawsAnswers.{refusedWith, doneWith, body-refused, body-done, left-refused}
 use Rattle.orders.specs.Orders.{settled}
 
 module _ (n : Number) (time : ℕ) (o : Order) (b : Book) where
@@ -38,16 +38,16 @@ module _ (n : Number) (time : ℕ) (o : Order) (b : Book) where
 
   -- the match of the order, on whichever side of the market
   abbrev pub matches : Bool → Match
-  matches buy = matchOf o n (b .away) (ownSide buy b) (oppositeSide buy b)
+  matches buy = matchOf o n (b .held .away) (ownSide buy b) (oppositeSide buy b)
 
   module _ (isLawful : lawful (o .word) ≡ true) (inRange : orderInRange o ≡ true) where
-    full : (buy : Bool) → buying o ≡ buy → isFull (ending o (b .away) (oppositeSide buy b)) (ownSide buy b) ≡ true
+    full : (buy : Bool) → buying o ≡ buy → isFull (ending o (b .held .away) (oppositeSide buy b)) (ownSide buy b) ≡ true
         → (bodyAnswer n time (body.Order o) b ≡ refusedWith 11 b)
         × (matches buy ≡ record { refusal = 11; events = []; own = ownSide buy b; opposite = oppositeSide buy b })
     unfolding bodyRefusals firstOf restsOnFullSide matchOf
     full buy q f = (body-refused n time (body.Order o) b 11 (omega arith) (rw (isLawful, inRange, q, f)), rw f)
 
-    room : (buy : Bool) → buying o ≡ buy → isFull (ending o (b .away) (oppositeSide buy b)) (ownSide buy b) ≡ false
+    room : (buy : Bool) → buying o ≡ buy → isFull (ending o (b .held .away) (oppositeSide buy b)) (ownSide buy b) ≡ false
         → (bodyAnswer n time (body.Order o) b ≡ doneWith (record {
           book = withSides n time b (if buy then matches buy .own else matches buy .opposite) (if buy then matches buy .opposite else matches buy .own);
           events = matches buy .events;
@@ -104,10 +104,10 @@ module _ (h : Head) (t u : List (List ℕ)) (stands : Stands h t u) (n : Number)
       let m = matches n time o b buy in
       rw e
       (⊎-elim
-      (λ (f : isFull (ending o (b .away) (oppositeSide buy b)) (ownSide buy b) ≡ true).
+      (λ (f : isFull (ending o (b .held .away) (oppositeSide buy b)) (ownSide buy b) ≡ true).
       let k = full n time o b isLawful inRange buy q f in
       left-full m own opposite out′ p d s a buy (k .0) (k .1))
-      (λ (f : isFull (ending o (b .away) (oppositeSide buy b)) (ownSide buy b) ≡ false).
+      (λ (f : isFull (ending o (b .held .away) (oppositeSide buy b)) (ownSide buy b) ≡ false).
       let k = room n time o b isLawful inRange buy q f in
       left-room m own opposite out′ p d s a buy (k .0) (k .1))
-      (holds-or-not (isFull (ending o (b .away) (oppositeSide buy b)) (ownSide buy b))))
+      (holds-or-not (isFull (ending o (b .held .away) (oppositeSide buy b)) (ownSide buy b))))

@@ -25,13 +25,13 @@ away-at-most p e =
     (λ (t : eqb (p .0) 0 ≡ false). price-highest p (rw t at e))
     (holds-or-not (eqb (p .0) 0))
 
-locking-at-most : (buy : Bool) (b : Book) → Sound b → lockingPrice buy (b .away) .0 ≤ highestPrice
-locking-at-most true b s = away-at-most (b .away .offer) (s .offer)
-locking-at-most false b s = away-at-most (b .away .bid) (s .bid)
+locking-at-most : (buy : Bool) (b : Book) → Sound b → lockingPrice buy (b .held .away) .0 ≤ highestPrice
+locking-at-most true b s = away-at-most (b .held .away .offer) (s .offer)
+locking-at-most false b s = away-at-most (b .held .away .bid) (s .bid)
 
 -- what `match_order` asks of both sides and of the Locking Price
 pub ready : (buy : Bool) (b : Book) → sound b ≡ true
-    → All Workable (oppositeSide buy b) × (inRankOrder (not buy) (oppositeSide buy b) ≡ true) × (lockingPrice buy (b .away) .0 < largest)
+    → All Workable (oppositeSide buy b) × (inRankOrder (not buy) (oppositeSide buy b) ≡ true) × (lockingPrice buy (b .held .away) .0 < largest)
     × (inRankOrder buy (ownSide buy b) ≡ true)
 ready buy b s =
     let facts = sound-is b s in

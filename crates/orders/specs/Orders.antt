@@ -5,6 +5,7 @@ use lib.Dec.{eqb}
 use Rattle.basics.specs.Choice.{if_then_else_}
 use Rattle.kinds.specs.declared.Number.{Number}
 use Rattle.matching.specs.declared.Matched.{Matched}
+use Rattle.rules.specs.Working.{withAccepted}
 use Rattle.tables.specs.declared.Head.{Head}
 use Rattle.tables.specs.declared.Step.{Step}
 
@@ -14,10 +15,7 @@ settled h n time buy r =
     if eqb (r .refusal) 0 then record {
       refusal = 0;
       head = record {
-        last = n;
-        time = time;
-        away = h .away;
-        closed = h .closed;
+        held = withAccepted n time (h .held);
         buys = if buy then r .own else r .opposite;
         sells = if buy then r .opposite else r .own;
       };

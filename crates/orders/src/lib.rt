@@ -4,6 +4,7 @@ use kinds::Number;
 use matching::Matched;
 use rows::PLACES;
 use rows::WORDS;
+use rules::Held;
 use rules::Order;
 use tables::Head;
 use tables::Step;
@@ -15,7 +16,7 @@ ghost use Rattle.rows.specs.Table.{tableOf};
 ghost use Rattle.rules.specs.EventLines.{eventLines};
 ghost use Rattle.rules.specs.Refusals.{leastRoom};
 ghost use Rattle.rules.specs.declared.Body.the-variants as body;
-ghost use Rattle.tables.specs.Answers.{bodyAnswer, stepOf, Stands};
+ghost use Rattle.tables.specs.Answers.{bodyAnswer, Left, Stands};
 ghost use Rattle.tables.specs.Tables.{bookOn};
 ghost use Rattle.orders.specs.Orders.{settled};
 
@@ -26,13 +27,17 @@ fn settle(h: Head, number: Number, time: u32, buying: bool, r: Matched) -> Step
     if r.refusal != 0 {
         return tables::refuse(h, r.refusal);
     }
+    let held = h.held;
+    let accepted = Held {
+        last: number,
+        time: time,
+        ..held
+    };
     if buying {
         let head = Head {
-            last: number,
-            time: time,
+            held: accepted,
             buys: r.own,
             sells: r.opposite,
-            ..h
         };
         return Step {
             refusal: 0,
@@ -41,11 +46,9 @@ fn settle(h: Head, number: Number, time: u32, buying: bool, r: Matched) -> Step
         };
     }
     let head = Head {
-        last: number,
-        time: time,
+        held: accepted,
         buys: r.opposite,
         sells: r.own,
-        ..h
     };
     Step {
         refusal: 0,
@@ -64,10 +67,8 @@ pub fn enter(
     out: &mut [u8],
 ) -> Step
     requires { ⌜ Stands h (now buys) (now sells) × (leastRoom ≤ length (now out)) ⌝ }
-    ensures { λ r. ⌜ r ≡ stepOf (bodyAnswer number time (body.Order o) (bookOn h (now (buys .entry)) (now (sells .entry)))) ⌝ }
-    ensures { λ _. ⌜ now (buys .exit) ≡ tableOf (bodyAnswer number time (body.Order o) (bookOn h (now (buys .entry)) (now (sells .entry))) .book .buys) ⌝ }
-    ensures { λ _. ⌜ now (sells .exit) ≡ tableOf (bodyAnswer number time (body.Order o) (bookOn h (now (buys .entry)) (now (sells .entry))) .book .sells) ⌝ }
-    ensures { λ _. ⌜ now (out .exit) ≡ onto (eventLines (bodyAnswer number time (body.Order o) (bookOn h (now (buys .entry)) (now (sells .entry))) .events)) (now (out .entry)) ⌝ }
+    ensures { λ r. ⌜ Left r (now (buys .exit)) (now (sells .exit)) (now (out .exit)) (now (out .entry))
+        (bodyAnswer number time (body.Order o) (bookOn h (now (buys .entry)) (now (sells .entry)))) ⌝ }
 {
     if !instructions::lawful(o.word) {
         return tables::refuse(h, 8);
@@ -75,7 +76,8 @@ pub fn enter(
     if !judge::order_in_range(o) {
         return tables::refuse(h, 9);
     }
-    let away = h.away;
+    let held = h.held;
+    let away = held.away;
     let n = h.buys;
     let m = h.sells;
     if o.side == 0 {

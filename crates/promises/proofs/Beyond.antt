@@ -42,12 +42,12 @@ pub post-only-executes-nothing : (b : Book) (line : List ℕ) (c : Command) (o :
 post-only-executes-nothing = beyond.post-only-executes-nothing
 
 -- a closed book stays as it is, whatever comes ..
-pub closed-it-stays : (b : Book) (lines : List (List ℕ)) → b .closed ≡ true → bookAfter b lines ≡ b
+pub closed-it-stays : (b : Book) (lines : List (List ℕ)) → b .held .closed ≡ true → bookAfter b lines ≡ b
 closed-it-stays = beyond.closed-stays
 
 -- .. and then shares entered = executed + cancelled, for every order
 pub settled-after-the-close : (lines : List (List ℕ)) (stood : Book) (line : List ℕ) (c : Command) (o : Order)
-    → Enters byLine fresh lines stood line c o → bookAfter fresh lines .closed ≡ true
+    → Enters byLine fresh lines stood line c o → bookAfter fresh lines .held .closed ≡ true
     → o .shares .0 ≡ executedIn (c .number) (eventsIn (printedOf fresh lines)) + cancelledIn (c .number) (eventsIn (printedOf fresh lines))
 settled-after-the-close = beyond.closed-settles
 
@@ -57,7 +57,7 @@ pub executions-where-told : (before : List (List ℕ)) (line : List ℕ) (c : Co
     → acts (bookAfter fresh before) line ≡ true → commandIn line ≡ reading.Is c → c .body ≡ body.Order o
     → (incoming resting : Number) (price : Cents) (shares : Shares)
     → OneOf (Executed incoming resting price shares) (eventsIn (printed (answerTo (bookAfter fresh before) line)))
-    → (incoming ≡ c .number) × (price ≡ standsAt resting (eventsIn (printedOf fresh before))) × Fair o (bookAfter fresh before .away) price
+    → (incoming ≡ c .number) × (price ≡ standsAt resting (eventsIn (printedOf fresh before))) × Fair o (bookAfter fresh before .held .away) price
 executions-where-told = standing.executions-where-told
 
 -- each `11` pairs one buy with one sell, so shares bought are shares sold

@@ -5,7 +5,7 @@
 use Prim.Native.Nat.{ℕ, _≤_}
 use mathlib.Core.List.{List}
 use mathlib.Core.Path.{_≡_, refl}
-use lib.ListN.{length, take}
+use lib.ListN.{length}
 use base.Logic.{SProp}
 use contract.Monad.{Fun}
 use contract.Notation.{connectives}
@@ -18,8 +18,7 @@ use prog.Wp.{Heap}
 use Rattle.basics.specs.Bytes.{onto}
 use Rattle.kinds.specs.declared.Number.{Number}
 use Rattle.lines.specs.declared.Read.{Read}
-use Rattle.lines.specs.Pieces.{cut, readBehind}
-use Rattle.rows.specs.Table.{tableOf}
+use Rattle.lines.specs.Pieces.{readBehind}
 use Rattle.rules.specs.declared.Away.{Away}
 use Rattle.rules.specs.declared.Body.{Body}
 use Rattle.rules.specs.declared.Body.the-variants as body
@@ -35,16 +34,16 @@ use Rattle.rules.specs.Refusals.{leastRoom}
 use Rattle.rules.specs.Step.{step, stepOn}
 use Rattle.tables.specs.declared.Head.{Head}
 use Rattle.tables.specs.Answers.{Stands}
-use Rattle.tables.specs.Tables.{bookOn, headOf}
+use Rattle.tables.specs.Tables.{headOf}
 use Rattle.book.specs.declared.Book.{Book}
 use Rattle.book.specs.declared.Reply.{Reply}
 use Rattle.book.specs.Record.{recordIn, bookWith, replyOf}
 use Rattle.lent.specs.Lent.{Answered}
 use Rattle.lent.proofs.answer as lent-contract
 use Rattle.night.specs.declared.Turn.{Turn}
-use Rattle.night.specs.Turns.{turned, turnOf}
+use Rattle.night.specs.Turns.{Takes}
 use Rattle.replay.specs.declared.Fed.{Fed}
-use Rattle.replay.specs.Feed.{worked, fedBy}
+use Rattle.replay.specs.Feed.{Feeds}
 use Rattle.replay.specs.Pieces.{printedAtEnd}
 use Rattle.tally.specs.declared.Fed as tallied
 use Rattle.tally.specs.Tally.{fedOn}
@@ -243,13 +242,6 @@ read-event-says κs a r s = refl
 
 -- ── A day, piece by piece ──
 
--- the lines of a piece, worked on a sound book in a header and two tables
-abbrev Feeds : Head → List ℕ → List (List ℕ) → List (List ℕ) → List ℕ → Fed → List (List ℕ) → List (List ℕ) → List ℕ → Type 0
-Feeds h input buys sells out r buys′ sells′ out′ =
-    let w = worked (length out) (bookOn h buys sells) (cut input .whole) in
-    (r ≡ fedBy w) × ((buys′ ≡ tableOf (w .book .buys)) × ((sells′ ≡ tableOf (w .book .sells)) × ((out′ ≡ onto (w .printed) out)
-    × (((r .at ≤ length input) × (r .length ≤ length out)) × Stands (r .head) buys′ sells′))))
-
 -- `replay::begin()`: the header of a fresh book
 pub begin-is-proved : {M : Type 1} → begin-statement.statement M
 begin-is-proved = begin-met.met
@@ -272,13 +264,6 @@ pub feed-says : (κs : _) (a : _) (r : Fed) (s : _) → feed.Post κs a r s
     ≡ Feeds (a .0) (now (a .1 .0)) (now (a .1 .1 .0)) (now (a .1 .1 .1 .0)) (now (a .1 .1 .1 .1 .0)) r
     (now (s .1 .1 .0)) (now (s .1 .1 .1 .0)) (now (s .1 .1 .1 .1 .0))
 feed-says κs a r s = refl
-
--- a turn of the program on the bytes that wait at the front of the input
-abbrev Takes : Head → List ℕ → ℕ → List (List ℕ) → List (List ℕ) → List ℕ → Turn → List ℕ → List (List ℕ) → List (List ℕ) → List ℕ → Type 0
-Takes h input have buys sells out r input′ buys′ sells′ out′ =
-    let t = turned (length out) (bookOn h buys sells) (take have input) in
-    (r ≡ turnOf t) × ((buys′ ≡ tableOf (t .book .buys)) × ((sells′ ≡ tableOf (t .book .sells)) × ((input′ ≡ onto (t .waits) input)
-    × ((out′ ≡ onto (t .printed) out) × (Stands (r .head) buys′ sells′ × (r .have ≤ have) × (r .length ≤ length out))))))
 
 -- `night::take_turn(h, input, have, buys, sells, out)`: all that the program does between a read and a write
 pub turn-is-proved : {M : Type 1} → turn-statement.statement M

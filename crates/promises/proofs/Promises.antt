@@ -146,7 +146,7 @@ pub sent-again : (lines again : List (List ℕ)) → All (λ (l : List ℕ). One
 sent-again = beyond.sent-again
 
 -- the accepted numbers of a day are exactly 1 to the last
-pub numbers-follow : (calls : List Call) → actingNumbers byCall (recordOf fresh) calls ≡ oneTo (endOf byCall (recordOf fresh) calls .last .0)
+pub numbers-follow : (calls : List Call) → actingNumbers byCall (recordOf fresh) calls ≡ oneTo (endOf byCall (recordOf fresh) calls .held .last .0)
 numbers-follow = beyond.numbers-follow-by-call
 
 -- ── Demand 2 ──
@@ -187,26 +187,26 @@ a-cancel-writes = written.cancel-writes
 pub a-close-writes : (b : Book) (line : List ℕ) (c : Command) → sound b ≡ true → acts b line ≡ true → commandIn line ≡ reading.Is c
     → c .body ≡ body.Close
     → (eventsIn (printed (answerTo b line)) ≡ map closeLine (b .buys ++ b .sells))
-    × (answerTo b line .book .buys ≡ []) × (answerTo b line .book .sells ≡ []) × (answerTo b line .book .closed ≡ true)
+    × (answerTo b line .book .buys ≡ []) × (answerTo b line .book .sells ≡ []) × (answerTo b line .book .held .closed ≡ true)
 a-close-writes = written.close-writes
 
 -- every accepted command leaves its number and its time ..
 pub a-command-leaves : (b : Book) (line : List ℕ) (c : Command) → acts b line ≡ true → commandIn line ≡ reading.Is c
-    → (answerTo b line .book .last ≡ c .number) × (answerTo b line .book .time ≡ c .time)
+    → (answerTo b line .book .held .last ≡ c .number) × (answerTo b line .book .held .time ≡ c .time)
 a-command-leaves = written.number-and-time-left
 
 -- .. a quote its away prices, and no other command changes those ..
 pub a-quote-is-held : (b : Book) (line : List ℕ) (c : Command) (away : Away) → acts b line ≡ true → commandIn line ≡ reading.Is c
-    → c .body ≡ body.Quote away → answerTo b line .book .away ≡ away
+    → c .body ≡ body.Quote away → answerTo b line .book .held .away ≡ away
 a-quote-is-held = written.quote-held
 
 pub a-quote-is-kept : (b : Book) (line : List ℕ) (c : Command) → acts b line ≡ true → commandIn line ≡ reading.Is c
-    → ((away : Away) → c .body ≢ body.Quote away) → answerTo b line .book .away ≡ b .away
+    → ((away : Away) → c .body ≢ body.Quote away) → answerTo b line .book .held .away ≡ b .held .away
 a-quote-is-kept = written.away-kept
 
 -- .. and none but a close closes the book
 pub only-a-close-closes : (b : Book) (line : List ℕ) (c : Command) → acts b line ≡ true → commandIn line ≡ reading.Is c → c .body ≢ body.Close
-    → answerTo b line .book .closed ≡ false
+    → answerTo b line .book .held .closed ≡ false
 only-a-close-closes = written.open-unless-closed
 
 -- P1 to P12, "a single table with a single proved claim", and the sources' examples of a moved quote (02, W2)
@@ -286,7 +286,7 @@ pub no-share-lost-by-call : (r : BookRecord) (calls : List Call) (stood : BookRe
 no-share-lost-by-call = calling.calls-conserve
 
 -- and of the orders that rest in a sound book when a run begins
-pub no-resting-share-lost : (n : Number) (r : BookRecord) (calls : List Call) → recordSound r ≡ true → n .0 ≤ r .last .0
+pub no-resting-share-lost : (n : Number) (r : BookRecord) (calls : List Call) → recordSound r ≡ true → n .0 ≤ r .held .last .0
     → restingOf n (bookIn r)
     ≡ executedIn n (eventsIn (eventLinesOf byCall r calls)) + cancelledIn n (eventsIn (eventLinesOf byCall r calls))
     + restingOf n (bookIn (endOf byCall r calls))

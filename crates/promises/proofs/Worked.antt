@@ -65,7 +65,7 @@ kills : isKilled (number 5) (eventsIn (printed (answerTo (bookAfter fresh (take 
 unfolding ones onesIn onto every any distinct total digits nibbleOf allDigits numberAfter numberIn ranksBefore inRankOrder apart sound written lineOf numbersFrom orderIn cancelIn quoteIn closeIn bodyIn commandIn lawful firstOf restsOnFullSide headerRefusals bodyRefusals lineRefusals refusals doneBy answer answerTo nothing walk walked takings remainder executions after seeks endingWith ending insert accept kept cancels cancel quote close does bookAfter joined linesIn printed eventLine eventLines refusalLine ofFields ofKind eventIn eventsOn setAnew moveLines insertAll afterMoves
 kills = refl
 
-pub away-price-kills : Fills killed (bookAfter fresh (take 5 night) .away) (bookAfter fresh (take 5 night) .sells) → ⊥
+pub away-price-kills : Fills killed (bookAfter fresh (take 5 night) .held .away) (bookAfter fresh (take 5 night) .sells) → ⊥
 away-price-kills =
     executes-the-greatest night (bookAfter fresh (take 5 night)) (lineOf theKilled) theKilled killed killed-enters refl .killedOnly kills
 
@@ -78,7 +78,7 @@ lives : isKilled (number 6) (eventsIn (printed (answerTo (bookAfter fresh (take 
 unfolding ones onesIn onto every any distinct total digits nibbleOf allDigits numberAfter numberIn ranksBefore inRankOrder apart sound written lineOf numbersFrom orderIn cancelIn quoteIn closeIn bodyIn commandIn lawful firstOf restsOnFullSide headerRefusals bodyRefusals lineRefusals refusals doneBy answer answerTo nothing walk walked takings remainder executions after seeks endingWith ending insert accept kept cancels cancel quote close does bookAfter joined linesIn printed eventLine eventLines refusalLine ofFields ofKind eventIn eventsOn setAnew moveLines insertAll afterMoves
 lives = refl
 
-pub nobody-gives-more : (gs : List Given) → Lawful greedy (bookAfter fresh (take 6 night) .away) (bookAfter fresh (take 6 night) .sells) gs
+pub nobody-gives-more : (gs : List Given) → Lawful greedy (bookAfter fresh (take 6 night) .held .away) (bookAfter fresh (take 6 night) .sells) gs
     → given gs ≤ 200
 nobody-gives-more gs l =
     subst (λ (k : ℕ). given gs ≤ k) takes-200

@@ -29,7 +29,7 @@ module _ (n : Number) (time : ℕ) (away : Away) (b : Book) where
   unfolding firstOf bodyRefusals does
   quoted e = body-done n time (body.Quote away) b (rw e)
 
-module _ (h : Head) (t u : List (List ℕ)) (stands : Stands h t u) (n : Number) (next : h .last .0 < n .0) (k : ℕ) where
+module _ (h : Head) (t u : List (List ℕ)) (stands : Stands h t u) (n : Number) (next : h .held .last .0 < n .0) (k : ℕ) where
   pub buys-earlier : Earlier (stamp n k) (side (h .buys) t)
   buys-earlier = later-stamp (stamp n k) next (sides-of true (bookOn h t u) (sound-is (bookOn h t u) (stands .isSound)) .ownInRange)
 

@@ -4,6 +4,7 @@ use kinds::Number;
 use rows::PLACES;
 use rows::WORDS;
 use rules::Away;
+use rules::Held;
 use tables::Head;
 use tables::Step;
 ghost use mathlib.Core.Path.{_≡_};
@@ -14,7 +15,7 @@ ghost use Rattle.rows.specs.Table.{tableOf};
 ghost use Rattle.rules.specs.EventLines.{eventLines};
 ghost use Rattle.rules.specs.Refusals.{leastRoom};
 ghost use Rattle.rules.specs.declared.Body.the-variants as body;
-ghost use Rattle.tables.specs.Answers.{bodyAnswer, stepOf, Stands};
+ghost use Rattle.tables.specs.Answers.{bodyAnswer, Left, Stands};
 ghost use Rattle.tables.specs.Tables.{bookOn};
 
 // The place of the first move among a command's moves; 0 is that of an order that comes to rest.
@@ -29,11 +30,9 @@ pub fn quote(
     sells: &mut [[u32; WORDS]; PLACES],
     out: &mut [u8],
 ) -> Step
-    requires { ⌜ Stands h (now buys) (now sells) × (leastRoom ≤ length (now out)) × (h .last .0 < number .0) ⌝ }
-    ensures { λ r. ⌜ r ≡ stepOf (bodyAnswer number time (body.Quote away) (bookOn h (now (buys .entry)) (now (sells .entry)))) ⌝ }
-    ensures { λ _. ⌜ now (buys .exit) ≡ tableOf (bodyAnswer number time (body.Quote away) (bookOn h (now (buys .entry)) (now (sells .entry))) .book .buys) ⌝ }
-    ensures { λ _. ⌜ now (sells .exit) ≡ tableOf (bodyAnswer number time (body.Quote away) (bookOn h (now (buys .entry)) (now (sells .entry))) .book .sells) ⌝ }
-    ensures { λ _. ⌜ now (out .exit) ≡ onto (eventLines (bodyAnswer number time (body.Quote away) (bookOn h (now (buys .entry)) (now (sells .entry))) .events)) (now (out .entry)) ⌝ }
+    requires { ⌜ Stands h (now buys) (now sells) × (leastRoom ≤ length (now out)) × (h .held .last .0 < number .0) ⌝ }
+    ensures { λ r. ⌜ Left r (now (buys .exit)) (now (sells .exit)) (now (out .exit)) (now (out .entry))
+        (bodyAnswer number time (body.Quote away) (bookOn h (now (buys .entry)) (now (sells .entry)))) ⌝ }
 {
     let bid = away.bid;
     let offer = away.offer;
@@ -51,13 +50,17 @@ pub fn quote(
         bought.next,
         &mut out[len..],
     );
-    let head = Head {
+    let held = h.held;
+    let accepted = Held {
         last: number,
         time: time,
         away: away,
+        ..held
+    };
+    let head = Head {
+        held: accepted,
         buys: bought.held,
         sells: sold.held,
-        ..h
     };
     Step {
         refusal: 0,

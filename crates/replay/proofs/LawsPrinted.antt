@@ -21,9 +21,9 @@ use Rattle.rules.specs.Step.{Answer, answer}
 use Rattle.rules.proofs.LawsEvents.{refusal-length}
 use Rattle.tables.specs.declared.Head.{Head}
 use Rattle.tables.specs.declared.Step.{Step}
-use Rattle.tables.specs.Answers.{answerOf, Stands}
+use Rattle.tables.specs.Answers.{answerOf, Left, Stands}
 use Rattle.tables.specs.Tables.{bookOn}
-use Rattle.tables.proofs.LawsAnswers.{Left, head-same, refusedWith}
+use Rattle.tables.proofs.LawsAnswers.{head-same, refusedWith}
 use Rattle.replay.specs.declared.Printed.{Printed}
 use Rattle.replay.specs.Feed.{answerFor, printedStep}
 

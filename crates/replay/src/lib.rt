@@ -5,20 +5,17 @@ use kinds::Number;
 use rows::PLACES;
 use rows::WORDS;
 use rules::Away;
+use rules::Held;
 use rules::Reading;
 use tables::Head;
 ghost use mathlib.Core.Path.{_≡_};
 ghost use Prim.Native.Nat.{_≤_};
 ghost use lib.ListN.{length};
-ghost use Rattle.basics.specs.Bytes.{onto};
-ghost use Rattle.lines.specs.Pieces.{cut};
-ghost use Rattle.rows.specs.Table.{tableOf};
 ghost use Rattle.rules.specs.Book.{fresh};
-ghost use Rattle.rules.specs.Day.{printed};
 ghost use Rattle.rules.specs.Refusals.{leastRoom};
 ghost use Rattle.tables.specs.Answers.{Stands};
-ghost use Rattle.tables.specs.Tables.{bookOn, headOf};
-ghost use Rattle.replay.specs.Feed.{worked, answerFor, printedStep, fedBy};
+ghost use Rattle.tables.specs.Tables.{headOf};
+ghost use Rattle.replay.specs.Feed.{Prints, Feeds};
 
 // What a line leaves: the header, and the length of what is printed of it.
 pub struct Printed {
@@ -41,11 +38,14 @@ pub fn begin() -> Head
         bid: Cents(0),
         offer: Cents(0),
     };
-    Head {
+    let held = Held {
         last: Number(0),
         time: judge::OPENING,
         away: away,
         closed: false,
+    };
+    Head {
+        held: held,
         buys: 0,
         sells: 0,
     }
@@ -62,10 +62,8 @@ fn print_line(
     out: &mut [u8],
 ) -> Printed
     requires { ⌜ Stands h (now buys) (now sells) × (leastRoom ≤ length (now out)) ⌝ }
-    ensures { λ r. ⌜ r ≡ printedStep (answerFor (bookOn h (now (buys .entry)) (now (sells .entry))) reading) ⌝ }
-    ensures { λ _. ⌜ now (buys .exit) ≡ tableOf (answerFor (bookOn h (now (buys .entry)) (now (sells .entry))) reading .book .buys) ⌝ }
-    ensures { λ _. ⌜ now (sells .exit) ≡ tableOf (answerFor (bookOn h (now (buys .entry)) (now (sells .entry))) reading .book .sells) ⌝ }
-    ensures { λ _. ⌜ now (out .exit) ≡ onto (printed (answerFor (bookOn h (now (buys .entry)) (now (sells .entry))) reading)) (now (out .entry)) ⌝ }
+    ensures { λ r. ⌜ Prints h reading (now (buys .entry)) (now (sells .entry)) (now (out .entry)) r
+        (now (buys .exit)) (now (sells .exit)) (now (out .exit)) ⌝ }
 {
     let Reading::Is(c) = reading else {
         let length = events::write_refusal(out, 3);
@@ -100,12 +98,8 @@ pub fn feed(
     out: &mut [u8],
 ) -> Fed
     requires { ⌜ Stands h (now buys) (now sells) ⌝ }
-    ensures { λ r. ⌜ r ≡ fedBy (worked (length (now (out .entry))) (bookOn h (now (buys .entry)) (now (sells .entry))) (cut (now (input .entry)) .whole)) ⌝ }
-    ensures { λ _. ⌜ now (buys .exit) ≡ tableOf (worked (length (now (out .entry))) (bookOn h (now (buys .entry)) (now (sells .entry))) (cut (now (input .entry)) .whole) .book .buys) ⌝ }
-    ensures { λ _. ⌜ now (sells .exit) ≡ tableOf (worked (length (now (out .entry))) (bookOn h (now (buys .entry)) (now (sells .entry))) (cut (now (input .entry)) .whole) .book .sells) ⌝ }
-    ensures { λ _. ⌜ now (out .exit) ≡ onto (worked (length (now (out .entry))) (bookOn h (now (buys .entry)) (now (sells .entry))) (cut (now (input .entry)) .whole) .printed) (now (out .entry)) ⌝ }
-    ensures { λ r. ⌜ (r .at ≤ length (now (input .entry))) × (r .length ≤ length (now (out .entry))) ⌝ }
-    ensures { λ r. ⌜ Stands (r .head) (now (buys .exit)) (now (sells .exit)) ⌝ }
+    ensures { λ r. ⌜ Feeds h (now (input .entry)) (now (buys .entry)) (now (sells .entry)) (now (out .entry)) r
+        (now (buys .exit)) (now (sells .exit)) (now (out .exit)) ⌝ }
 {
     let mut head = h;
     let mut at = 0;

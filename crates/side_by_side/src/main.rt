@@ -7,6 +7,7 @@ use book::Side;
 use libc::STDIN_FILENO;
 use libc::STDOUT_FILENO;
 use rows::PLACES;
+use rules::Held;
 use rules::Resting;
 use rules::Stamp;
 ghost use mathlib.Core.Path.{_≡_};
@@ -47,7 +48,7 @@ fn same_side(a: Side, b: Side) -> bool {
     (a.used == b.used) & same_places(x, y)
 }
 
-fn same_head(a: Book, b: Book) -> bool {
+fn same_held(a: Held, b: Held) -> bool {
     let x = a.away;
     let y = b.away;
     let same_last = a.last.0 == b.last.0;
@@ -60,7 +61,9 @@ fn same_book(a: Book, b: Book) -> bool {
     let sold = a.sells;
     let buys = b.buys;
     let sells = b.sells;
-    same_head(a, b) & same_side(bought, buys) & same_side(sold, sells)
+    let x = a.held;
+    let y = b.held;
+    same_held(x, y) & same_side(bought, buys) & same_side(sold, sells)
 }
 
 // The first bytes, as many as both must have.

@@ -21,8 +21,8 @@ use Rattle.rules.proofs.LawsRefusals.{none-given}
 
 -- the number is the next, the book is open and the time is one of the session
 pub record InOrder (b : Book) (c : Command) : Type 0 where
-  pub next : c .number .0 ≡ b .last .0 + 1
-  pub isOpen : b .closed ≡ false
+  pub next : c .number .0 ≡ b .held .last .0 + 1
+  pub isOpen : b .held .closed ≡ false
   pub opened : leb opening (c .time) ≡ true
   pub inTime : leb (c .time) closing ≡ true
   pub byBody : firstOf (bodyRefusals b (c .body)) ≡ 0
@@ -35,15 +35,15 @@ not-late false time e = let l : time < closing = leb-false closing time e in ome
 pub accepted : (b : Book) (c : Command) → firstOf (lineRefusals b (reading.Is c)) ≡ 0 → InOrder b c
 unfolding lineRefusals headerRefusals
 accepted b c e =
-    let number = none-given 4 (leb (c .number .0) (b .last .0)) _ (omega arith) e in
-    let gap = none-given 5 (ltb (b .last .0 + 1) (c .number .0)) _ (omega arith) (number .1) in
-    let closed = none-given 6 (b .closed) _ (omega arith) (gap .1) in
+    let number = none-given 4 (leb (c .number .0) (b .held .last .0)) _ (omega arith) e in
+    let gap = none-given 5 (ltb (b .held .last .0 + 1) (c .number .0)) _ (omega arith) (number .1) in
+    let closed = none-given 6 (b .held .closed) _ (omega arith) (gap .1) in
     let timely = none-given 7 (untimely b c) (bodyRefusals b (c .body)) (omega arith) (closed .1) in
-    let above : b .last .0 < c .number .0 = leb-false (c .number .0) (b .last .0) (number .0) in
-    let upTo : c .number .0 ≤ b .last .0 + 1 = ltb-false (b .last .0 + 1) (c .number .0) (gap .0) in
+    let above : b .held .last .0 < c .number .0 = leb-false (c .number .0) (b .held .last .0) (number .0) in
+    let upTo : c .number .0 ≤ b .held .last .0 + 1 = ltb-false (b .held .last .0 + 1) (c .number .0) (gap .0) in
     let late : Bool = if isClose (c .body) then ltb closing (c .time) else leb closing (c .time) in
-    let times = or-neither (ltb (c .time) (b .time) || ltb (c .time) opening) late (timely .0) in
-    let early = or-neither (ltb (c .time) (b .time)) (ltb (c .time) opening) (times .0) in
+    let times = or-neither (ltb (c .time) (b .held .time) || ltb (c .time) opening) late (timely .0) in
+    let early = or-neither (ltb (c .time) (b .held .time)) (ltb (c .time) opening) (times .0) in
     record {
       next = omega arith;
       isOpen = closed .0;

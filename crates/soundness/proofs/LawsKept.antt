@@ -26,7 +26,7 @@ use Rattle.rules.specs.CommandLines.{commandIn}
 use Rattle.rules.specs.Day.{bookAfter}
 use Rattle.rules.specs.Refusals.{leastRoom, firstOf, restsOnFullSide, bodyRefusals, lineRefusals, refusals}
 use Rattle.rules.specs.Step.{doneBy, answer, answerTo, step, stepOn}
-use Rattle.rules.specs.Working.{buying, oppositeSide, ending, isNumber, accept, cancel, setAnew, firstMove, quote, close, does}
+use Rattle.rules.specs.Working.{withAccepted, withAway, buying, oppositeSide, ending, isNumber, accept, cancel, setAnew, firstMove, quote, close, does}
 use Rattle.rules.proofs.LawsRefusals.{fit-facts}
 use Rattle.soundness.proofs.LawsAccepted.{accepted, AcceptedOrder, accepted-order, accepted-quote}
 use Rattle.soundness.proofs.LawsMoves.{sides-moved}
@@ -37,21 +37,20 @@ use Rattle.soundness.proofs.LawsThinned.{thinned-kept}
 
 -- ── An accepted command ──
 
-module _ (b : Book) (s : Sound b) (n : Number) (time : ℕ) (next : n .0 ≡ b .last .0 + 1) (isOpen : b .closed ≡ false)
+module _ (b : Book) (s : Sound b) (n : Number) (time : ℕ) (next : n .0 ≡ b .held .last .0 + 1) (isOpen : b .held .closed ≡ false)
     (opened : leb opening time ≡ true) (inTime : leb time closing ≡ true) where
   accept-sound : (o : Order) → AcceptedOrder b o → Sound (accept n time o b .book)
   unfolding accept restsOnFullSide
   accept-sound o a =
-      rw isOpen
-      (sides-sound n time (b .away) opened inTime (s .bid) (s .offer) (buying o)
-      (accept-sides n o (b .away) (sides-of (buying o) b s) next (a .isLawful) (a .inRange) (a .room) (ending o (b .away) (oppositeSide (buying o) b)) refl))
+      sides-sound (withAccepted n time (b .held)) isOpen opened inTime (s .bid) (s .offer) (buying o)
+      (accept-sides n o (b .held .away) (sides-of (buying o) b s) next (a .isLawful) (a .inRange) (a .room) (ending o (b .held .away) (oppositeSide (buying o) b)) refl)
 
   cancel-sound : (of : Number) → Sound (cancel n time of b .book)
   unfolding cancel
   cancel-sound of =
       let sides = sides-of true b s in
-      let less = sides-thinned sides (thinned-kept (isNumber of) (all-holding (b .last) (sides .ownInRange))) (thinned-kept (isNumber of) (all-holding (b .last) (sides .oppositeInRange))) in
-      rw isOpen (sides-sound n time (b .away) opened inTime (s .bid) (s .offer) true (sides-later less (omega (arith, next))))
+      let less = sides-thinned sides (thinned-kept (isNumber of) (all-holding (b .held .last) (sides .ownInRange))) (thinned-kept (isNumber of) (all-holding (b .held .last) (sides .oppositeInRange))) in
+      sides-sound (withAccepted n time (b .held)) isOpen opened inTime (s .bid) (s .offer) true (sides-later less (omega (arith, next)))
 
   quote-sound : (away : Away) → (awayInRange (away .bid) && awayInRange (away .offer)) ≡ true → Sound (quote n time away b .book)
   unfolding quote
@@ -59,11 +58,11 @@ module _ (b : Book) (s : Sound b) (n : Number) (time : ℕ) (next : n .0 ≡ b .
       let bid = and-left (awayInRange (away .bid)) (awayInRange (away .offer)) a in
       let offer = and-right (awayInRange (away .bid)) (awayInRange (away .offer)) a in
       let sides = sides-of true b s in
-      let above : b .last .0 < n .0 = omega (arith, next) in
+      let above : b .held .last .0 < n .0 = omega (arith, next) in
       let after = firstMove + length (setAnew n firstMove true away (b .buys)) in
       let buys = sides-moved n firstMove away offer (later-stamp (stamp n firstMove) above (sides .ownInRange)) (sides-later sides (omega (arith, above))) in
       let both = sides-moved n after away bid (later-stamp (stamp n after) above (sides .oppositeInRange)) (sides-flip true buys) in
-      rw isOpen (sides-sound n time away opened inTime bid offer false both)
+      sides-sound (withAway away (withAccepted n time (b .held))) isOpen opened inTime bid offer false both
 
   close-sound : Sound (close n time b .book)
   unfolding close every distinct inRankOrder apart

@@ -15,16 +15,16 @@ use Rattle.basics.proofs.LawsChoice.{and-left, and-right}
 use Rattle.kinds.specs.declared.Number.{Number}
 use Rattle.kinds.specs.Kinds.{mostShares, priceInRange, sharesInRange}
 use Rattle.kinds.proofs.LawsRanges.{shares-fewest, shares-most, shares-ranged}
-use Rattle.rules.specs.declared.Away.{Away}
+use Rattle.rules.specs.declared.Held.{Held}
 use Rattle.rules.specs.declared.Resting.{Resting}
 use Rattle.rules.specs.declared.Stamp.{Stamp}
 use Rattle.rules.specs.Book.{numbers, Book, placesASide, opening, closing, earlier, inRankOrder, stampInRange, restingInRange, awayInRange}
-use Rattle.rules.specs.Working.{ownSide, oppositeSide, insert}
+use Rattle.rules.specs.Working.{withShares, ownSide, oppositeSide, insert}
 use Rattle.soundness.proofs.LawsApart.{Beyond, Apart, apart-all, apart-best, apart-flip, apart-thinned}
 use Rattle.soundness.proofs.LawsInsert.{Added, added-insert, added-before, added-behind, added-length, added-all, added-distinct, ranked-insert}
 use Rattle.soundness.proofs.LawsRank.{earlier-command}
 use Rattle.soundness.proofs.LawsSound.{Sound}
-use Rattle.soundness.proofs.LawsThinned.{Thinned, withShares, thinned-both, thinned-length, thinned-all, thinned-ranked, thinned-distinct}
+use Rattle.soundness.proofs.LawsThinned.{Thinned, thinned-both, thinned-length, thinned-all, thinned-ranked, thinned-distinct}
 
 -- ── Fields in range ──
 
@@ -124,43 +124,43 @@ sides-flip false {own = own} {opposite = opposite} s = record {
   isApart = apart-flip false own opposite (s .isApart);
 }
 
-sides-of-buys : (b : Book) → Sound b → Sides true (b .last) (b .buys) (b .sells)
+sides-of-buys : (b : Book) → Sound b → Sides true (b .held .last) (b .buys) (b .sells)
 sides-of-buys b s = record {
   ownFits = s .buysFit;
   oppositeFits = s .sellsFit;
   ownRanked = s .buysRanked;
   oppositeRanked = s .sellsRanked;
-  ownInRange = ranges-first (b .last) (b .buys) (b .sells) (s .inRange);
-  oppositeInRange = ranges-second (b .last) (b .buys) (b .sells) (s .inRange);
+  ownInRange = ranges-first (b .held .last) (b .buys) (b .sells) (s .inRange);
+  oppositeInRange = ranges-second (b .held .last) (b .buys) (b .sells) (s .inRange);
   once = s .once;
   isApart = apart-all (b .buys) (b .sells) (s .buysRanked) (s .sellsRanked) (s .isApart);
 }
 
-pub sides-of : (buy : Bool) (b : Book) → Sound b → Sides buy (b .last) (ownSide buy b) (oppositeSide buy b)
+pub sides-of : (buy : Bool) (b : Book) → Sound b → Sides buy (b .held .last) (ownSide buy b) (oppositeSide buy b)
 sides-of true b s = sides-of-buys b s
 sides-of false b s = sides-flip true (sides-of-buys b s)
 
 -- an open book of such sides, in the session, is sound
-module _ (n : Number) (time : ℕ) (away : Away) (opened : leb opening time ≡ true) (inTime : leb time closing ≡ true)
-    (bid : awayInRange (away .bid) ≡ true) (offer : awayInRange (away .offer) ≡ true) where
-  buys-sound : {buys sells : List Resting} → Sides true n buys sells → Sound (record { last = n; time = time; away = away; closed = false; buys = buys; sells = sells })
+module _ (h : Held) (isOpen : h .closed ≡ false) (opened : leb opening (h .time) ≡ true) (inTime : leb (h .time) closing ≡ true)
+    (bid : awayInRange (h .away .bid) ≡ true) (offer : awayInRange (h .away .offer) ≡ true) where
+  buys-sound : {buys sells : List Resting} → Sides true (h .last) buys sells → Sound (record { held = h; buys = buys; sells = sells })
   buys-sound {buys = buys} {sells = sells} s = record {
     buysFit = s .ownFits;
     sellsFit = s .oppositeFits;
     buysRanked = s .ownRanked;
     sellsRanked = s .oppositeRanked;
-    inRange = ranges-every n (all-both (s .ownInRange) (s .oppositeInRange));
+    inRange = ranges-every (h .last) (all-both (s .ownInRange) (s .oppositeInRange));
     once = s .once;
     isApart = apart-best buys sells (s .isApart);
     opened = opened;
     inTime = inTime;
     bid = bid;
     offer = offer;
-    closedEmpty = refl;
+    closedEmpty = rw isOpen refl;
   }
 
-  pub sides-sound : (buy : Bool) {own opposite : List Resting} → Sides buy n own opposite
-      → Sound (record { last = n; time = time; away = away; closed = false; buys = if buy then own else opposite; sells = if buy then opposite else own })
+  pub sides-sound : (buy : Bool) {own opposite : List Resting} → Sides buy (h .last) own opposite
+      → Sound (record { held = h; buys = if buy then own else opposite; sells = if buy then opposite else own })
   sides-sound true s = buys-sound s
   sides-sound false s = buys-sound (sides-flip false s)
 

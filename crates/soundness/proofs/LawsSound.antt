@@ -15,14 +15,14 @@ pub record Sound (b : Book) : Type 0 where
   pub sellsFit : length (b .sells) ≤ placesASide
   pub buysRanked : inRankOrder true (b .buys) ≡ true
   pub sellsRanked : inRankOrder false (b .sells) ≡ true
-  pub inRange : every (restingInRange (b .last)) (b .buys ++ b .sells) ≡ true
+  pub inRange : every (restingInRange (b .held .last)) (b .buys ++ b .sells) ≡ true
   pub once : distinct (numbers (b .buys ++ b .sells)) ≡ true
   pub isApart : apart (b .buys) (b .sells) ≡ true
-  pub opened : leb opening (b .time) ≡ true
-  pub inTime : leb (b .time) closing ≡ true
-  pub bid : awayInRange (b .away .bid) ≡ true
-  pub offer : awayInRange (b .away .offer) ≡ true
-  pub closedEmpty : (not (b .closed) || eqb (length (b .buys ++ b .sells)) 0) ≡ true
+  pub opened : leb opening (b .held .time) ≡ true
+  pub inTime : leb (b .held .time) closing ≡ true
+  pub bid : awayInRange (b .held .away .bid) ≡ true
+  pub offer : awayInRange (b .held .away .offer) ≡ true
+  pub closedEmpty : (not (b .held .closed) || eqb (length (b .buys ++ b .sells)) 0) ≡ true
 
 -- twelve tests that hold together hold one by one
 twelve : (t1 t2 t3 t4 t5 t6 t7 t8 t9 t10 t11 t12 : Bool) → (t1 && t2 && t3 && t4 && t5 && t6 && t7 && t8 && t9 && t10 && t11 && t12) ≡ true
@@ -44,7 +44,7 @@ twelve t1 t2 t3 t4 t5 t6 t7 t8 t9 t10 t11 t12 s12 =
 pub sound-is : (b : Book) → sound b ≡ true → Sound b
 unfolding sound
 sound-is b s =
-    let p = twelve (leb (length (b .buys)) placesASide) (leb (length (b .sells)) placesASide) (inRankOrder true (b .buys)) (inRankOrder false (b .sells)) (every (restingInRange (b .last)) (b .buys ++ b .sells)) (distinct (numbers (b .buys ++ b .sells))) (apart (b .buys) (b .sells)) (leb opening (b .time)) (leb (b .time) closing) (awayInRange (b .away .bid)) (awayInRange (b .away .offer)) (not (b .closed) || eqb (length (b .buys ++ b .sells)) 0) s in
+    let p = twelve (leb (length (b .buys)) placesASide) (leb (length (b .sells)) placesASide) (inRankOrder true (b .buys)) (inRankOrder false (b .sells)) (every (restingInRange (b .held .last)) (b .buys ++ b .sells)) (distinct (numbers (b .buys ++ b .sells))) (apart (b .buys) (b .sells)) (leb opening (b .held .time)) (leb (b .held .time) closing) (awayInRange (b .held .away .bid)) (awayInRange (b .held .away .offer)) (not (b .held .closed) || eqb (length (b .buys ++ b .sells)) 0) s in
     record {
       buysFit = leb-true (length (b .buys)) placesASide (p .0);
       sellsFit = leb-true (length (b .sells)) placesASide (p .1);

@@ -15,19 +15,8 @@ use Rattle.basics.proofs.LawsChoice.{holds-or-not, and-left, and-right, or-neit
 use Rattle.kinds.specs.Kinds.{shares}
 use Rattle.rules.specs.declared.Resting.{Resting}
 use Rattle.rules.specs.Book.{numbers, ranksBefore, inRankOrder}
-use Rattle.rules.specs.Working.{after, kept}
+use Rattle.rules.specs.Working.{withShares, after, kept}
 use Rattle.soundness.proofs.LawsRank.{ranked-first, ranked-rest, ranked-more}
-
--- the same order with other shares
-abbrev pub withShares : ℕ → Resting → Resting
-withShares left h = record {
-  number = h .number;
-  price = h .price;
-  shares = shares left;
-  displayed = h .displayed;
-  back = h .back;
-  stamp = h .stamp;
-}
 
 -- orders of which some are taken away and others keep some of their shares
 pub data Thinned : List Resting → List Resting → Type 0 where

@@ -1,7 +1,7 @@
 -- The two kinds of answer: a refusal leaves all as it was, and an accepted command does what 01 says. Assumes nothing.
 use Prim.Native.Nat.{ℕ, _<_}
 use mathlib.Core.List.{List, []}
-use mathlib.Core.Path.{_≡_, ap}
+use mathlib.Core.Path.{_≡_, sym, ap, _∙_}
 use lib.ListN.{length}
 use native.Mathlib.Omega.{arith}
 use borrow.Author.Tests.{ne-eqb}
@@ -19,7 +19,7 @@ use Rattle.rules.specs.Working.{Done, does}
 use Rattle.tables.specs.declared.Head.{Head}
 use Rattle.tables.specs.Tables.{bookOn, headOf}
 use Rattle.tables.specs.declared.Step.{Step}
-use Rattle.tables.specs.Answers.{bodyAnswer, stepOf, Stands}
+use Rattle.tables.specs.Answers.{bodyAnswer, stepOf, Left, Stands}
 
 abbrev pub refusedWith : ℕ → Book → Answer
 refusedWith k b = record { refusal = k; book = b; events = [] }
@@ -40,10 +40,10 @@ module _ (n : Number) (time : ℕ) (body : Body) (b : Book) where
 
 -- ── In a header and two tables ──
 
--- an answer stands in what a step leaves
-abbrev pub Left : Step → List (List ℕ) → List (List ℕ) → List ℕ → List ℕ → Answer → Type 0
-Left r t u out′ out a =
-    (r ≡ stepOf a) × ((t ≡ tableOf (a .book .buys)) × ((u ≡ tableOf (a .book .sells)) × (out′ ≡ onto (eventLines (a .events)) out)))
+-- what is left of an answer is fixed by it: the step, both tables and the bytes
+pub left-determined : (out : List ℕ) (a : Answer) {r r′ : Step} {t t′ u u′ : List (List ℕ)} {o o′ : List ℕ} → Left r t u o out a → Left r′ t′ u′ o′ out a
+    → (r ≡ r′) × (t ≡ t′) × (u ≡ u′) × (o ≡ o′)
+left-determined out a p q = (p .0 ∙ sym (q .0), p .1 .0 ∙ sym (q .1 .0), p .1 .1 .0 ∙ sym (q .1 .1 .0), p .1 .1 .1 ∙ sym (q .1 .1 .1))
 
 module _ (h : Head) (t u : List (List ℕ)) (stands : Stands h t u) where
   -- the header of the book that stands there
@@ -75,5 +75,5 @@ left-done d h len t u out′ out a e head long buys sells written =
 
 -- the header of a book whose sides hold n and m orders
 pub head-is : (b : Book) (n m : ℕ) → length (b .buys) ≡ n → length (b .sells) ≡ m
-    → record { last = b .last; time = b .time; away = b .away; closed = b .closed; buys = n; sells = m } ≡ headOf b
+    → record { held = b .held; buys = n; sells = m } ≡ headOf b
 head-is b n m e d = rw (e, d)

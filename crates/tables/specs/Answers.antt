@@ -5,8 +5,9 @@ use mathlib.Core.Bool.{true}
 use mathlib.Core.List.{List}
 use mathlib.Core.Path.{_≡_}
 use lib.ListN.{length}
+use Rattle.basics.specs.Bytes.{onto}
 use Rattle.kinds.specs.declared.Number.{Number}
-use Rattle.rows.specs.Table.{Holds}
+use Rattle.rows.specs.Table.{tableOf, Holds}
 use Rattle.rules.specs.declared.Body.{Body}
 use Rattle.rules.specs.declared.Command.{Command}
 use Rattle.rules.specs.declared.Reading.the-variants as reading
@@ -28,6 +29,12 @@ bodyAnswer n time body b = answer (firstOf (bodyRefusals b body)) (reading.Is (r
 
 abbrev pub stepOf : Answer → Step
 stepOf a = record { refusal = a .refusal; head = headOf (a .book); length = length (eventLines (a .events)) }
+
+-- what a command leaves of a book in a header and two tables: `a` is 01's answer, `t` and `u` are the tables afterwards, and `out′` is what is
+-- then in the output, where `out` was
+abbrev pub Left : Step → List (List ℕ) → List (List ℕ) → List ℕ → List ℕ → Answer → Type 0
+Left r t u out′ out a =
+    (r ≡ stepOf a) × ((t ≡ tableOf (a .book .buys)) × ((u ≡ tableOf (a .book .sells)) × (out′ ≡ onto (eventLines (a .events)) out)))
 
 -- a sound book stands in a header and two tables
 pub record Stands (h : Head) (t u : List (List ℕ)) : Type 0 where

@@ -11,32 +11,11 @@ abbrev pub placesIn : ℕ → List (List ℕ) → Places
 placesIn used t = record { used = used; places = map orderOf t }
 
 abbrev pub recordOn : Head → List (List ℕ) → List (List ℕ) → BookRecord
-recordOn h buys sells = record {
-  last = h .last;
-  time = h .time;
-  away = h .away;
-  closed = h .closed;
-  buys = placesIn (h .buys) buys;
-  sells = placesIn (h .sells) sells;
-}
+recordOn h buys sells = record { held = h .held; buys = placesIn (h .buys) buys; sells = placesIn (h .sells) sells }
 
 abbrev pub bookOn : Head → List (List ℕ) → List (List ℕ) → Book
-bookOn h buys sells = record {
-  last = h .last;
-  time = h .time;
-  away = h .away;
-  closed = h .closed;
-  buys = side (h .buys) buys;
-  sells = side (h .sells) sells;
-}
+bookOn h buys sells = record { held = h .held; buys = side (h .buys) buys; sells = side (h .sells) sells }
 
 -- the header of a book
 abbrev pub headOf : Book → Head
-headOf b = record {
-  last = b .last;
-  time = b .time;
-  away = b .away;
-  closed = b .closed;
-  buys = length (b .buys);
-  sells = length (b .sells);
-}
+headOf b = record { held = b .held; buys = length (b .buys); sells = length (b .sells) }

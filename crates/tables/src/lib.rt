@@ -1,21 +1,16 @@
 // The book as a small header by value and two lent tables of rows, the form in which commands are worked. The places of a side
 // are loaded into a table once, and saved once.
-use kinds::Number;
 use rows::PLACES;
 use rows::WORDS;
-use rules::Away;
+use rules::Held;
 use rules::Resting;
 ghost use mathlib.Core.List.{map};
 ghost use mathlib.Core.Path.{_≡_};
 ghost use Rattle.rows.specs.Table.{orderOf, rowOf};
 
-// All of a book but its orders: of these, how many each side holds. The flag comes first: between the other fields it would leave a
-// gap of seven bytes, which is copied with them at every command.
+// All of a book but its orders: of these, how many each side holds.
 pub struct Head {
-    pub closed: bool,
-    pub last: Number,
-    pub time: u32,
-    pub away: Away,
+    pub held: Held,
     pub buys: usize,
     pub sells: usize,
 }

@@ -99,18 +99,18 @@ last-two n left (Rests price) = also tt none
 last-two n left (Cancels reason) = also tt none
 
 -- the number of an accepted command is above that of every resting order
-does-two : (b : Book) (n : Number) (time : ℕ) (c : Body) → sound b ≡ true → n .0 ≡ b .last .0 + 1 → All TwoParties (does n time c b .events)
+does-two : (b : Book) (n : Number) (time : ℕ) (c : Body) → sound b ≡ true → n .0 ≡ b .held .last .0 + 1 → All TwoParties (does n time c b .events)
 unfolding does accept cancel quote close
 does-two b n time (body.Order o) s next =
     let opposite = oppositeSide (buying o) b in
     let sides = sides-of (buying o) b (sound-is b s) in
     let new : All (λ (h : Resting). n .0 ≢ h .number .0) opposite = all-alike (λ h r. λ (z : n .0 ≡ h .number .0). omega (arith, z, r .upToLast, next)) (sides .oppositeInRange) in
-    all-both (executions-two n (takings o (b .away) opposite) new) (last-two n (remainder o (b .away) opposite) (ending o (b .away) opposite))
+    all-both (executions-two n (takings o (b .held .away) opposite) new) (last-two n (remainder o (b .held .away) opposite) (ending o (b .held .away) opposite))
 does-two b n time (body.Cancel of) s next = all-both (cancels-two byCommand (isNumber of) (b .buys)) (cancels-two byCommand (isNumber of) (b .sells))
 does-two b n time (body.Quote away) s next = all-both (moves-two true away (b .buys)) (moves-two false away (b .sells))
 does-two b n time body.Close s next = all-both (cancels-two atClose (λ h. true) (b .buys)) (cancels-two atClose (λ h. true) (b .sells))
 
-done-two : (b : Book) (r : Reading) → sound b ≡ true → commandNumber r ≡ b .last .0 + 1 → All TwoParties (doneBy r b .events)
+done-two : (b : Book) (r : Reading) → sound b ≡ true → commandNumber r ≡ b .held .last .0 + 1 → All TwoParties (doneBy r b .events)
 unfolding doneBy
 done-two b reading.Bad s next = none
 done-two b (reading.Is c) s next = does-two b (c .number) (c .time) (c .body) s next

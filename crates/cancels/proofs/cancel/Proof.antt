@@ -15,7 +15,7 @@ use Rattle.rules.specs.declared.Resting.{Resting}
 use Rattle.rules.specs.Book.{Book}
 use Rattle.rules.specs.EventLines.{eventLines, byCommand}
 use Rattle.rules.specs.Step.{Answer}
-use Rattle.rules.specs.Working.{Done, isNumber, kept, cancels, withSides}
+use Rattle.rules.specs.Working.{withAccepted, Done, isNumber, kept, cancels, withSides}
 use Rattle.soundness.proofs.LawsSound.{Sound, sound-is}
 use Rattle.tables.specs.declared.Head.{Head}
 use Rattle.tables.specs.Answers.{bodyAnswer}
@@ -84,7 +84,7 @@ returns c =
     let a = s .args in
     let b = book s in
     let d : Done = record { book = withSides (a .number) (a .time) b (kept (gone s) (b .buys)) (b .sells); events = cancels byCommand (gone s) (b .buys) } in
-    let head : Head = record { last = a .number; time = a .time; away = a .h .away; closed = a .h .closed; buys = a .h .buys - 1; sells = a .h .sells } in
+    let head : Head = record { held = withAccepted (a .number) (a .time) (a .h .held); buys = a .h .buys - 1; sells = a .h .sells } in
     let fewer : length (d .book .buys) ≡ a .h .buys - 1 =
     length-kept (a .of) (b .buys) (buys-once b (facts s)) (buy-named (c .before)) ∙ ap (λ (n : ℕ). n - 1) (buys-long s) in
     let left =
@@ -152,7 +152,7 @@ returns-2 c =
     let a = s .args in
     let b = book s in
     let d : Done = record { book = withSides (a .number) (a .time) b (b .buys) (kept (gone s) (b .sells)); events = cancels byCommand (gone s) (b .sells) } in
-    let head : Head = record { last = a .number; time = a .time; away = a .h .away; closed = a .h .closed; buys = a .h .buys; sells = a .h .sells - 1 } in
+    let head : Head = record { held = withAccepted (a .number) (a .time) (a .h .held); buys = a .h .buys; sells = a .h .sells - 1 } in
     let fewer : length (d .book .sells) ≡ a .h .sells - 1 =
     length-kept (a .of) (b .sells) (sells-once b (facts s)) (sell-named (c .before)) ∙ ap (λ (n : ℕ). n - 1) (sells-long s) in
     let left =

@@ -14,7 +14,7 @@ use Rattle.rows.proofs.LawsTable.{length-side}
 use Rattle.rules.specs.declared.Body.the-variants as body
 use Rattle.rules.specs.declared.Event.{Event}
 use Rattle.rules.specs.EventLines.{eventLines, atClose}
-use Rattle.rules.specs.Working.{Done}
+use Rattle.rules.specs.Working.{withAccepted, shut, Done}
 use Rattle.rules.proofs.LawsEvents.{cancelled-length, eventLines-append, lines-behind}
 use Rattle.tables.specs.declared.Head.{Head}
 use Rattle.tables.specs.Answers.{bodyAnswer}
@@ -61,8 +61,8 @@ drop-first-requires c κs = search needs
 drop-first-requires-2 : tie.Need-drop-first-requires-2
 drop-first-requires-2 c κs = search needs
 
-add-t17 : tie.Need-add-t17
-add-t17 c = search needs
+add-t19 : tie.Need-add-t19
+add-t19 c = search needs
 
 same-length : tie.Need-same-length
 same-length c = search needs
@@ -70,7 +70,7 @@ same-length c = search needs
 returns : tie.Need-returns
 unfolding events
 returns c =
-    let second = c .before .before .before .before .before .before .before in
+    let second = c .before .before .before .before .before .before .before .before in
     let first = second .before .before .before .before .before in
     let start = first .before .before .before .before in
     let a = start .args in
@@ -84,15 +84,15 @@ returns c =
     let more : y .result ≡ length (eventLines sold) = y .ensures .0 ∙ sym (events-length (a .h .sells) (now (a .sells)) (stands .sells)) in
     let all : x .result + y .result ≡ length (eventLines (bought ++ sold)) =
     rw (eventLines-append bought sold) (omega (arith, length-append (eventLines bought) (eventLines sold), len, more)) in
-    let head : Head = record { last = a .number; time = a .time; away = a .h .away; closed = true; buys = 0; sells = 0 } in
+    let head : Head = record { held = shut (withAccepted (a .number) (a .time) (a .h .held)); buys = 0; sells = 0 } in
     let d : Done = record {
-      book = record { last = a .number; time = a .time; away = a .h .away; closed = true; buys = []; sells = [] };
+      book = record { held = shut (withAccepted (a .number) (a .time) (a .h .held)); buys = []; sells = [] };
       events = bought ++ sold;
     } in
-    let buys = c .before .before .before .drop-first .ensures ∙ ap tableOf (dropped (a .h .buys) (now (a .buys)) (stands .buys)) in
-    let sells = c .before .drop-first2 .ensures ∙ ap tableOf (dropped (a .h .sells) (now (a .sells)) (stands .sells)) in
+    let buys = c .before .before .before .before .drop-first .ensures ∙ ap tableOf (dropped (a .h .buys) (now (a .buys)) (stands .buys)) in
+    let sells = c .before .before .drop-first2 .ensures ∙ ap tableOf (dropped (a .h .sells) (now (a .sells)) (stands .sells)) in
     let written = lines-behind bought sold (x .result) (x .last .1 .1 .1 .0) (now (a .out)) (y .last .1 .1 .1 .0) len (x .ensures .1) (y .ensures .1) in
-    left-done d head (x .result + y .result) (c .before .before .before .drop-first .last .0) (c .before .drop-first2 .last .0) _ (now (a .out))
+    left-done d head (x .result + y .result) (c .before .before .before .before .drop-first .last .0) (c .before .before .drop-first2 .last .0) _ (now (a .out))
     (bodyAnswer (a .number) (a .time) body.Close b) (closed-is (a .number) (a .time) b) refl all buys sells written
 
 pub close-spec : {M : Type 1} → statement M
@@ -106,6 +106,6 @@ close-spec =
     report-cancelled-requires-2
     drop-first-requires
     drop-first-requires-2
-    add-t17
+    add-t19
     same-length
     returns)

@@ -16,18 +16,18 @@ whole-requires-2 c κs = search needs
 
 returns : tie.Need-returns
 returns c =
-    let a = c .before .before .before .before .args in
+    let a = c .before .before .before .before .before .args in
     sym (over-full (a .h) (now (a .buys)) (now (a .sells)) (c .if1 .taken))
 
 side-sound-requires : tie.Need-side-sound-requires
 side-sound-requires c κs =
-    let a = c .before .before .before .before .args in
+    let a = c .before .before .before .before .before .args in
     both-fit (a .h .buys) (a .h .sells) (c .if1 .left) .0
 
 returns-2 : tie.Need-returns-2
 returns-2 c =
     let first = c .before .before in
-    let a = first .before .before .before .before .args in
+    let a = first .before .before .before .before .before .args in
     let f : length (now (a .buys)) ≡ placesASide = first .before .before .whole .ensures in
     let g : length (now (a .sells)) ≡ placesASide = first .before .whole2 .ensures in
     let b = c .before .side-sound in
@@ -35,14 +35,14 @@ returns-2 c =
 
 side-sound-requires-2 : tie.Need-side-sound-requires-2
 side-sound-requires-2 c κs =
-    let a = c .before .before .before .before .before .before .args in
+    let a = c .before .before .before .before .before .before .before .args in
     both-fit (a .h .buys) (a .h .sells) (c .before .before .if1 .left) .1
 
 returns-3 : tie.Need-returns-3
 returns-3 c =
     let second = c .before .before in
     let first = second .before .before in
-    let a = first .before .before .before .before .args in
+    let a = first .before .before .before .before .before .args in
     let f : length (now (a .buys)) ≡ placesASide = first .before .before .whole .ensures in
     let g : length (now (a .sells)) ≡ placesASide = first .before .whole2 .ensures in
     let b = second .before .side-sound in
@@ -51,7 +51,7 @@ returns-3 c =
 
 none-on-both-requires : tie.Need-none-on-both-requires
 none-on-both-requires c κs =
-    let a = c .before .before .before .before .before .before .before .before .args in
+    let a = c .before .before .before .before .before .before .before .before .before .args in
     both-fit (a .h .buys) (a .h .sells) (c .before .before .before .before .if1 .left)
 
 returns-4 : tie.Need-returns-4
@@ -59,7 +59,7 @@ returns-4 c =
     let third = c .before .before in
     let second = third .before .before in
     let first = second .before .before in
-    let a = first .before .before .before .before .args in
+    let a = first .before .before .before .before .before .args in
     let f : length (now (a .buys)) ≡ placesASide = first .before .before .whole .ensures in
     let g : length (now (a .sells)) ≡ placesASide = first .before .whole2 .ensures in
     let b = second .before .side-sound in
@@ -72,7 +72,7 @@ head-sound-requires c κs = search needs
 
 are-apart-requires : tie.Need-are-apart-requires
 are-apart-requires c κs =
-    let a = c .before .before .before .before .before .before .before .before .before .before .before .args in
+    let a = c .before .before .before .before .before .before .before .before .before .before .before .before .args in
     both-fit (a .h .buys) (a .h .sells) (c .before .before .before .before .before .before .before .if1 .left)
 
 returns-5 : tie.Need-returns-5
@@ -81,7 +81,7 @@ returns-5 c =
     let third = fourth .before .before in
     let second = third .before .before in
     let first = second .before .before in
-    let a = first .before .before .before .before .args in
+    let a = first .before .before .before .before .before .args in
     let f : length (now (a .buys)) ≡ placesASide = first .before .before .whole .ensures in
     let g : length (now (a .sells)) ≡ placesASide = first .before .whole2 .ensures in
     let b = second .before .side-sound in

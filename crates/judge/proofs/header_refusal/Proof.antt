@@ -20,7 +20,7 @@ returns : tie.Need-returns
 unfolding firstOf headerRefusals
 returns c =
     let a = c .before .before .before .before .before .args in
-    rw (le-leb (a .c .number .0) (a .a .last .0) (c .if1 .taken))
+    rw (le-leb (a .c .number .0) (a .h .last .0) (c .if1 .taken))
 
 sub-if2 : tie.Need-sub-if2
 sub-if2 c = search needs
@@ -29,14 +29,14 @@ returns-2 : tie.Need-returns-2
 unfolding firstOf headerRefusals
 returns-2 c =
     let a = c .before .before .before .before .before .before .before .before .args in
-    let over : a .a .last .0 + 1 < a .c .number .0 = omega arith in
+    let over : a .h .last .0 + 1 < a .c .number .0 = omega arith in
     rw (lt-leb _ _ (c .before .before .before .if1 .left), lt-ltb _ _ over)
 
 returns-3 : tie.Need-returns-3
 unfolding firstOf headerRefusals
 returns-3 c =
     let a = c .before .before .before .before .before .before .before .before .before .args in
-    let next : a .c .number .0 ≤ a .a .last .0 + 1 = omega arith in
+    let next : a .c .number .0 ≤ a .h .last .0 + 1 = omega arith in
     rw (lt-leb _ _ (c .before .before .before .before .if1 .left), le-ltb _ _ next, c .if3 .taken)
 
 returns-4 : tie.Need-returns-4
@@ -45,9 +45,9 @@ returns-4 c =
     let called = c .before .before .before .before .before .before .before .before .before in
     let a = called .before .before .args in
     let cl : called .is-close .result ≡ isClose (a .c .body) = called .is-close .ensures in
-    let next : a .c .number .0 ≤ a .a .last .0 + 1 = omega arith in
-    let late : untimely (bookHolding (a .a)) (a .c) ≡ true =
-    sym (late-by-values (ltb (a .c .time) (a .a .time)) (ltb (a .c .time) opening) (isClose (a .c .body)) (ltb closing (a .c .time)) (leb closing (a .c .time)))
+    let next : a .c .number .0 ≤ a .h .last .0 + 1 = omega arith in
+    let late : untimely (bookHolding (a .h)) (a .c) ≡ true =
+    sym (late-by-values (ltb (a .c .time) (a .h .time)) (ltb (a .c .time) opening) (isClose (a .c .body)) (ltb closing (a .c .time)) (leb closing (a .c .time)))
     ∙ (rw cl at (c .if4 .taken)) in
     rw (lt-leb _ _ (c .before .before .before .before .before .before .if1 .left), le-ltb _ _ next, c .before .before .if3 .left, late)
 
@@ -57,9 +57,9 @@ returns-5 c =
     let called = c .before .before .before .before .before .before .before .before .before in
     let a = called .before .before .args in
     let cl : called .is-close .result ≡ isClose (a .c .body) = called .is-close .ensures in
-    let next : a .c .number .0 ≤ a .a .last .0 + 1 = omega arith in
-    let timely : untimely (bookHolding (a .a)) (a .c) ≡ false =
-    sym (late-by-values (ltb (a .c .time) (a .a .time)) (ltb (a .c .time) opening) (isClose (a .c .body)) (ltb closing (a .c .time)) (leb closing (a .c .time)))
+    let next : a .c .number .0 ≤ a .h .last .0 + 1 = omega arith in
+    let timely : untimely (bookHolding (a .h)) (a .c) ≡ false =
+    sym (late-by-values (ltb (a .c .time) (a .h .time)) (ltb (a .c .time) opening) (isClose (a .c .body)) (ltb closing (a .c .time)) (leb closing (a .c .time)))
     ∙ (rw cl at (c .if4 .left)) in
     rw (lt-leb _ _ (c .before .before .before .before .before .before .if1 .left), le-ltb _ _ next, c .before .before .if3 .left, timely)
 

@@ -47,8 +47,8 @@ returns-2 c =
 
 match-order-requires : tie.Need-match-order-requires
 match-order-requires c κs =
-    let a = c .before .before .before .before .before .before .before .before .before .before .before .args in
-    let p = c .before .before .before .before .before .before .before .before .before .before .before .pre in
+    let a = c .before .before .before .before .before .before .before .before .before .before .before .before .args in
+    let p = c .before .before .before .before .before .before .before .before .before .before .before .before .pre in
     let q : buying (a .o) ≡ true = eq-eqb _ _ (c .before .before .before .if3 .taken) in
     let r = ready true (bookOn (a .h) (now (a .buys)) (now (a .sells))) (p .0 .isSound) in
     (p .0 .buys, p .0 .sells, r .0, rw q (r .1), rw q (r .2), p .1, rw q (r .3))
@@ -61,19 +61,19 @@ same-length c = search needs
 
 returns-3 : tie.Need-returns-3
 returns-3 c =
-    let a = c .before .before .before .before .before .before .before .before .before .before .before .before .before .before .before .args in
-    let stands = c .before .before .before .before .before .before .before .before .before .before .before .before .before .before .before .pre .0 in
+    let a = c .before .before .before .before .before .before .before .before .before .before .before .before .before .before .before .before .args in
+    let stands = c .before .before .before .before .before .before .before .before .before .before .before .before .before .before .before .before .pre .0 in
     let x = c .before .before .before .match-order in
     let q : buying (a .o) ≡ true = eq-eqb _ _ (c .before .before .before .before .before .before .before .if3 .taken) in
-    let e : lawful (a .o .word) ≡ true = sym (c .before .before .before .before .before .before .before .before .before .before .before .before .before .lawful .ensures) ∙ not-false _ (c .before .before .before .before .before .before .before .before .before .before .before .before .if1 .left) in
-    let f : orderInRange (a .o) ≡ true = sym (c .before .before .before .before .before .before .before .before .before .before .before .order-in-range .ensures) ∙ not-false _ (c .before .before .before .before .before .before .before .before .before .before .if2 .left) in
+    let e : lawful (a .o .word) ≡ true = sym (c .before .before .before .before .before .before .before .before .before .before .before .before .before .before .lawful .ensures) ∙ not-false _ (c .before .before .before .before .before .before .before .before .before .before .before .before .before .if1 .left) in
+    let f : orderInRange (a .o) ≡ true = sym (c .before .before .before .before .before .before .before .before .before .before .before .before .order-in-range .ensures) ∙ not-false _ (c .before .before .before .before .before .before .before .before .before .before .before .if2 .left) in
     let k = left-entered (a .h) (now (a .buys)) (now (a .sells)) stands (a .number) (a .time) (now (a .out)) (a .o) e f true q (x .result) _ _ _ (x .ensures .0) (x .ensures .1 .0) (x .ensures .1 .1 .0) (x .ensures .1 .1 .1) in
     (c .settle .ensures ∙ k .0, k .1)
 
 match-order-requires-2 : tie.Need-match-order-requires-2
 match-order-requires-2 c κs =
-    let a = c .before .before .before .before .before .before .before .before .before .before .before .args in
-    let p = c .before .before .before .before .before .before .before .before .before .before .before .pre in
+    let a = c .before .before .before .before .before .before .before .before .before .before .before .before .args in
+    let p = c .before .before .before .before .before .before .before .before .before .before .before .before .pre in
     let q : buying (a .o) ≡ false = ne-eqb _ _ (c .before .before .before .if3 .left) in
     let r = ready false (bookOn (a .h) (now (a .buys)) (now (a .sells))) (p .0 .isSound) in
     (p .0 .sells, p .0 .buys, r .0, rw q (r .1), rw q (r .2), p .1, rw q (r .3))
@@ -86,12 +86,12 @@ same-length-2 c = search needs
 
 returns-4 : tie.Need-returns-4
 returns-4 c =
-    let a = c .before .before .before .before .before .before .before .before .before .before .before .before .before .before .before .args in
-    let stands = c .before .before .before .before .before .before .before .before .before .before .before .before .before .before .before .pre .0 in
+    let a = c .before .before .before .before .before .before .before .before .before .before .before .before .before .before .before .before .args in
+    let stands = c .before .before .before .before .before .before .before .before .before .before .before .before .before .before .before .before .pre .0 in
     let x = c .before .before .before .match-order2 in
     let q : buying (a .o) ≡ false = ne-eqb _ _ (c .before .before .before .before .before .before .before .if3 .left) in
-    let e : lawful (a .o .word) ≡ true = sym (c .before .before .before .before .before .before .before .before .before .before .before .before .before .lawful .ensures) ∙ not-false _ (c .before .before .before .before .before .before .before .before .before .before .before .before .if1 .left) in
-    let f : orderInRange (a .o) ≡ true = sym (c .before .before .before .before .before .before .before .before .before .before .before .order-in-range .ensures) ∙ not-false _ (c .before .before .before .before .before .before .before .before .before .before .if2 .left) in
+    let e : lawful (a .o .word) ≡ true = sym (c .before .before .before .before .before .before .before .before .before .before .before .before .before .before .lawful .ensures) ∙ not-false _ (c .before .before .before .before .before .before .before .before .before .before .before .before .before .if1 .left) in
+    let f : orderInRange (a .o) ≡ true = sym (c .before .before .before .before .before .before .before .before .before .before .before .before .order-in-range .ensures) ∙ not-false _ (c .before .before .before .before .before .before .before .before .before .before .before .if2 .left) in
     let k = left-entered (a .h) (now (a .buys)) (now (a .sells)) stands (a .number) (a .time) (now (a .out)) (a .o) e f false q (x .result) _ _ _ (x .ensures .0) (x .ensures .1 .0) (x .ensures .1 .1 .0) (x .ensures .1 .1 .1) in
     (c .settle2 .ensures ∙ k .0, k .1)
 

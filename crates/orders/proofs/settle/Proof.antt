@@ -12,10 +12,10 @@ returns : tie.Need-returns
 returns c = c .refuse .ensures ∙ rw (ne-eqb (c .before .before .before .args .r .refusal) 0 (c .before .if1 .taken))
 
 returns-2 : tie.Need-returns-2
-returns-2 c = rw (eq-eqb (c .before .before .before .before .args .r .refusal) 0 (c .before .before .if1 .left), c .before .if2 .taken)
+returns-2 c = rw (eq-eqb (c .before .before .before .before .before .args .r .refusal) 0 (c .before .before .before .if1 .left), c .if2 .taken)
 
 returns-3 : tie.Need-returns-3
-returns-3 c = rw (eq-eqb (c .before .before .before .before .args .r .refusal) 0 (c .before .before .if1 .left), c .before .if2 .left)
+returns-3 c = rw (eq-eqb (c .before .before .before .before .before .args .r .refusal) 0 (c .before .before .before .if1 .left), c .if2 .left)
 
 pub settle-spec : {M : Type 1} → statement M
 settle-spec = tie.close (tie.spec refuse-requires returns returns-2 returns-3)

@@ -18,7 +18,7 @@ use Rattle.rules.specs.declared.Body.the-variants as body
 use Rattle.rules.specs.declared.Resting.{Resting}
 use Rattle.rules.specs.Book.{awayInRange, placesASide}
 use Rattle.rules.specs.EventLines.{eventLines}
-use Rattle.rules.specs.Working.{firstMove, setAnew, moveLines, afterMoves, quote}
+use Rattle.rules.specs.Working.{withAccepted, withAway, firstMove, setAnew, moveLines, afterMoves, quote}
 use Rattle.rules.proofs.LawsEvents.{eventLines-append, lines-behind, moves-long}
 use Rattle.soundness.proofs.LawsSound.{sound-is}
 use Rattle.tables.specs.declared.Head.{Head}
@@ -154,9 +154,9 @@ module _ (c : tie.After-move-side2) where
       let asked : c .move-side2 .last .0 ≡ tableOf (afterMoves (first .before .before .before .before .before .before .before .before .before .args .number) (first .move-side .result .next) false (away first) sold) = c .move-side2 .ensures .1 .0 in
       asked ∙ ap (λ (k : ℕ). tableOf (afterMoves (first .before .before .before .before .before .before .before .before .before .args .number) k false (away first) sold)) (next-is first)
 
-add-t23 : tie.Need-add-t23
-add-t23 c =
-    let y = c .before .before .before in
+add-t25 : tie.Need-add-t25
+add-t25 c =
+    let y = c .before .before .before .before in
     let k = first y in
     let p = k .before .before .before .before .before .before .before .before .before .pre in
     record { fits = omega (arith, long-fits k, sold-long y, lines-fit (k .before .before .before .before .before .before .before .before .before .args .h .sells) (now (k .before .before .before .before .before .before .before .before .before .args .sells)) (p .0 .sells) false (away k)) }
@@ -167,7 +167,7 @@ same-length c = search needs
 returns-2 : tie.Need-returns-2
 unfolding quote
 returns-2 c =
-    let y = c .before .before .before in
+    let y = c .before .before .before .before in
     let x = first y in
     let start = x .before .before .before .before .before .before .before .before .before in
     let a = start .args in
@@ -176,7 +176,7 @@ returns-2 c =
     let offer : x .before .before .before .before .away-in-range2 .result ≡ awayInRange (a .away .offer) = x .before .before .before .before .away-in-range2 .ensures in
     let e : not (awayInRange (a .away .bid) && awayInRange (a .away .offer)) ≡ false = rw (sym bid, sym offer) (x .before .before .before .if1 .left) in
     let d = quote (a .number) (a .time) (a .away) b in
-    let after : Head = record { last = a .number; time = a .time; away = a .away; closed = a .h .closed; buys = x .move-side .result .held; sells = y .move-side2 .result .held } in
+    let after : Head = record { held = withAway (a .away) (withAccepted (a .number) (a .time) (a .h .held)); buys = x .move-side .result .held; sells = y .move-side2 .result .held } in
     let head : after ≡ headOf (d .book) = head-is (d .book) (x .move-side .result .held) (y .move-side2 .result .held)
     (sym (ap (λ (m : Moves). m .held) (moves-are x))) (sym (ap (λ (m : Moves). m .held) (sold-are y))) in
     let lines = moveLines true (a .away) (bought x) in
@@ -201,6 +201,6 @@ quote-spec =
     part-move-side-start
     part-move-side-end
     move-side-requires-2
-    add-t23
+    add-t25
     same-length
     returns-2)
