@@ -15,14 +15,15 @@ use Rattle.rules.specs.Book.{Book, BookRecord, bookIn, recordOf, recordSound}
 use Rattle.rules.specs.EventLines.{eventLines}
 use Rattle.rules.specs.Refusals.{leastRoom}
 use Rattle.rules.specs.Step.{Answer, Returned, answer, stepOn}
+use Rattle.rows.specs.Table.{Holds}
 use Rattle.tables.specs.declared.Head.{Head}
-use Rattle.tables.specs.Tables.{bookOn, recordOn}
+use Rattle.tables.specs.Tables.{bookOn, headOf}
 use Rattle.tables.specs.declared.Step.{Step}
 use Rattle.tables.specs.Answers.{Left, answerOf}
+use Rattle.tables.proofs.LawsAnswers.{book-back}
 use Rattle.book.specs.declared.Book as value
 use Rattle.book.specs.declared.Reply.{Reply}
 use Rattle.book.specs.Record.{recordIn, bookWith, replyOf}
-use Rattle.book.proofs.LawsRecord.{saved-as}
 use Rattle.book.proofs.LawsStep.{step-answer}
 
 -- a refusal has no event
@@ -45,12 +46,13 @@ returned r out a = record {
   out = onto (eventLines (a .events)) out;
 }
 
-module _ (b : value.Book) (c : Command) (out : List ℕ) (isSound : recordSound (recordIn b) ≡ true) (room : leastRoom ≤ length out) (h : Head) (t u : List (List ℕ))
-    (stood : bookOn h t u ≡ bookIn (recordIn b)) (s : Step) (t′ u′ : List (List ℕ)) (out′ : List ℕ) (left : Left s t′ u′ out′ out (answerOf c (bookOn h t u))) where
+module _ (b : value.Book) (c : Command) (out : List ℕ) (isSound : recordSound (recordIn b) ≡ true) (room : leastRoom ≤ length out) (h : Head)
+    (x : List ℕ) (t : List (List ℕ)) (y : List ℕ) (u : List (List ℕ)) (stood : bookOn h x t y u ≡ bookIn (recordIn b)) (s : Step)
+    (x′ : List ℕ) (t′ : List (List ℕ)) (y′ : List ℕ) (u′ : List (List ℕ)) (out′ : List ℕ) (left : Left s x′ t′ y′ u′ out′ out (answerOf c (bookOn h x t y u))) where
   it : Answer
   it = answerOf c (bookIn (recordIn b))
 
-  left-it : Left s t′ u′ out′ out it
+  left-it : Left s x′ t′ y′ u′ out′ out it
   unfolding it
   left-it = rw (← stood) left
 
@@ -72,10 +74,18 @@ module _ (b : value.Book) (c : Command) (out : List ℕ) (isSound : recordSound 
       let g : it .events ≡ [] = no-event c (bookIn (recordIn b)) f in
       (rw (returns-it, refusal-is, ne-eqb (it .refusal) 0 f, g), out-is)
 
-  pub work-done : s .refusal ≡ 0 → (x : value.Book) → x ≡ bookWith (recordOn (s .head) t′ u′)
-      → (reply 0 (s .length) x ≡ replyOf (stepOn (recordIn b) (reading.Is c) out)) × (out′ ≡ stepOn (recordIn b) (reading.Is c) out .out)
-  work-done e x saved =
+  -- what is to be saved is held
+  pub left-holds : Holds (s .head .buys) x′ t′ × Holds (s .head .sells) y′ u′
+  left-holds =
+      let head : s .head ≡ headOf (it .book) = ap (λ (z : Step). z .head) (left-it .0) in
+      rw head (left-it .1 .0 .holds, left-it .1 .1 .0 .holds)
+
+  pub work-done : s .refusal ≡ 0 → (book : value.Book) → book ≡ bookWith (recordOf (bookOn (s .head) x′ t′ y′ u′))
+      → (reply 0 (s .length) book ≡ replyOf (stepOn (recordIn b) (reading.Is c) out)) × (out′ ≡ stepOn (recordIn b) (reading.Is c) out .out)
+  work-done e book saved =
       let z : it .refusal ≡ 0 = sym refusal-is ∙ e in
-      let long : s .length ≡ length (eventLines (it .events)) = ap (λ (y : Step). y .length) (left-it .0) in
-      let book : recordOn (s .head) t′ u′ ≡ recordOf (it .book) = saved-as (it .book) (s .head) t′ u′ (ap (λ (y : Step). y .head) (left-it .0)) (left-it .1 .0) (left-it .1 .1 .0) in
-      (reply-is long (saved ∙ ap bookWith book) ∙ rw (returns-it, z), out-is)
+      let long : s .length ≡ length (eventLines (it .events)) = ap (λ (z : Step). z .length) (left-it .0) in
+      let head : s .head ≡ headOf (it .book) = ap (λ (z : Step). z .head) (left-it .0) in
+      let back : bookOn (s .head) x′ t′ y′ u′ ≡ it .book =
+      ap (λ (g : Head). bookOn g x′ t′ y′ u′) head ∙ book-back (it .book) x′ t′ y′ u′ (left-it .1 .0) (left-it .1 .1 .0) in
+      (reply-is long (saved ∙ ap (λ (b : Book). bookWith (recordOf b)) back) ∙ rw (returns-it, z), out-is)

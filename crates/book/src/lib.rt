@@ -2,8 +2,9 @@
 // the output.
 use kinds::Cents;
 use kinds::Number;
+use rows::Index;
 use rows::PLACES;
-use rows::WORDS;
+use rows::Rows;
 use rules::Away;
 use rules::Body;
 use rules::Command;
@@ -12,18 +13,19 @@ use rules::Order;
 use rules::Reading;
 use rules::Resting;
 use tables::Head;
+use walk::Takings;
 ghost use mathlib.Core.Bool.{true};
 ghost use mathlib.Core.List.{map};
 ghost use mathlib.Core.Path.{_≡_};
 ghost use Prim.Native.Nat.{_≤_};
 ghost use lib.ListN.{length};
-ghost use Rattle.rows.specs.Table.{rowOf};
+ghost use Rattle.rows.specs.Table.{rowOf, Holds};
 ghost use Rattle.rules.specs.Book.{fresh, recordOf, recordSound};
 ghost use Rattle.rules.specs.Refusals.{firstOf, leastRoom, fitRefusals};
 ghost use Rattle.rules.specs.Step.{step, stepOn};
 ghost use Rattle.rules.specs.declared.Body.the-variants as body;
 ghost use Rattle.rules.specs.declared.Reading.the-variants as reading;
-ghost use Rattle.tables.specs.Tables.{recordOn};
+ghost use Rattle.tables.specs.Tables.{bookOn};
 ghost use Rattle.book.specs.Record.{recordIn, bookWith, replyOf, headIn};
 
 // A side: its places, of which the first `used` hold resting orders in rank order; the others are zero.
@@ -96,7 +98,7 @@ impl Book {
         }
     }
 
-    fn load(self, buys: &mut [[u32; WORDS]; PLACES], sells: &mut [[u32; WORDS]; PLACES])
+    fn load(self, buys: &mut Rows, sells: &mut Rows)
         ensures { λ _. ⌜ now (buys .exit) ≡ map rowOf (self .buys .places) ⌝ }
         ensures { λ _. ⌜ now (sells .exit) ≡ map rowOf (self .sells .places) ⌝ }
     {
@@ -108,17 +110,18 @@ impl Book {
         tables::load(sells, places);
     }
 
-    fn save(h: Head, buys: &[[u32; WORDS]; PLACES], sells: &[[u32; WORDS]; PLACES]) -> Book
-        ensures { λ r. ⌜ r ≡ bookWith (recordOn h (now (buys .entry)) (now (sells .entry))) ⌝ }
+    fn save(h: Head, x: &Index, buys: &Rows, y: &Index, sells: &Rows) -> Book
+        requires { ⌜ Holds (h .buys) (now x) (now buys) × Holds (h .sells) (now y) (now sells) ⌝ }
+        ensures { λ r. ⌜ r ≡ bookWith (recordOf (bookOn h (now (x .entry)) (now (buys .entry)) (now (y .entry)) (now (sells .entry)))) ⌝ }
     {
         let held = h.held;
         let bought = Side {
             used: h.buys,
-            places: tables::save(buys),
+            places: tables::save(x, buys, h.buys),
         };
         let sold = Side {
             used: h.sells,
-            places: tables::save(sells),
+            places: tables::save(y, sells, h.sells),
         };
         Book {
             held: held,
@@ -132,8 +135,8 @@ impl Book {
     pub fn is_sound(self) -> bool
         ensures { λ r. ⌜ r ≡ recordSound (recordIn self) ⌝ }
     {
-        let mut buys = [[0u32; WORDS]; PLACES];
-        let mut sells = [[0u32; WORDS]; PLACES];
+        let mut buys: Rows = [[0; rows::WORDS]; PLACES];
+        let mut sells: Rows = [[0; rows::WORDS]; PLACES];
         self.load(&mut buys, &mut sells);
         inspection::is_sound(self.head(), &buys, &sells)
     }
@@ -170,15 +173,30 @@ impl Book {
         ensures { λ r. ⌜ r ≡ replyOf (stepOn (recordIn self) (reading.Is c) (now (out .entry))) ⌝ }
         ensures { λ _. ⌜ now (out .exit) ≡ stepOn (recordIn self) (reading.Is c) (now (out .entry)) .out ⌝ }
     {
-        let mut buys = [[0u32; WORDS]; PLACES];
-        let mut sells = [[0u32; WORDS]; PLACES];
+        let mut buys: Rows = [[0; rows::WORDS]; PLACES];
+        let mut sells: Rows = [[0; rows::WORDS]; PLACES];
+        let mut x: Index = [0; rows::INDEX];
+        let mut y: Index = [0; rows::INDEX];
+        let mut took: Takings = [[0; 3]; walk::TAKINGS];
         self.load(&mut buys, &mut sells);
-        let step = commands::apply(self.head(), c, &mut buys, &mut sells, out);
+        let head = self.head();
+        tables::number(&mut x, head.buys);
+        tables::number(&mut y, head.sells);
+        let step = commands::apply(
+            head,
+            c,
+            &mut x,
+            &mut buys,
+            &mut y,
+            &mut sells,
+            &mut took,
+            out,
+        );
         if step.refusal != 0 {
             return self.refuse(step.refusal);
         }
         let h = step.head;
-        let book = Book::save(h, &buys, &sells);
+        let book = Book::save(h, &x, &buys, &y, &sells);
         Reply {
             refusal: 0,
             length: step.length,

@@ -1,119 +1,70 @@
--- Laws of a test that names orders of a side to be cancelled: which stay, which lines are written, and that a number names one order
--- at most. Assumes nothing.
-use Prim.Native.Nat.{ℕ, suc, _+_, _-_, _≤_, _<_}
+-- Laws of a cancel on a side, or on two, on which no number stands twice: it takes off the first order of its number, and writes that
+-- order's line. Assumes nothing.
+use Prim.Native.Nat.{ℕ, suc, _+_, _≤_, _<_}
 use mathlib.Core.Bool.{Bool, true, false, not, true≢false}
-use mathlib.Core.List.{List, [], _∷_, _++_, append-nil}
+use mathlib.Core.List.{List, [], _∷_, _++_}
 use mathlib.Core.Logic.{⊎-elim}
-use mathlib.Core.Path.{_≡_, refl, sym, ap, _∙_}
+use mathlib.Core.Path.{_≡_, refl, sym, ap, subst, _∙_}
 use lib.Dec.{eqb}
-use lib.ListN.{length, getD, length-append, length-take, length-drop}
+use lib.ListN.{length}
 use native.Mathlib.Omega.{arith}
-use borrow.Author.Tests.{eqb-true, eqb-false, ne-eqb, not-true}
-use Rattle.basics.specs.Bytes.{onto}
-use Rattle.basics.specs.Lists.{any, distinct, firstWhere, removeAt}
-use Rattle.basics.proofs.LawsBytes.{onto-none}
-use Rattle.basics.proofs.LawsChoice.{holds-or-not, and-left, and-right, or-neither}
+use borrow.Author.Tests.{eqb-true, eqb-false, ne-eqb, not-true, lt-ltb, le-ltb}
+use Rattle.basics.specs.Lists.{any, distinct, firstWhere, removeAt, gathered}
+use Rattle.basics.proofs.LawsChoice.{holds-or-not, lt-or-le, and-left, and-right, or-neither}
 use Rattle.kinds.specs.declared.Number.{Number}
-use Rattle.reports.specs.Reports.{cancelledFor}
-use Rattle.rows.specs.Table.{tableOf}
 use Rattle.rules.specs.declared.Event.{Event}
 use Rattle.rules.specs.declared.Resting.{Resting}
-use Rattle.rules.specs.Book.{numbers, unused}
-use Rattle.rules.specs.EventLines.{eventLine, eventLines}
-use Rattle.rules.specs.Working.{kept, cancels, isNumber}
-use Rattle.rules.proofs.LawsEvents.{cancelled-length}
+use Rattle.rules.specs.Book.{numbers}
+use Rattle.rules.specs.Commands.{isNumber, cancelFate}
+use Rattle.rules.specs.Settling.{staying, told}
+use Rattle.cancels.specs.declared.Found.{Found}
+use Rattle.cancels.specs.declared.Found.the-variants.{AmongBuys, AmongSells, Nowhere}
+use Rattle.cancels.specs.Cancels.{whereIs, offLine}
 
--- ── By any test ──
+-- ── A search ──
 
-module _ (gone : Resting → Bool) where
-  -- no order is named
-  pub kept-none : (s : List Resting) → any gone s ≡ false → kept gone s ≡ s
-  unfolding any kept
-  kept-none [] e = refl
-  kept-none (h ∷ s) e =
-      let both = or-neither (gone h) (any gone s) e in
-      rw (both .0) (ap (λ (r : List Resting). h ∷ r) (kept-none s (both .1)))
-
-  pub cancels-none : (reason : ℕ) (s : List Resting) → any gone s ≡ false → cancels reason gone s ≡ []
-  unfolding any cancels
-  cancels-none reason [] e = refl
-  cancels-none reason (h ∷ s) e =
-      let both = or-neither (gone h) (any gone s) e in
-      rw (both .0) (cancels-none reason s (both .1))
-
-  -- a search that passes every order has found none, and one that stops has found one
-  pub passed-all : (s : List Resting) → length s ≤ firstWhere gone s → any gone s ≡ false
+module _ (test : Resting → Bool) where
+  -- it passes every order where it finds none, and stops where it finds one
+  pub passed-all : (s : List Resting) → length s ≤ firstWhere test s → any test s ≡ false
   unfolding any firstWhere
   passed-all [] l = refl
   passed-all (h ∷ s) l =
       ⊎-elim
-      (λ (t : gone h ≡ true). let m : suc (length s) ≤ 0 = rw t at l in let z : ⊥ = omega (arith, m) in absurd z)
-      (λ (t : gone h ≡ false).
-      let m : suc (length s) ≤ suc (firstWhere gone s) = rw t at l in
+      (λ (t : test h ≡ true). let m : suc (length s) ≤ 0 = rw t at l in let z : ⊥ = omega (arith, m) in absurd z)
+      (λ (t : test h ≡ false).
+      let m : suc (length s) ≤ suc (firstWhere test s) = rw t at l in
       rw t (passed-all s (omega (arith, m))))
-      (holds-or-not (gone h))
+      (holds-or-not (test h))
 
-  pub stopped : (s : List Resting) → firstWhere gone s < length s → any gone s ≡ true
+  pub passes-all : (s : List Resting) → any test s ≡ false → length s ≤ firstWhere test s
   unfolding any firstWhere
-  stopped [] l = let z : ⊥ = omega (arith, l) in absurd z
-  stopped (h ∷ s) l =
+  passes-all [] e = omega arith
+  passes-all (h ∷ s) e = let both = or-neither (test h) (any test s) e in rw (both .0) (omega (arith, passes-all s (both .1)))
+
+  pub stopped : (s : List Resting) → firstWhere test s < length s → any test s ≡ true
+  stopped s l =
       ⊎-elim
-      (λ (t : gone h ≡ true). rw t)
-      (λ (t : gone h ≡ false). let m : suc (firstWhere gone s) < suc (length s) = rw t at l in rw t (stopped s (omega (arith, m))))
-      (holds-or-not (gone h))
+      (λ (t : any test s ≡ true). t)
+      (λ (t : any test s ≡ false). let z : ⊥ = omega (arith, passes-all s t) in absurd z)
+      (holds-or-not (any test s))
 
-  pub stops : (s : List Resting) → any gone s ≡ true → firstWhere gone s < length s
-  unfolding any firstWhere
-  stops [] e = absurd (true≢false (sym e))
-  stops (h ∷ s) e =
-      ⊎-elim
-      (λ (t : gone h ≡ true). rw t (omega arith))
-      (λ (t : gone h ≡ false). let m : any gone s ≡ true = rw t at e in rw t (omega (arith, stops s m)))
-      (holds-or-not (gone h))
-
-  -- there are lines where an order is named, and only there
-  lines-some : (reason : ℕ) (s : List Resting) → any gone s ≡ true → 0 < length (eventLines (cancels reason gone s))
-  unfolding any cancels eventLines
-  lines-some reason [] e = absurd (true≢false (sym e))
-  lines-some reason (h ∷ s) e =
-      ⊎-elim
-      (λ (t : gone h ≡ true).
-      let line = eventLine (cancelledFor reason h) in
-      let long = length-append line (eventLines (cancels reason gone s)) in
-      rw t (omega (arith, long, cancelled-length (h .number) (h .shares) reason)))
-      (λ (t : gone h ≡ false). let m : any gone s ≡ true = rw t at e in rw t (lines-some reason s m))
-      (holds-or-not (gone h))
-
-  pub lines-named : (reason : ℕ) (s : List Resting) → 0 < length (eventLines (cancels reason gone s)) → any gone s ≡ true
-  unfolding eventLines
-  lines-named reason s l =
-      ⊎-elim
-      (λ (t : any gone s ≡ true). t)
-      (λ (t : any gone s ≡ false).
-      let none = ap (λ (es : List Event). length (eventLines es)) (cancels-none reason s t) in
-      let z : ⊥ = omega (arith, none) in
-      absurd z)
-      (holds-or-not (any gone s))
-
-  pub lines-none : (reason : ℕ) (s : List Resting) → length (eventLines (cancels reason gone s)) ≤ 0 → any gone s ≡ false
-  lines-none reason s l =
-      ⊎-elim
-      (λ (t : any gone s ≡ true). let z : ⊥ = omega (arith, lines-some reason s t) in absurd z)
-      (λ (t : any gone s ≡ false). t)
-      (holds-or-not (any gone s))
-
-  -- nothing is taken away and nothing written where no order is named
-  pub table-same : (s : List Resting) (t′ : List (List ℕ)) → any gone s ≡ false → t′ ≡ tableOf (kept gone s) → t′ ≡ tableOf s
-  table-same s t′ none e = e ∙ ap tableOf (kept-none s none)
-
-  pub out-same : (reason : ℕ) (s : List Resting) (out′ out : List ℕ) → any gone s ≡ false → out′ ≡ onto (eventLines (cancels reason gone s)) out → out′ ≡ out
-  unfolding eventLines
-  out-same reason s out′ out none e = e ∙ ap (λ (es : List Event). onto (eventLines es) out) (cancels-none reason s none) ∙ sym (onto-none out)
-
--- ── By a number that stands once ──
+-- ── By a number ──
 
 module _ (of : Number) where
-  -- an order of the number, and others with other numbers
+  -- no order has it
+  pub staying-none : (s : List Resting) → any (isNumber of) s ≡ false → staying (cancelFate of) s ≡ s
+  unfolding any staying gathered
+  staying-none [] e = refl
+  staying-none (h ∷ s) e =
+      let both = or-neither (isNumber of h) (any (isNumber of) s) e in
+      rw (both .0) (ap (λ (r : List Resting). h ∷ r) (staying-none s (both .1)))
+
+  pub told-none : (s : List Resting) → any (isNumber of) s ≡ false → told (cancelFate of) s ≡ []
+  unfolding any told gathered
+  told-none [] e = refl
+  told-none (h ∷ s) e = let both = or-neither (isNumber of h) (any (isNumber of) s) e in rw (both .0) (told-none s (both .1))
+
+  -- an order has it, and no other
   others : (n : ℕ) (s : List Resting) → n ≡ of .0 → any (eqb n) (numbers s) ≡ false → any (isNumber of) s ≡ false
   unfolding any
   others n [] e d = refl
@@ -122,7 +73,6 @@ module _ (of : Number) where
       let apart = eqb-false n (h .number .0) (both .0) in
       rw (ne-eqb (h .number .0) (of .0) (λ (z : h .number .0 ≡ of .0). apart (e ∙ sym z))) (others n s e (both .1))
 
-  -- behind an order of the number there is no other
   none-behind : (h : Resting) (s : List Resting) → distinct (numbers (h ∷ s)) ≡ true → isNumber of h ≡ true → any (isNumber of) s ≡ false
   unfolding distinct
   none-behind h s d t =
@@ -133,41 +83,29 @@ module _ (of : Number) where
   unfolding distinct
   distinct-rest h s d = and-right (not (any (eqb (h .number .0)) (numbers s))) (distinct (numbers s)) d
 
-  pub kept-one : (s : List Resting) → distinct (numbers s) ≡ true → any (isNumber of) s ≡ true
-      → kept (isNumber of) s ≡ removeAt (firstWhere (isNumber of) s) s
-  unfolding any kept firstWhere
-  kept-one [] d e = absurd (true≢false (sym e))
-  kept-one (h ∷ s) d e =
+  pub staying-one : (s : List Resting) → distinct (numbers s) ≡ true → any (isNumber of) s ≡ true
+      → staying (cancelFate of) s ≡ removeAt (firstWhere (isNumber of) s) s
+  unfolding any staying gathered firstWhere
+  staying-one [] d e = absurd (true≢false (sym e))
+  staying-one (h ∷ s) d e =
       ⊎-elim
-      (λ (t : isNumber of h ≡ true). rw t (kept-none (isNumber of) s (none-behind h s d t)))
+      (λ (t : isNumber of h ≡ true). rw t (staying-none s (none-behind h s d t)))
       (λ (t : isNumber of h ≡ false).
       let m : any (isNumber of) s ≡ true = rw t at e in
       let k = firstWhere (isNumber of) s in
       let more : suc k + 1 ≡ suc (k + 1) = omega arith in
-      rw (t, more) (ap (λ (r : List Resting). h ∷ r) (kept-one s (distinct-rest h s d) m)))
+      rw (t, more) (ap (λ (r : List Resting). h ∷ r) (staying-one s (distinct-rest h s d) m)))
       (holds-or-not (isNumber of h))
 
-  cancels-one : (reason : ℕ) (s : List Resting) → distinct (numbers s) ≡ true → any (isNumber of) s ≡ true
-      → cancels reason (isNumber of) s ≡ cancelledFor reason (getD s (firstWhere (isNumber of) s) unused) ∷ []
-  unfolding any cancels firstWhere
-  cancels-one reason [] d e = absurd (true≢false (sym e))
-  cancels-one reason (h ∷ s) d e =
+  pub told-one : (s : List Resting) → distinct (numbers s) ≡ true → any (isNumber of) s ≡ true
+      → told (cancelFate of) s ≡ offLine (firstWhere (isNumber of) s) s ∷ []
+  unfolding any told gathered firstWhere
+  told-one [] d e = absurd (true≢false (sym e))
+  told-one (h ∷ s) d e =
       ⊎-elim
-      (λ (t : isNumber of h ≡ true).
-      rw t (ap (λ (es : List Event). cancelledFor reason h ∷ es) (cancels-none (isNumber of) reason s (none-behind h s d t))))
-      (λ (t : isNumber of h ≡ false). let m : any (isNumber of) s ≡ true = rw t at e in rw t (cancels-one reason s (distinct-rest h s d) m))
+      (λ (t : isNumber of h ≡ true). rw t (ap (λ (es : List Event). offLine 0 (h ∷ s) ∷ es) (told-none s (none-behind h s d t))))
+      (λ (t : isNumber of h ≡ false). let m : any (isNumber of) s ≡ true = rw t at e in rw t (told-one s (distinct-rest h s d) m))
       (holds-or-not (isNumber of h))
-
-  pub line-one : (reason : ℕ) (s : List Resting) → distinct (numbers s) ≡ true → any (isNumber of) s ≡ true
-      → (o : Resting) → o ≡ getD s (firstWhere (isNumber of) s) unused
-      → eventLines (cancels reason (isNumber of) s) ≡ eventLine (cancelledFor reason o)
-  unfolding eventLines
-  line-one reason s d e o is = rw (cancels-one reason s d e, is) (append-nil (eventLine (cancelledFor reason (getD s (firstWhere (isNumber of) s) unused))))
-
-  pub length-kept : (s : List Resting) → distinct (numbers s) ≡ true → any (isNumber of) s ≡ true → length (kept (isNumber of) s) ≡ length s - 1
-  length-kept s d e =
-      let l = stops (isNumber of) s e in
-      ap length (kept-one s d e) ∙ simp (length-append, length-take, length-drop) (omega arith)
 
   -- a number on one of two sides is not on the other
   any-second : (s u : List Resting) → any (isNumber of) (s ++ u) ≡ false → any (isNumber of) u ≡ false
@@ -175,11 +113,89 @@ module _ (of : Number) where
   any-second [] u e = e
   any-second (h ∷ s) u e = any-second s u (or-neither (isNumber of h) (any (isNumber of) (s ++ u)) e .1)
 
-  pub on-one-side : (s u : List Resting) → distinct (numbers (s ++ u)) ≡ true → any (isNumber of) s ≡ true → any (isNumber of) u ≡ false
+  pub on-first-side : (s u : List Resting) → distinct (numbers (s ++ u)) ≡ true → any (isNumber of) s ≡ true → any (isNumber of) u ≡ false
   unfolding any
-  on-one-side [] u d e = absurd (true≢false (sym e))
-  on-one-side (h ∷ s) u d e =
+  on-first-side [] u d e = absurd (true≢false (sym e))
+  on-first-side (h ∷ s) u d e =
       ⊎-elim
       (λ (t : isNumber of h ≡ true). any-second s u (none-behind h (s ++ u) d t))
-      (λ (t : isNumber of h ≡ false). let m : any (isNumber of) s ≡ true = rw t at e in on-one-side s u (distinct-rest h (s ++ u) d) m)
+      (λ (t : isNumber of h ≡ false). let m : any (isNumber of) s ≡ true = rw t at e in on-first-side s u (distinct-rest h (s ++ u) d) m)
       (holds-or-not (isNumber of h))
+
+  pub on-second-side : (s u : List Resting) → distinct (numbers (s ++ u)) ≡ true → any (isNumber of) u ≡ true → any (isNumber of) s ≡ false
+  on-second-side s u d e =
+      ⊎-elim
+      (λ (t : any (isNumber of) s ≡ true). absurd (true≢false (sym e ∙ on-first-side s u d t)))
+      (λ (t : any (isNumber of) s ≡ false). t)
+      (holds-or-not (any (isNumber of) s))
+
+-- ── The numbers of each side stand once ──
+
+any-front : (n : ℕ) (s u : List Resting) → any (eqb n) (numbers (s ++ u)) ≡ false → any (eqb n) (numbers s) ≡ false
+unfolding any
+any-front n [] u e = refl
+any-front n (h ∷ s) u e =
+    let both = or-neither (eqb n (h .number .0)) (any (eqb n) (numbers (s ++ u))) e in
+    rw (both .0) (any-front n s u (both .1))
+
+pub first-once : (s u : List Resting) → distinct (numbers (s ++ u)) ≡ true → distinct (numbers s) ≡ true
+unfolding distinct
+first-once [] u d = refl
+first-once (h ∷ s) u d =
+    let other = not-true (any (eqb (h .number .0)) (numbers (s ++ u))) (and-left (not (any (eqb (h .number .0)) (numbers (s ++ u)))) (distinct (numbers (s ++ u))) d) in
+    rw (any-front (h .number .0) s u other)
+    (first-once s u (and-right (not (any (eqb (h .number .0)) (numbers (s ++ u)))) (distinct (numbers (s ++ u))) d))
+
+pub second-once : (s u : List Resting) → distinct (numbers (s ++ u)) ≡ true → distinct (numbers u) ≡ true
+unfolding distinct
+second-once [] u d = d
+second-once (h ∷ s) u d = second-once s u (and-right (not (any (eqb (h .number .0)) (numbers (s ++ u)))) (distinct (numbers (s ++ u))) d)
+
+-- ── Where the order of a number rests ──
+
+module _ (of : Number) (buys sells : List Resting) where
+  pub where-buy : (at : ℕ) → at ≡ firstWhere (isNumber of) buys → at < length buys → AmongBuys at ≡ whereIs of buys sells
+  where-buy at e l = rw e (sym (rw (lt-ltb (firstWhere (isNumber of) buys) (length buys) (omega (arith, e, l))) refl))
+
+  pub where-sell : length buys ≤ firstWhere (isNumber of) buys → (at : ℕ) → at ≡ firstWhere (isNumber of) sells → at < length sells
+      → AmongSells at ≡ whereIs of buys sells
+  where-sell bare at e l =
+      rw e
+      (sym (rw (le-ltb (firstWhere (isNumber of) buys) (length buys) bare, lt-ltb (firstWhere (isNumber of) sells) (length sells) (omega (arith, e, l))) refl))
+
+  pub where-none : length buys ≤ firstWhere (isNumber of) buys → length sells ≤ firstWhere (isNumber of) sells → Nowhere ≡ whereIs of buys sells
+  where-none bare none =
+      sym (rw (le-ltb (firstWhere (isNumber of) buys) (length buys) bare, le-ltb (firstWhere (isNumber of) sells) (length sells) none) refl)
+
+  -- what was found is so
+  Is : Found → Type 0
+  Is (AmongBuys at) = (at ≡ firstWhere (isNumber of) buys) × (at < length buys)
+  Is (AmongSells at) = (at ≡ firstWhere (isNumber of) sells) × (at < length sells)
+  Is Nowhere = (any (isNumber of) buys ≡ false) × (any (isNumber of) sells ≡ false)
+
+  where-is : Is (whereIs of buys sells)
+  unfolding Is
+  where-is =
+      ⊎-elim
+      (λ (l : firstWhere (isNumber of) buys < length buys). rw (lt-ltb (firstWhere (isNumber of) buys) (length buys) l) (refl, l))
+      (λ (l : length buys ≤ firstWhere (isNumber of) buys).
+      rw (le-ltb (firstWhere (isNumber of) buys) (length buys) l)
+      (⊎-elim
+      (λ (m : firstWhere (isNumber of) sells < length sells). rw (lt-ltb (firstWhere (isNumber of) sells) (length sells) m) (refl, m))
+      (λ (m : length sells ≤ firstWhere (isNumber of) sells).
+      rw (le-ltb (firstWhere (isNumber of) sells) (length sells) m) (passed-all (isNumber of) buys l, passed-all (isNumber of) sells m))
+      (lt-or-le (firstWhere (isNumber of) sells) (length sells))))
+      (lt-or-le (firstWhere (isNumber of) buys) (length buys))
+
+  module _ (found : Found) (is : found ≡ whereIs of buys sells) where
+    pub found-buy : (at : ℕ) → found ≡ AmongBuys at → (at ≡ firstWhere (isNumber of) buys) × (at < length buys)
+    unfolding Is
+    found-buy at e = subst Is (sym is ∙ e) where-is
+
+    pub found-sell : (at : ℕ) → found ≡ AmongSells at → (at ≡ firstWhere (isNumber of) sells) × (at < length sells)
+    unfolding Is
+    found-sell at e = subst Is (sym is ∙ e) where-is
+
+    pub found-none : found ≡ Nowhere → (any (isNumber of) buys ≡ false) × (any (isNumber of) sells ≡ false)
+    unfolding Is
+    found-none e = subst Is (sym is ∙ e) where-is

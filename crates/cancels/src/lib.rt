@@ -1,39 +1,76 @@
-// A cancel on a sound book that stands in a header and two lent tables: the order of a number is searched among the buys, and then
+// A cancel on a sound book that stands in a header and two sides that are lent: the order of a number is searched among the buys, and then
 // among the sells.
 use kinds::Number;
-use rows::PLACES;
-use rows::WORDS;
+use rows::Index;
+use rows::Rows;
 use rules::Held;
 use tables::Head;
 use tables::Step;
 ghost use mathlib.Core.Bool.{true};
 ghost use mathlib.Core.Path.{_≡_};
-ghost use Prim.Native.Nat.{_≤_};
+ghost use Prim.Native.Nat.{_≤_, _<_};
 ghost use lib.ListN.{length};
 ghost use Rattle.basics.specs.Bytes.{onto};
-ghost use Rattle.basics.specs.Lists.{distinct};
-ghost use Rattle.rows.specs.Table.{side, tableOf, Holds};
+ghost use mathlib.Core.List.{_++_};
+ghost use Rattle.basics.specs.Lists.{distinct, removeAt};
+ghost use Rattle.rows.specs.Table.{side, Holds, Shows};
 ghost use Rattle.rules.specs.Book.{numbers};
-ghost use Rattle.rules.specs.EventLines.{eventLines, byCommand};
+ghost use Rattle.rules.specs.EventLines.{eventLine};
 ghost use Rattle.rules.specs.Refusals.{leastRoom};
-ghost use Rattle.rules.specs.Working.{withAccepted, kept, cancels, isNumber};
+ghost use Rattle.rules.specs.Commands.{withAccepted};
 ghost use Rattle.rules.specs.declared.Body.the-variants as body;
 ghost use Rattle.tables.specs.Answers.{bodyAnswer, Left, Stands};
 ghost use Rattle.tables.specs.Tables.{bookOn};
+ghost use Rattle.cancels.specs.Cancels.{whereIs, offLine};
 
-// Takes the order of a number off a side and writes its line; the length of the line, or 0 where the side has no such order.
-fn take_off(t: &mut [[u32; WORDS]; PLACES], n: usize, number: Number, out: &mut [u8]) -> usize
-    requires { ⌜ Holds n (now t) × (distinct (numbers (side n (now t))) ≡ true) × (leastRoom ≤ length (now out)) ⌝ }
-    ensures { λ r. ⌜ r ≡ length (eventLines (cancels byCommand (isNumber number) (side n (now (t .entry))))) ⌝ }
-    ensures { λ _. ⌜ now (t .exit) ≡ tableOf (kept (isNumber number) (side n (now (t .entry)))) ⌝ }
-    ensures { λ _. ⌜ now (out .exit) ≡ onto (eventLines (cancels byCommand (isNumber number) (side n (now (t .entry))))) (now (out .entry)) ⌝ }
+// Where the order of a number rests.
+pub enum Found {
+    AmongBuys(usize),
+    AmongSells(usize),
+    Nowhere,
+}
+
+// The order of a number, where it is searched: among the buys, and then among the sells.
+fn search(x: &Index, buys: &Rows, n: usize, y: &Index, sells: &Rows, m: usize, of: Number) -> Found
+    requires { ⌜ Holds n (now x) (now buys) × Holds m (now y) (now sells) ⌝ }
+    ensures { λ r. ⌜ r ≡ whereIs of (side n (now (x .entry)) (now (buys .entry))) (side m (now (y .entry)) (now (sells .entry))) ⌝ }
 {
-    let at = side::find(t, n, number);
-    if n <= at {
-        return 0;
+    let at = side::find(x, buys, n, of);
+    if at < n {
+        return Found::AmongBuys(at);
     }
-    let o = rows::row(t, at);
-    shifts::remove(t, n, at);
+    let at = side::find(y, sells, m, of);
+    if at < m {
+        return Found::AmongSells(at);
+    }
+    Found::Nowhere
+}
+
+// The order of a number: where its hints lead, or else where a search finds it.
+fn seek(x: &Index, buys: &Rows, n: usize, y: &Index, sells: &Rows, m: usize, of: Number) -> Found
+    requires { ⌜ Holds n (now x) (now buys) × Holds m (now y) (now sells) × (distinct (numbers (side n (now x) (now buys) ++ side m (now y) (now sells))) ≡ true) ⌝ }
+    ensures { λ r. ⌜ r ≡ whereIs of (side n (now (x .entry)) (now (buys .entry))) (side m (now (y .entry)) (now (sells .entry))) ⌝ }
+{
+    let at = side::follow_hint(x, buys, n, of);
+    if at < n {
+        return Found::AmongBuys(at);
+    }
+    let at = side::follow_hint(y, sells, m, of);
+    if at < m {
+        return Found::AmongSells(at);
+    }
+    search(x, buys, n, y, sells, m, of)
+}
+
+// Takes the order at a rank off its side and writes its line; the length of the line.
+fn take_off(x: &mut Index, t: &Rows, n: usize, at: usize, out: &mut [u8]) -> usize
+    requires { ⌜ Holds n (now x) (now t) × (at < n) × (leastRoom ≤ length (now out)) ⌝ }
+    ensures { λ r. ⌜ r ≡ length (eventLine (offLine at (side n (now (x .entry)) (now (t .entry))))) ⌝ }
+    ensures { λ _. ⌜ Shows (removeAt at (side n (now (x .entry)) (now (t .entry)))) (now (x .exit)) (now (t .entry)) ⌝ }
+    ensures { λ _. ⌜ now (out .exit) ≡ onto (eventLine (offLine at (side n (now (x .entry)) (now (t .entry))))) (now (out .entry)) ⌝ }
+{
+    let o = rows::at(x, t, n, at);
+    shifts::remove(x, t, n, at);
     events::write_cancelled(out, o.number, o.shares, 1)
 }
 
@@ -68,23 +105,28 @@ pub fn cancel(
     number: Number,
     time: u32,
     of: Number,
-    buys: &mut [[u32; WORDS]; PLACES],
-    sells: &mut [[u32; WORDS]; PLACES],
+    x: &mut Index,
+    buys: &Rows,
+    y: &mut Index,
+    sells: &Rows,
     out: &mut [u8],
 ) -> Step
-    requires { ⌜ Stands h (now buys) (now sells) × (leastRoom ≤ length (now out)) ⌝ }
-    ensures { λ r. ⌜ Left r (now (buys .exit)) (now (sells .exit)) (now (out .exit)) (now (out .entry))
-        (bodyAnswer number time (body.Cancel of) (bookOn h (now (buys .entry)) (now (sells .entry)))) ⌝ }
+    requires { ⌜ Stands h (now x) (now buys) (now y) (now sells) × (leastRoom ≤ length (now out)) ⌝ }
+    ensures { λ r. ⌜ Left r (now (x .exit)) (now (buys .entry)) (now (y .exit)) (now (sells .entry)) (now (out .exit)) (now (out .entry))
+        (bodyAnswer number time (body.Cancel of) (bookOn h (now (x .entry)) (now (buys .entry)) (now (y .entry)) (now (sells .entry)))) ⌝ }
 {
     let n = h.buys;
     let m = h.sells;
-    let bought = take_off(buys, n, of, out);
-    if 0 < bought {
-        return leave(h, number, time, n - 1, m, bought);
+    let found = seek(x, buys, n, y, sells, m, of);
+    match found {
+        Found::AmongBuys(at) => {
+            let len = take_off(x, buys, n, at, out);
+            leave(h, number, time, n - 1, m, len)
+        }
+        Found::AmongSells(at) => {
+            let len = take_off(y, sells, m, at, out);
+            leave(h, number, time, n, m - 1, len)
+        }
+        Found::Nowhere => tables::refuse(h, 10),
     }
-    let sold = take_off(sells, m, of, out);
-    if 0 < sold {
-        return leave(h, number, time, n, m - 1, sold);
-    }
-    tables::refuse(h, 10)
 }

@@ -38,10 +38,11 @@ module _ (c : Command) (b : Book) where
 
 -- what the body leaves is what the command leaves
 pub left-passed : (c : Command) (b : Book) (k : ℕ) (s : Body) → c .body ≡ s → k ≡ firstOf (headerRefusals (bookHolding (b .held)) c) → k ≡ 0
-    → (r : Step) (t u : List (List ℕ)) (out′ out : List ℕ) → Left r t u out′ out (bodyAnswer (c .number) (c .time) s b) → Left r t u out′ out (answerOf c b)
-left-passed c b k s q e z r t u out′ out l =
+    → (r : Step) (x : List ℕ) (t : List (List ℕ)) (y : List ℕ) (u : List (List ℕ)) (out′ out : List ℕ)
+    → Left r x t y u out′ out (bodyAnswer (c .number) (c .time) s b) → Left r x t y u out′ out (answerOf c b)
+left-passed c b k s q e z r x t y u out′ out l =
     let p : answerOf c b ≡ bodyAnswer (c .number) (c .time) s b =
-    header-passed c b (sym z ∙ e) ∙ ap (λ (x : Body). bodyAnswer (c .number) (c .time) x b) q in
+    header-passed c b (sym z ∙ e) ∙ ap (λ (other : Body). bodyAnswer (c .number) (c .time) other b) q in
     rw p l
 
 -- and its number is above the last

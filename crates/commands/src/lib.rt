@@ -1,19 +1,16 @@
-// A command on a sound book that stands in a header and two lent tables, worked in place (01, How an order is worked). It is judged
-// by its header first and then by its body; a refusal leaves the header, both tables and every byte as they were.
+// A command on a sound book that stands in a header and two sides that are lent, worked in place (01, How an order is worked). It is judged
+// by its header first and then by its body; a refusal leaves the header, both sides and every byte as they were.
 use kinds::Number;
-use rows::PLACES;
-use rows::WORDS;
+use rows::Index;
+use rows::Rows;
 use rules::Body;
 use rules::Command;
 use rules::Held;
 use tables::Head;
 use tables::Step;
-ghost use mathlib.Core.Path.{_≡_};
+use walk::Takings;
 ghost use Prim.Native.Nat.{_≤_};
 ghost use lib.ListN.{length};
-ghost use Rattle.basics.specs.Bytes.{onto};
-ghost use Rattle.rows.specs.Table.{tableOf};
-ghost use Rattle.rules.specs.EventLines.{eventLines};
 ghost use Rattle.rules.specs.Refusals.{leastRoom};
 ghost use Rattle.rules.specs.declared.Body.the-variants as body;
 ghost use Rattle.tables.specs.Answers.{answerOf, bodyAnswer, Left, Stands};
@@ -25,20 +22,20 @@ fn close(
     h: Head,
     number: Number,
     time: u32,
-    buys: &mut [[u32; WORDS]; PLACES],
-    sells: &mut [[u32; WORDS]; PLACES],
+    x: &Index,
+    buys: &Rows,
+    y: &Index,
+    sells: &Rows,
     out: &mut [u8],
 ) -> Step
-    requires { ⌜ Stands h (now buys) (now sells) × (leastRoom ≤ length (now out)) ⌝ }
-    ensures { λ r. ⌜ Left r (now (buys .exit)) (now (sells .exit)) (now (out .exit)) (now (out .entry))
-        (bodyAnswer number time body.Close (bookOn h (now (buys .entry)) (now (sells .entry)))) ⌝ }
+    requires { ⌜ Stands h (now x) (now buys) (now y) (now sells) × (leastRoom ≤ length (now out)) ⌝ }
+    ensures { λ r. ⌜ Left r (now (x .entry)) (now (buys .entry)) (now (y .entry)) (now (sells .entry)) (now (out .exit)) (now (out .entry))
+        (bodyAnswer number time body.Close (bookOn h (now (x .entry)) (now (buys .entry)) (now (y .entry)) (now (sells .entry)))) ⌝ }
 {
     let n = h.buys;
     let m = h.sells;
-    let len = reports::report_cancelled(buys, n, 7, out);
-    let more = reports::report_cancelled(sells, m, 7, &mut out[len..]);
-    shifts::drop_first(buys, n, n);
-    shifts::drop_first(sells, m, m);
+    let len = reports::report_cancelled(x, buys, n, 7, out);
+    let more = reports::report_cancelled(y, sells, m, 7, &mut out[len..]);
     let held = h.held;
     let shut = Held {
         last: number,
@@ -63,13 +60,16 @@ fn close(
 pub fn apply(
     h: Head,
     c: Command,
-    buys: &mut [[u32; WORDS]; PLACES],
-    sells: &mut [[u32; WORDS]; PLACES],
+    x: &mut Index,
+    buys: &mut Rows,
+    y: &mut Index,
+    sells: &mut Rows,
+    took: &mut Takings,
     out: &mut [u8],
 ) -> Step
-    requires { ⌜ Stands h (now buys) (now sells) × (leastRoom ≤ length (now out)) ⌝ }
-    ensures { λ r. ⌜ Left r (now (buys .exit)) (now (sells .exit)) (now (out .exit)) (now (out .entry))
-        (answerOf c (bookOn h (now (buys .entry)) (now (sells .entry)))) ⌝ }
+    requires { ⌜ Stands h (now x) (now buys) (now y) (now sells) × (leastRoom ≤ length (now out)) ⌝ }
+    ensures { λ r. ⌜ Left r (now (x .exit)) (now (buys .exit)) (now (y .exit)) (now (sells .exit)) (now (out .exit)) (now (out .entry))
+        (answerOf c (bookOn h (now (x .entry)) (now (buys .entry)) (now (y .entry)) (now (sells .entry)))) ⌝ }
 {
     let number = c.number;
     let time = c.time;
@@ -80,9 +80,9 @@ pub fn apply(
         return tables::refuse(h, refusal);
     }
     match body {
-        Body::Order(o) => orders::enter(h, number, time, o, buys, sells, out),
-        Body::Cancel(of) => cancels::cancel(h, number, time, of, buys, sells, out),
-        Body::Quote(away) => quotes::quote(h, number, time, away, buys, sells, out),
-        Body::Close => close(h, number, time, buys, sells, out),
+        Body::Order(o) => orders::enter(h, number, time, o, x, buys, y, sells, took, out),
+        Body::Cancel(of) => cancels::cancel(h, number, time, of, x, buys, y, sells, out),
+        Body::Quote(away) => quotes::quote(h, number, time, away, x, buys, y, sells, out),
+        Body::Close => close(h, number, time, x, buys, y, sells, out),
     }
 }

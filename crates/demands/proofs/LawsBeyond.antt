@@ -11,14 +11,12 @@ use native.Mathlib.Omega.{arith}
 use borrow.Author.Tests.{eqb-true}
 use Rattle.basics.specs.Lists.{All, none, also, OneOf, sumOf}
 use Rattle.basics.proofs.LawsChoice.{holds-or-not}
-use Rattle.basics.proofs.LawsLists.{all-alike}
+use Rattle.basics.proofs.LawsLists.{all-alike, one-of-all}
 use Rattle.kinds.specs.declared.Number.{Number}
 use Rattle.rules.specs.declared.Away.{Away}
 use Rattle.rules.specs.declared.Body.{Body}
 use Rattle.rules.specs.declared.Body.the-variants as body
 use Rattle.rules.specs.declared.Command.{Command}
-use Rattle.rules.specs.declared.Ending.{Ending}
-use Rattle.rules.specs.declared.Ending.the-variants.{Filled, Rests, Cancels}
 use Rattle.rules.specs.declared.Event.{Event}
 use Rattle.rules.specs.declared.Order.{Order}
 use Rattle.rules.specs.declared.Reading.{Reading}
@@ -26,11 +24,14 @@ use Rattle.rules.specs.declared.Reading.the-variants as reading
 use Rattle.rules.specs.declared.Resting.{Resting}
 use Rattle.rules.specs.Book.{Book, fresh, sound, recordOf}
 use Rattle.rules.specs.CommandLines.{Fitting, empty, fits, orderForm, numbersOf, formOf, commandIn}
+use Rattle.rules.specs.Commands.{carriedOut, does}
 use Rattle.rules.specs.Day.{linesIn, printed, bookAfter, printedOf}
 use Rattle.rules.specs.EventLines.{FitsEvent, eventLines, refusalLine}
 use Rattle.rules.specs.Instructions.{postOnly, has}
+use Rattle.rules.specs.Settling.{oppositeSide}
 use Rattle.rules.specs.Step.{answerTo}
-use Rattle.rules.specs.Working.{buying, nothing, walked, takings, remainder, executions, ending, lastLine, oppositeSide, accept, close, does}
+use Rattle.rules.specs.Working.{buying, nothing, walked, takings, remainder, executions, ending, lastLine, accept}
+use Rattle.rules.proofs.LawsCommands.{close-does}
 use Rattle.rules.proofs.LawsLines.{commandIn-is}
 use Rattle.soundness.proofs.LawsKept.{after-sound, fresh-sound}
 use Rattle.soundness.proofs.LawsSound.{sound-is}
@@ -40,7 +41,7 @@ use Rattle.demands.specs.Run.{Enters}
 use Rattle.demands.specs.Told.{eventsOn, eventsIn, executedIn, cancelledIn, restsOn, restingOf}
 use Rattle.demands.proofs.LawsEventLines.{events-read}
 use Rattle.demands.proofs.LawsExecutes.{acts-accepted}
-use Rattle.demands.proofs.LawsLinesTell.{one-of-all}
+use Rattle.demands.proofs.LawsFairly.{every-last}
 use Rattle.demands.proofs.LawsOnce.{refused-book, next-acts, by-line-keeps, end-is, by-call-keeps, repeat-refused}
 use Rattle.demands.proofs.LawsRun.{accepted-does, run-conserved}
 use Rattle.demands.proofs.LawsRuns.{Keeps}
@@ -66,16 +67,10 @@ unfolding walked
 post-only-executions n o away s p =
     taken (λ (ts : List ℕ). executions n s ts ≡ []) o away s (nothing-executes n s) (rw p (nothing-executes n s))
 
--- .. and the last line of an order is no execution
-last-no-execution : (n : Number) (left : ℕ) (e : Ending) → All NoExecution (lastLine n left e)
-last-no-execution n left Filled = none
-last-no-execution n left (Rests price) = also tt none
-last-no-execution n left (Cancels reason) = also tt none
-
 -- so an accepted Post Only order has its last line alone
 post-only-events : (b : Book) (line : List ℕ) (c : Command) (o : Order) → acts b line ≡ true → commandIn line ≡ reading.Is c
     → c .body ≡ body.Order o → has (o .word) postOnly ≡ true → answerTo b line .events ≡ endOfWork (c .number) o b
-unfolding does accept
+unfolding does carriedOut accept
 post-only-events b line c o t e f p =
     rw (accepted-does b line c e t .1, f, post-only-executions (c .number) o (b .held .away) (oppositeSide (buying o) b) p) refl
 
@@ -98,15 +93,15 @@ post-only-executes-nothing b line c o t e f p =
     let fitting = end-of-work-fits (c .number) o b (header-number (read .header)) asOrder in
     let told : eventsIn (eventLines es) ≡ es = sym (ap eventsIn (append-nil (eventLines es))) ∙ events-read [] fitting ∙ append-nil es in
     rw (t, post-only-events b line c o t e f p, told)
-    (last-no-execution (c .number) (remainder o (b .held .away) (oppositeSide (buying o) b)) (ending o (b .held .away) (oppositeSide (buying o) b)))
+    (every-last (c .number) (λ price k. tt) (λ k reason. tt)
+    (remainder o (b .held .away) (oppositeSide (buying o) b)) (ending o (b .held .away) (oppositeSide (buying o) b)))
 
 -- ── The close ──
 
 -- an accepted close closes
 pub close-closes : (b : Book) (line : List ℕ) (c : Command) → acts b line ≡ true → commandIn line ≡ reading.Is c → c .body ≡ body.Close
     → answerTo b line .book .held .closed ≡ true
-unfolding does close
-close-closes b line c t e f = rw (accepted-does b line c e t .0, f) refl
+close-closes b line c t e f = rw (accepted-does b line c e t .0, f, close-does (c .number) (c .time) b .0) refl
 
 -- a line that acts is a command
 acts-reads : {P : Type 0} (b : Book) (line : List ℕ) → acts b line ≡ true → ((c : Command) → commandIn line ≡ reading.Is c → P) → P

@@ -1,6 +1,6 @@
 -- A run of calls, by lines or by methods, with any output lent: it ends, tells and acts as the run of the lines of those calls that had
 -- room; and demand 3 holds of it, from any record. Assumes nothing.
-use Prim.Native.Nat.{ℕ, _+_, _≤_, _<_, _^_}
+use Prim.Native.Nat.{ℕ, _+_, _≤_, _<_}
 use mathlib.Core.Bool.{true, false, true≢false}
 use mathlib.Core.List.{List, [], _∷_, _++_}
 use mathlib.Core.Logic.{_⊎_, ⊎-elim}
@@ -8,37 +8,35 @@ use mathlib.Core.Path.{_≡_, refl, sym, ap, subst, _∙_}
 use lib.Dec.{eqb, leb}
 use lib.ListN.{length, take, drop}
 use lib.Seq.{take-append-seam}
-use native.Mathlib.Omega.{arith}
 use borrow.Author.Tests.{eqb-true, leb-true, leb-false, lt-ltb}
 use Rattle.basics.specs.Bytes.{onto}
 use Rattle.basics.proofs.LawsChoice.{holds-or-not}
 use Rattle.kinds.specs.declared.Number.{Number}
 use Rattle.rules.specs.declared.Command.{Command}
-use Rattle.rules.specs.declared.Event.{Event}
 use Rattle.rules.specs.declared.Order.{Order}
 use Rattle.rules.specs.declared.Reading.{Reading}
 use Rattle.rules.specs.declared.Reading.the-variants as reading
 use Rattle.rules.specs.Book.{Book, BookRecord, fresh, bookIn, recordOf, sound, recordSound}
 use Rattle.rules.specs.CommandLines.{Fits, lineOf, commandIn}
-use Rattle.rules.specs.Day.{bookAfter, printed, printedOf}
+use Rattle.rules.specs.Commands.{does}
+use Rattle.rules.specs.Day.{bookAfter, printed}
 use Rattle.rules.specs.EventLines.{eventLines}
 use Rattle.rules.specs.Instructions.{postOnly, has}
 use Rattle.rules.specs.Refusals.{leastRoom, firstOf, lineRefusals, refusals}
 use Rattle.rules.specs.Step.{Returned, Answer, answerTo, step, stepOn}
-use Rattle.rules.specs.Working.{does}
 use Rattle.rules.proofs.LawsLines.{commandIn-lineOf}
 use Rattle.rules.proofs.LawsRefusals.{fit-facts}
 use Rattle.soundness.proofs.LawsKept.{answer-sound, fresh-sound, after-sound, book-record, record-sound, step-sound}
 use Rattle.soundness.proofs.LawsRecords.{record-whole, book-sound}
 use Rattle.demands.specs.ExactlyWhen.{Applies, NoLower}
 use Rattle.demands.specs.Executes.{Executes}
-use Rattle.demands.specs.Once.{EventLines, Refused, Asked, aLine, aCommand, readingOf, lineAsked, Call, returned, byCall, byLine, acts, commandNumber, endOf, eventLinesOf, actingNumbers, linesWithRoom}
+use Rattle.demands.specs.Once.{EventLines, Refused, Asked, aLine, aCommand, readingOf, lineAsked, Call, returned, byCall, byLine, acts, endOf, eventLinesOf, actingNumbers, linesWithRoom}
 use Rattle.demands.specs.Run.{Enters, now, later}
 use Rattle.demands.specs.Told.{eventsIn, executedIn, cancelledIn, restingOf}
 use Rattle.demands.proofs.LawsExactly.{refused-exactly, accepted-exactly}
 use Rattle.demands.proofs.LawsOnce.{lines-or-refusal, by-call-keeps, repeat-refused}
 use Rattle.demands.proofs.LawsRun.{call-answers, accepted-does, executes-from}
-use Rattle.demands.proofs.LawsSums.{settled, conserved-from}
+use Rattle.demands.proofs.LawsSums.{run-balance, conserved-from}
 use Rattle.demands.proofs.LawsTold.{lines-read}
 
 -- ── A call is the call of its line ──
@@ -305,4 +303,4 @@ calls-settle n r calls s old =
     let lines = linesWithRoom calls in
     let run = calls-are-lines r s calls in
     rw (run .0, run .1, book-record (bookAfter (bookIn r) lines), lines-read (bookIn r) lines (book-sound r s))
-    (settled n (bookIn r) lines (book-sound r s) (last-held r old))
+    (run-balance n (bookIn r) lines (book-sound r s) (last-held r old))

@@ -26,10 +26,12 @@ use Rattle.rules.specs.declared.Reading.the-variants as reading
 use Rattle.rules.specs.declared.Resting.{Resting}
 use Rattle.rules.specs.Book.{Book, ranksBefore, inRankOrder, sound, unused}
 use Rattle.rules.specs.CommandLines.{commandIn}
+use Rattle.rules.specs.Commands.{carriedOut, does}
 use Rattle.rules.specs.Instructions.{fok, postOnly, has}
 use Rattle.rules.specs.Refusals.{firstOf, orderPriceInRange, orderInRange, bodyRefusals, lineRefusals, refusals}
+use Rattle.rules.specs.Settling.{oppositeSide}
 use Rattle.rules.specs.Step.{doneBy, answer, answerTo}
-use Rattle.rules.specs.Working.{buying, takings, remainder, executions, ending, lastLine, oppositeSide, accept, does}
+use Rattle.rules.specs.Working.{buying, takings, remainder, executions, ending, lastLine, accept}
 use Rattle.soundness.proofs.LawsAccepted.{InOrder, accepted, AcceptedOrder, accepted-order}
 use Rattle.soundness.proofs.LawsSides.{sides-of}
 use Rattle.soundness.proofs.LawsSound.{sound-is}
@@ -182,7 +184,7 @@ acts-order b c o a f = accepted-order b o (subst (λ (x : Body). firstOf (bodyRe
 -- the lines of an accepted order are those of its work
 pub acts-lines : (b : Book) (line : List ℕ) (c : Command) (o : Order) → acts b line ≡ true → commandIn line ≡ reading.Is c → c .body ≡ body.Order o
     → answerTo b line .events ≡ linesOf (c .number) o (b .held .away) (oppositeSide (buying o) b)
-unfolding answerTo answer doneBy does accept
+unfolding answerTo answer doneBy does carriedOut accept
 acts-lines b line c o t e f = rw t (rw e (rw f refl))
 
 -- so it is an order of the kind above, against the opposite side of a sound book

@@ -1,8 +1,8 @@
 -- The lines of a command, kind by kind; and that every execution of an order is with one of the side that it meets, at its price, which
 -- is fair. Assumes nothing.
 use Prim.Native.Nat.{ℕ, _<_}
-use mathlib.Core.Bool.{Bool, true, false}
-use mathlib.Core.List.{List, [], _∷_}
+use mathlib.Core.Bool.{true, false}
+use mathlib.Core.List.{List, [], _∷_, _++_}
 use mathlib.Core.Logic.{⊎-elim}
 use mathlib.Core.Path.{_≡_, refl}
 use lib.Dec.{eqb}
@@ -10,11 +10,13 @@ use native.Mathlib.Omega.{arith}
 use borrow.Author.Tests.{eqb-false}
 use Rattle.basics.specs.Lists.{All, none, also, OneOf}
 use Rattle.basics.proofs.LawsChoice.{holds-or-not}
-use Rattle.basics.proofs.LawsLists.{all-both}
+use Rattle.basics.proofs.LawsLists.{all-alike, all-both, each-there, gathered-all}
 use Rattle.kinds.specs.Kinds.{shares}
 use Rattle.kinds.specs.declared.Cents.{Cents}
 use Rattle.kinds.specs.declared.Number.{Number}
+use Rattle.kinds.specs.declared.Shares.{Shares}
 use Rattle.rules.specs.declared.Away.{Away}
+use Rattle.rules.specs.declared.Body.{Body}
 use Rattle.rules.specs.declared.Body.the-variants as body
 use Rattle.rules.specs.declared.Command.{Command}
 use Rattle.rules.specs.declared.Ending.{Ending}
@@ -26,22 +28,24 @@ use Rattle.rules.specs.declared.Reading.the-variants as reading
 use Rattle.rules.specs.declared.Resting.{Resting}
 use Rattle.rules.specs.Book.{Book, sound}
 use Rattle.rules.specs.CommandLines.{commandIn}
-use Rattle.rules.specs.EventLines.{cancelledBack}
 use Rattle.rules.specs.Instructions.{postOnly, has}
+use Rattle.rules.specs.declared.Fate.{Fate}
+use Rattle.rules.specs.declared.Fate.the-variants.{Stays, IsCancelled, IsSet}
+use Rattle.rules.specs.Settling.{toldBy, told, oppositeSide}
 use Rattle.rules.specs.Step.{answerTo}
-use Rattle.rules.specs.Working.{buying, lockingPrice, nothing, walked, takings, remainder, executions, ending, lastLine, oppositeSide, cancels, wouldNowCross, moveLine, moveLines}
+use Rattle.rules.specs.Working.{buying, nothing, walked, takings, remainder, executions, ending, lastLine}
+use Rattle.rules.proofs.LawsCommands.{fateBy}
 use Rattle.soundness.proofs.LawsSides.{sides-of}
 use Rattle.soundness.proofs.LawsSound.{sound-is}
 use Rattle.demands.specs.Once.{acts}
 use Rattle.demands.specs.ShareOut.{Each, with, Fair, LawfulGiving}
 use Rattle.demands.proofs.LawsExecutes.{acts-accepted, acts-order, acts-lines, order-side}
-use Rattle.demands.proofs.LawsOrigins.{each-there}
 use Rattle.demands.proofs.LawsShareOut.{pricedAt, takings-lawful}
 use Rattle.demands.proofs.LawsWalked.{taken}
 
 -- ── Lines of one kind ──
 
--- what holds of each execution line of order m, of each cancel, of each move and cancel of a quote, holds of all of them
+-- what holds of each execution line of an order, of each cancel and of each move of a command, or of each last line, holds of all of them
 pub every-execution : {P : Event → Type 0} (m : Number) → ((h : Resting) (t : ℕ) → P (Executed m (h .number) (h .price) (shares t)))
     → (s : List Resting) (ts : List ℕ) → All P (executions m s ts)
 unfolding executions
@@ -53,34 +57,25 @@ every-execution m f (h ∷ s) (t ∷ ts) =
     (λ (z : eqb t 0 ≡ false). rw z (also (f h t) (every-execution m f s ts)))
     (holds-or-not (eqb t 0))
 
-pub every-cancel : {P : Event → Type 0} (reason : ℕ) (gone : Resting → Bool) → ((h : Resting) → P (Cancelled (h .number) (h .shares) reason))
-    → (s : List Resting) → All P (cancels reason gone s)
-unfolding cancels
-every-cancel reason gone f [] = none
-every-cancel reason gone f (h ∷ s) =
-    ⊎-elim
-    (λ (t : gone h ≡ true). rw t (also (f h) (every-cancel reason gone f s)))
-    (λ (t : gone h ≡ false). rw t (every-cancel reason gone f s))
-    (holds-or-not (gone h))
-
-pub every-move : {P : Event → Type 0} (buy : Bool) (away : Away) {s : List Resting}
-    → All (λ (h : Resting). wouldNowCross buy away h ≡ true
-    → P (Cancelled (h .number) (h .shares) cancelledBack) × P (Moved (h .number) (lockingPrice buy away) (h .shares))) s
-    → All P (moveLines buy away s)
-unfolding moveLines
-every-move buy away none = none
-every-move {P = P} buy away (also {x = h} f a) =
-    ⊎-elim
-    (λ (t : wouldNowCross buy away h ≡ true). rw t (also (one-line t) (every-move buy away a)))
-    (λ (t : wouldNowCross buy away h ≡ false). rw t (every-move buy away a))
-    (holds-or-not (wouldNowCross buy away h))
+pub every-told : {P : Event → Type 0} → ((m : Number) (k : Shares) (reason : ℕ) → P (Cancelled m k reason))
+    → ((m : Number) (price : Cents) (k : Shares) → P (Moved m price k)) → (c : Body) (b : Book)
+    → All P (told (fateBy c true) (b .buys) ++ told (fateBy c false) (b .sells))
+unfolding told
+every-told {P = P} gone moved c b = all-both (of-side (fateBy c true) (b .buys)) (of-side (fateBy c false) (b .sells))
   where
-    one-line : wouldNowCross buy away h ≡ true → P (moveLine (lockingPrice buy away) h)
-    one-line t =
-        ⊎-elim
-        (λ (k : h .back ≡ true). rw k (f t .0))
-        (λ (k : h .back ≡ false). rw k (f t .1))
-        (holds-or-not (h .back))
+    by-fate : (f : Fate) (h : Resting) → All P (toldBy f h)
+    by-fate Stays h = none
+    by-fate (IsCancelled reason) h = also (gone (h .number) (h .shares) reason) none
+    by-fate (IsSet new) h = also (moved (new .number) (new .price) (new .shares)) none
+
+    of-side : (fate : Resting → Fate) (s : List Resting) → All P (told fate s)
+    of-side fate s = gathered-all (λ (h : Resting). toldBy (fate h) h) (all-alike (λ h p. by-fate (fate h) h) (each-there s))
+
+pub every-last : {P : Event → Type 0} (n : Number) → ((price : Cents) (k : Shares) → P (Rested n price k))
+    → ((k : Shares) (reason : ℕ) → P (Cancelled n k reason)) → (left : ℕ) (e : Ending) → All P (lastLine n left e)
+every-last n rested gone left Filled = none
+every-last n rested gone left (Rests price) = also (rested price (shares left)) none
+every-last n rested gone left (Cancels reason) = also (gone (shares left) reason) none
 
 -- ── Executions ──
 
@@ -122,11 +117,6 @@ module _ (o : Order) (away : Away) (n : Number) {side : List Resting} where
   nothing-fairly [] = none
   nothing-fairly (h ∷ s) = nothing-fairly s
 
-  last-fairly : (left : ℕ) (e : Ending) → All (FairlyExecuted o away n side) (lastLine n left e)
-  last-fairly left Filled = none
-  last-fairly left (Rests price) = also tt none
-  last-fairly left (Cancels reason) = also tt none
-
 -- Post Only takes nothing
 post-only-takes-nothing : (o : Order) (away : Away) (s : List Resting) → has (o .word) postOnly ≡ true → takings o away s ≡ nothing s
 unfolding walked
@@ -148,4 +138,4 @@ order-fairly b line c o s t e f =
     let lawful = takings-lawful o away side (order-side o (order .inRange)) p (sides-of (buying o) b (sound-is b s) .oppositeRanked) in
     executions-fairly o away n (takings o away side) (each-there side) (lawful .each))
     (holds-or-not (has (o .word) postOnly)) in
-    rw (acts-lines b line c o t e f) (all-both fairly (last-fairly o away n (remainder o away side) (ending o away side)))
+    rw (acts-lines b line c o t e f) (all-both fairly (every-last n (λ price k. tt) (λ k reason. tt) (remainder o away side) (ending o away side)))

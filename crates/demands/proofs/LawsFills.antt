@@ -8,6 +8,7 @@ use mathlib.Core.Path.{_≡_, refl, sym, subst}
 use native.Mathlib.Omega.{arith}
 use Rattle.basics.specs.Lists.{sumOf, All, none, also, OneOf, first, later}
 use Rattle.basics.proofs.LawsChoice.{holds-or-not, lt-or-le}
+use Rattle.basics.proofs.LawsLists.{one-of-all}
 use Rattle.rules.specs.declared.Away.{Away}
 use Rattle.rules.specs.declared.Command.{Command}
 use Rattle.rules.specs.declared.Event.{Event}
@@ -21,7 +22,6 @@ use Rattle.soundness.proofs.LawsSound.{sound-is}
 use Rattle.demands.specs.Executes.{Tells, Executes}
 use Rattle.demands.specs.ShareOut.{opposite, Given, Each, empty, with, Fair, LawfulGiving, given}
 use Rattle.demands.specs.Told.{executedIn, givenIn, isKilled}
-use Rattle.demands.proofs.LawsLinesTell.{one-of-all}
 
 -- ── Two ways to give, over any side in rank order ──
 

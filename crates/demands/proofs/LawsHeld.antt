@@ -1,15 +1,16 @@
--- Demand 3, the sums of one command: what executing, cancelling, moving and resting do to the shares that a side holds of an order.
+-- Demand 3, the sums of one command: what executing, cancelling, setting anew and resting do to the shares that a side holds of an order.
 -- Assumes nothing.
 use Prim.Native.Nat.{ℕ, _+_, _-_, _≤_, min}
 use mathlib.Core.Bool.{Bool, true, false, true≢false}
-use mathlib.Core.List.{List, [], _∷_}
+use mathlib.Core.List.{List, [], _∷_, _++_}
 use mathlib.Core.Logic.{_≢_, ⊎-elim}
 use mathlib.Core.Path.{_≡_, refl, sym, ap, _∙_}
 use lib.Dec.{eqb}
 use native.Mathlib.Omega.{arith}
 use borrow.Author.Tests.{eq-eqb, ne-eqb, eqb-true}
-use Rattle.basics.specs.Lists.{total, sumOf}
+use Rattle.basics.specs.Lists.{total, sumOf, gathered}
 use Rattle.basics.proofs.LawsChoice.{holds-or-not}
+use Rattle.basics.proofs.LawsLists.{gathered-sum}
 use Rattle.kinds.specs.declared.Number.{Number}
 use Rattle.rules.specs.declared.Away.{Away}
 use Rattle.rules.specs.declared.Ending.{Ending}
@@ -17,13 +18,17 @@ use Rattle.rules.specs.declared.Ending.the-variants.{Filled, Rests, Cancels}
 use Rattle.rules.specs.declared.Order.{Order}
 use Rattle.rules.specs.declared.Resting.{Resting}
 use Rattle.rules.specs.Instructions.{ioc, fok, postOnly, has}
+use Rattle.rules.specs.declared.Fate.{Fate}
+use Rattle.rules.specs.declared.Fate.the-variants.{Stays, IsCancelled, IsSet}
+use Rattle.rules.specs.Settling.{toldBy, told, settledSide}
+use Rattle.rules.specs.Working.{buying, mayTouch, nothing, walk, smaller, walked, takings, remainder, executions, after, endingWith, ending, lastLine, remainderOf, withRemainder}
+use Rattle.rules.proofs.LawsCommands.{IfSet, SameOrder}
 use Rattle.rules.proofs.LawsTakings.{nothing-total}
-use Rattle.rules.specs.Working.{buying, mayTouch, nothing, walk, smaller, walked, takings, remainder, executions, after, endingWith, ending, lastLine, remainderOf, withRemainder, kept, cancels, wouldNowCross, moveLines, afterMoves}
 use Rattle.demands.specs.ShareOut.{Each, empty, with}
 use Rattle.soundness.proofs.LawsEndings.{chosen, sought-is}
 use Rattle.soundness.proofs.LawsInsert.{added-insert, added-sum}
-use Rattle.soundness.proofs.LawsMoves.{ofBack, moves-counted}
-use Rattle.demands.specs.Told.{countedIf, executedIn, cancelledIn, restsOn}
+use Rattle.soundness.proofs.LawsSettled.{leftBy, settled-sum}
+use Rattle.demands.specs.Told.{countedIf, executedIn, cancelledBy, cancelledIn, restsOn}
 use Rattle.demands.proofs.LawsWalked.{taken, walk-at-most}
 
 -- ── What is counted under a number ──
@@ -138,72 +143,35 @@ executions-cancel-none n m (h ∷ s) (t ∷ ts) =
     (λ (z : eqb t 0 ≡ false). rw z (omega (arith, executions-cancel-none n m s ts)))
     (holds-or-not (eqb t 0))
 
--- ── What is cancelled ──
+-- ── What is cancelled and what is set anew ──
 
-pub cancels-sum : (n : Number) (reason : ℕ) (gone : Resting → Bool) (s : List Resting)
-    → cancelledIn n (cancels reason gone s) + restsOn n (kept gone s) ≡ restsOn n s
-unfolding cancels kept sumOf
-cancels-sum n reason gone [] = omega arith
-cancels-sum n reason gone (h ∷ s) =
-    ⊎-elim
-    (λ (t : gone h ≡ true). rw t (omega (arith, cancels-sum n reason gone s)))
-    (λ (t : gone h ≡ false). rw t (omega (arith, cancels-sum n reason gone s)))
-    (holds-or-not (gone h))
-
-pub cancels-all : (n : Number) (reason : ℕ) (s : List Resting) → cancelledIn n (cancels reason (λ h. true) s) ≡ restsOn n s
-unfolding cancels sumOf
-cancels-all n reason [] = refl
-cancels-all n reason (h ∷ s) = omega (arith, cancels-all n reason s)
-
--- .. and executes nothing
-pub cancels-execute-none : (n : Number) (reason : ℕ) (gone : Resting → Bool) (s : List Resting) → executedIn n (cancels reason gone s) ≡ 0
-unfolding cancels sumOf
-cancels-execute-none n reason gone [] = refl
-cancels-execute-none n reason gone (h ∷ s) =
-    ⊎-elim
-    (λ (t : gone h ≡ true). rw t (omega (arith, cancels-execute-none n reason gone s)))
-    (λ (t : gone h ≡ false). rw t (cancels-execute-none n reason gone s))
-    (holds-or-not (gone h))
-
--- ── What a quote moves ──
-
--- an order that it cancels is told with its shares; one that it sets anew keeps them
-moves-cancelled : (n : Number) (buy : Bool) (away : Away) (s : List Resting)
-    → cancelledIn n (moveLines buy away s) ≡ sumOf (ofBack buy away (λ (h : Resting). countedIf n (h .number) (h .shares .0))) s
-unfolding moveLines sumOf
-moves-cancelled n buy away [] = refl
-moves-cancelled n buy away (h ∷ s) =
-    ⊎-elim
-    (λ (t : wouldNowCross buy away h ≡ true).
-    ⊎-elim
-    (λ (c : h .back ≡ true). rw (t, c) (omega (arith, moves-cancelled n buy away s)))
-    (λ (c : h .back ≡ false). rw (t, c) (omega (arith, moves-cancelled n buy away s)))
-    (holds-or-not (h .back)))
-    (λ (t : wouldNowCross buy away h ≡ false). rw t (omega (arith, moves-cancelled n buy away s)))
-    (holds-or-not (wouldNowCross buy away h))
-
-pub moves-sum : (n m : Number) (k : ℕ) (buy : Bool) (away : Away) (s : List Resting)
-    → cancelledIn n (moveLines buy away s) + restsOn n (afterMoves m k buy away s) ≡ restsOn n s
-moves-sum n m k buy away s =
+-- whoever is cancelled is told with its shares; whoever stays or is set anew keeps them
+pub told-sum : (n m : Number) (k : ℕ) (buy : Bool) (fate : Resting → Fate) → ((h : Resting) → IfSet (SameOrder h) (fate h)) → (s : List Resting)
+    → cancelledIn n (told fate s) + restsOn n (settledSide m k buy fate s) ≡ restsOn n s
+unfolding told sumOf
+told-sum n m k buy fate same s =
+    let cut : Resting → ℕ = λ h. cancelledIn n (toldBy (fate h) h) in
     omega (
       arith,
-      moves-cancelled n buy away s,
-      moves-counted (λ (h : Resting). countedIf n (h .number) (h .shares .0)) (λ h price anew. refl) m buy away k s,
+      gathered-sum (λ (h : Resting). toldBy (fate h) h) (cancelledBy n) s,
+      settled-sum (λ (h : Resting). countedIf n (h .number) (h .shares .0)) cut (λ h anew. refl) fate (λ h. by-fate (fate h) h (same h)) m k buy s,
     )
+  where
+    by-fate : (f : Fate) (h : Resting) → IfSet (SameOrder h) f → restsOn n (leftBy f h) + cancelledIn n (toldBy f h) ≡ countedIf n (h .number) (h .shares .0)
+    by-fate Stays h i = omega arith
+    by-fate (IsCancelled reason) h i = omega arith
+    by-fate (IsSet new) h i = rw (i .number, i .shares) (omega arith)
 
--- .. and executes nothing
-pub moves-execute-none : (n : Number) (buy : Bool) (away : Away) (s : List Resting) → executedIn n (moveLines buy away s) ≡ 0
-unfolding moveLines sumOf
-moves-execute-none n buy away [] = refl
-moves-execute-none n buy away (h ∷ s) =
-    ⊎-elim
-    (λ (t : wouldNowCross buy away h ≡ true).
-    ⊎-elim
-    (λ (c : h .back ≡ true). rw (t, c) (omega (arith, moves-execute-none n buy away s)))
-    (λ (c : h .back ≡ false). rw (t, c) (omega (arith, moves-execute-none n buy away s)))
-    (holds-or-not (h .back)))
-    (λ (t : wouldNowCross buy away h ≡ false). rw t (moves-execute-none n buy away s))
-    (holds-or-not (wouldNowCross buy away h))
+-- .. and nothing is executed
+pub told-execute-none : (n : Number) (fate : Resting → Fate) (s : List Resting) → executedIn n (told fate s) ≡ 0
+unfolding told gathered sumOf
+told-execute-none n fate [] = refl
+told-execute-none n fate (h ∷ s) = by-fate (fate h) (told-execute-none n fate s)
+  where
+    by-fate : (f : Fate) → executedIn n (told fate s) ≡ 0 → executedIn n (toldBy f h ++ told fate s) ≡ 0
+    by-fate Stays e = e
+    by-fate (IsCancelled reason) e = omega (arith, e)
+    by-fate (IsSet new) e = omega (arith, e)
 
 -- ── What rests ──
 

@@ -11,7 +11,7 @@ use borrow.Author.Tests.{eqb-true, eqb-false, ltb-false, le-ltb}
 use Rattle.basics.specs.Choice.{if_then_else_}
 use Rattle.basics.specs.Lists.{All, OneOf}
 use Rattle.basics.proofs.LawsChoice.{holds-or-not, and-right}
-use Rattle.basics.proofs.LawsLists.{all-alike}
+use Rattle.basics.proofs.LawsLists.{all-alike, one-of-all}
 use Rattle.kinds.specs.Kinds.{priceInRange}
 use Rattle.kinds.specs.declared.Cents.{Cents}
 use Rattle.kinds.specs.declared.Number.{Number}
@@ -25,21 +25,22 @@ use Rattle.rules.specs.declared.Event.{Event}
 use Rattle.rules.specs.declared.Order.{Order}
 use Rattle.rules.specs.declared.Resting.{Resting}
 use Rattle.rules.specs.Book.{Book, fresh, sound}
+use Rattle.rules.specs.Commands.{does}
 use Rattle.rules.specs.Day.{bookAfter}
 use Rattle.rules.specs.Instructions.{ioc, fok, displayed, cancelBack, postOnly, iso, has}
+use Rattle.rules.specs.Settling.{ownSide, oppositeSide}
 use Rattle.rules.specs.Step.{answerTo}
-use Rattle.rules.specs.Working.{buying, beyond, lockingPrice, absent, remainder, adjusted, oneCentLessAggressive, seeks, equalsOrPasses, unlessPostOnlyMeets, endingWith, ending, ownSide, oppositeSide, does}
+use Rattle.rules.specs.Working.{buying, beyond, lockingPrice, absent, remainder, adjusted, oneCentLessAggressive, seeks, equalsOrPasses, unlessPostOnlyMeets, endingWith, ending}
+use Rattle.rules.proofs.LawsCommands.{fateBy, IfSet, if-set, never-set, crosses-beyond, not-beyond-itself}
 use Rattle.soundness.proofs.LawsEndings.{chosen}
 use Rattle.soundness.proofs.LawsKept.{answer-sound, fresh-sound}
-use Rattle.soundness.proofs.LawsMoves.{not-beyond-itself, crosses-beyond}
 use Rattle.soundness.proofs.LawsSeeks.{beyond-further, beyond-within, or-right}
 use Rattle.soundness.proofs.LawsSound.{Sound, sound-is}
 use Rattle.demands.specs.Once.{byLine}
 use Rattle.demands.specs.Run.{Enters, now, later}
 use Rattle.demands.proofs.LawsExecutes.{acts-accepted, acts-order, order-side}
-use Rattle.demands.proofs.LawsLinesTell.{one-of-all}
 use Rattle.demands.proofs.LawsOnce.{next-acts, answer-rises}
-use Rattle.demands.proofs.LawsOrigins.{Comes, stays, moves, rests, does-comes, another-number, after-line}
+use Rattle.demands.proofs.LawsOrigins.{Comes, stayed, anew, rests, does-comes, another-number, after-line}
 use Rattle.demands.proofs.LawsRun.{accepted-does}
 
 -- ── The price at which an order comes to rest ──
@@ -84,7 +85,7 @@ module _ (o : Order) (away : Away) where
       let locking = lockingPrice buy away in
       let wouldCross = beyond buy locking limit in
       let wouldLock = eqb (limit .0) (locking .0) in
-      let itself = not-beyond-itself buy away buy in
+      let itself = not-beyond-itself buy in
       tested (WithinLimit o) (has (o .word) iso || absent locking) (λ t. itself limit)
       (tested (WithinLimit o) (has (o .word) displayed && (wouldLock || wouldCross))
       (λ t. adjusted-within (oneCentLessAggressive buy locking)
@@ -129,13 +130,21 @@ less-aggressive buy limit bound price b w =
     (λ (t : beyond buy limit bound ≡ false). t)
     (holds-or-not (beyond buy limit bound))
 
+-- so is whoever a command sets anew
+set-within : (c : Body) (buy : Bool) (limit : Cents) (h : Resting) → beyond buy limit (h .price) ≡ false
+    → IfSet (λ (new : Resting). beyond buy limit (new .price) ≡ false) (fateBy c buy h)
+set-within c buy limit h w =
+    if-set (λ (new : Resting). beyond buy limit (new .price) ≡ false) c buy h
+    (λ away is t. less-aggressive buy limit (lockingPrice buy away) (h .price) (crosses-beyond buy away h t) w)
+
 module _ (b : Book) (isSound : Sound b) (n : Number) (next : b .held .last .0 < n .0) (time : ℕ) where
   -- when the order enters
   entered-limits : (o : Order) → Limits o n (does n time (body.Order o) b .book)
   entered-limits o buy = all-alike limited (does-comes b isSound n time (body.Order o) buy)
     where
       limited : (x : Resting) → Comes b n buy x (body.Order o) → x .number ≡ n → Limited o buy x
-      limited x (stays h p a i e) same = absurd (another-number b isSound n next buy p (ap (λ (m : Number). m .0) (sym i ∙ same)))
+      limited x (stayed h p a i e) same = absurd (another-number b isSound n next buy p (ap (λ (m : Number). m .0) (sym i ∙ same)))
+      limited x (anew h new p a i e) same = never-set a
       limited x (rests t e i) same =
           let w : beyond (buying o) (o .price) (x .price) ≡ false = subst (WithinLimit o) e (ending-within o (b .held .away) (oppositeSide buy b)) in
           record { isSide = t; within = subst (λ (side : Bool). beyond side (o .price) (x .price) ≡ false) t w }
@@ -145,13 +154,13 @@ module _ (b : Book) (isSound : Sound b) (n : Number) (next : b .held .last .0 < 
   later-limits o m l limits c buy = all-alike (limited c) (does-comes b isSound n time c buy)
     where
       limited : (c : Body) (x : Resting) → Comes b n buy x c → x .number ≡ m → Limited o buy x
-      limited c x (stays h p a i e) same =
+      limited c x (stayed h p a i e) same =
           let w = one-of-all (limits buy) p (sym i ∙ same) in
           record { isSide = w .isSide; within = rw e (w .within) }
-      limited (body.Quote away) x (moves h p t k i e) same =
+      limited c x (anew h new p a i e) same =
           let w = one-of-all (limits buy) p (sym i ∙ same) in
-          let locked = less-aggressive buy (o .price) (lockingPrice buy away) (h .price) (crosses-beyond buy away h t) (w .within) in
-          record { isSide = w .isSide; within = rw e locked }
+          let within = subst (IfSet (λ (new : Resting). beyond buy (o .price) (new .price) ≡ false)) a (set-within c buy (o .price) h (w .within)) in
+          record { isSide = w .isSide; within = rw e within }
       limited (body.Order entered) x (rests t e i) same =
           let z : ⊥ = omega (arith, next, l, ap (λ (k : Number). k .0) (sym i ∙ same)) in
           absurd z

@@ -11,7 +11,7 @@ use native.Mathlib.Omega.{arith}
 use borrow.Author.Tests.{eq-eqb, ne-eqb, eqb-true, eqb-false, not-true}
 use Rattle.basics.specs.Lists.{any, distinct, total, sumOf, All, none, also, OneOf, first, later}
 use Rattle.basics.proofs.LawsChoice.{holds-or-not, and-left, and-right, or-neither}
-use Rattle.basics.proofs.LawsLists.{all-alike}
+use Rattle.basics.proofs.LawsLists.{all-alike, one-of-all}
 use Rattle.kinds.specs.declared.Cents.{Cents}
 use Rattle.kinds.specs.declared.Number.{Number}
 use Rattle.kinds.specs.declared.Shares.{Shares}
@@ -24,9 +24,10 @@ use Rattle.rules.specs.declared.Event.the-variants.{Executed, Rested, Cancelled
 use Rattle.rules.specs.declared.Order.{Order}
 use Rattle.rules.specs.declared.Resting.{Resting}
 use Rattle.rules.specs.Book.{numbers, ranksBefore, inRankOrder, unused}
+use Rattle.rules.specs.Commands.{isNumber}
 use Rattle.rules.specs.EventLines.{fokKilled}
 use Rattle.rules.specs.Instructions.{ioc, fok, has}
-use Rattle.rules.specs.Working.{isNumber, executions, endingWith, lastLine}
+use Rattle.rules.specs.Working.{executions, endingWith, lastLine}
 use Rattle.soundness.proofs.LawsRank.{ranks-not-itself, ranked-first, ranked-rest, ranks-transitive}
 use Rattle.soundness.proofs.LawsSides.{bothSides, Sides, all-holding, sides-thinned}
 use Rattle.soundness.proofs.LawsThinned.{thinned-none, thinned-same}
@@ -287,11 +288,6 @@ place-at (later p) = place-at p
 pub place-in : {s : List Resting} {x : Resting} (p : OneOf x s) → place p < length s
 place-in first = omega arith
 place-in (later p) = omega (arith, place-in p)
-
--- what holds of all of a list holds of one of it
-pub one-of-all : {A : Type 0} {P : A → Type 0} {x : A} {s : List A} → All P s → OneOf x s → P x
-one-of-all (also p a) first = p
-one-of-all (also p a) (later q) = one-of-all a q
 
 -- on a side in rank order, who ranks before another stands before it
 pub stands-before : (buy : Bool) {s : List Resting} {x y : Resting} → inRankOrder buy s ≡ true → (p : OneOf x s) (q : OneOf y s)

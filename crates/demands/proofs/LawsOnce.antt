@@ -13,8 +13,6 @@ use Rattle.basics.specs.Bytes.{onto}
 use Rattle.basics.specs.Lists.{distinct}
 use Rattle.basics.proofs.LawsChoice.{holds-or-not, by-test, and-left, and-right}
 use Rattle.kinds.specs.declared.Number.{Number}
-use Rattle.rules.specs.declared.Body.{Body}
-use Rattle.rules.specs.declared.Body.the-variants as body
 use Rattle.rules.specs.declared.Command.{Command}
 use Rattle.rules.specs.declared.Reading.{Reading}
 use Rattle.rules.specs.declared.Reading.the-variants as reading
@@ -24,7 +22,7 @@ use Rattle.rules.specs.Day.{printed, bookAfter, printedOf}
 use Rattle.rules.specs.EventLines.{eventLines}
 use Rattle.rules.specs.Refusals.{firstOf, lastRefusal, headerRefusals, lineRefusals, refusals}
 use Rattle.rules.specs.Step.{doneBy, answer, answerTo, step, stepOn}
-use Rattle.rules.specs.Working.{accept, cancel, quote, close, does}
+use Rattle.rules.proofs.LawsCommands.{does-number-and-time}
 use Rattle.rules.proofs.LawsRefusals.{first-numbered, table-numbered}
 use Rattle.soundness.proofs.LawsAccepted.{accepted}
 use Rattle.demands.proofs.LawsRoom.{done-long, fit-for}
@@ -91,21 +89,13 @@ pub refused-events : (b : Book) (line : List ℕ) → acts b line ≡ false → 
 unfolding answerTo answer
 refused-events b line e = rw e refl
 
--- a command leaves its number
-does-last : (n : Number) (time : ℕ) (c : Body) (b : Book) → does n time c b .book .held .last ≡ n
-unfolding does accept cancel quote close
-does-last n time (body.Order o) b = refl
-does-last n time (body.Cancel of) b = refl
-does-last n time (body.Quote away) b = refl
-does-last n time body.Close b = refl
-
 -- a line that no refusal is given for is a command with the number after the last, and leaves that number
 next-done : (b : Book) (a : Reading) → firstOf (lineRefusals b a) ≡ 0 → (commandNumber a ≡ b .held .last .0 + 1) × (doneBy a b .book .held .last .0 ≡ b .held .last .0 + 1)
 unfolding doneBy lineRefusals firstOf
 next-done b reading.Bad e = let z : ⊥ = omega (arith, e) in absurd z
 next-done b (reading.Is c) e =
     let next = accepted b c e .next in
-    (next, rw (does-last (c .number) (c .time) (c .body) b) next)
+    (next, rw (does-number-and-time (c .number) (c .time) b (c .body) .0) next)
 
 pub next-acts : (b : Book) (line : List ℕ) → acts b line ≡ true
     → (commandNumber (commandIn line) ≡ b .held .last .0 + 1) × (answerTo b line .book .held .last .0 ≡ b .held .last .0 + 1)

@@ -1,18 +1,15 @@
--- Where the resting orders after a command come from: each was there before and keeps its price, or a quote set it anew, or it is what
--- rests of the order that the command enters. Assumes nothing.
-use Prim.Native.Nat.{ℕ, suc, _+_, _≤_, _<_}
-use mathlib.Core.Bool.{Bool, true, false, not, _&&_}
-use mathlib.Core.List.{List, [], _∷_, _++_}
+-- Where the resting orders after a command come from: each stood there before and keeps its price, or the command set it anew, or it is
+-- what rests of the order that the command enters. Assumes nothing.
+use Prim.Native.Nat.{ℕ, _+_, _≤_, _<_}
+use mathlib.Core.Bool.{Bool, true, false}
+use mathlib.Core.List.{List, [], _++_}
 use mathlib.Core.Logic.{_≢_, ⊎-elim}
 use mathlib.Core.Path.{_≡_, refl, sym, subst}
-use lib.ListN.{length}
 use native.Mathlib.Omega.{arith}
-use borrow.Author.Tests.{not-true}
-use Rattle.basics.specs.Lists.{All, none, also, OneOf, first, later}
-use Rattle.basics.proofs.LawsChoice.{holds-or-not, and-left, and-right}
-use Rattle.basics.proofs.LawsLists.{all-alike}
+use Rattle.basics.specs.Lists.{All, OneOf, first, later}
+use Rattle.basics.proofs.LawsChoice.{holds-or-not}
+use Rattle.basics.proofs.LawsLists.{all-alike, one-of-all, each-there, behind}
 use Rattle.kinds.specs.declared.Number.{Number}
-use Rattle.rules.specs.declared.Away.{Away}
 use Rattle.rules.specs.declared.Body.{Body}
 use Rattle.rules.specs.declared.Body.the-variants as body
 use Rattle.rules.specs.declared.Command.{Command}
@@ -25,74 +22,38 @@ use Rattle.rules.specs.declared.Reading.the-variants as reading
 use Rattle.rules.specs.declared.Resting.{Resting}
 use Rattle.rules.specs.Book.{Book}
 use Rattle.rules.specs.CommandLines.{commandIn}
+use Rattle.rules.specs.Commands.{cancel, quote, close, carriedOut, does}
+use Rattle.rules.specs.declared.Fate.the-variants.{Stays, IsSet}
+use Rattle.rules.specs.Settling.{settledSide, ownSide, oppositeSide, settled, bothSettled}
 use Rattle.rules.specs.Step.{answerTo}
-use Rattle.rules.specs.Working.{withShares, buying, lockingPrice, takings, remainder, after, ending, remainderOf, withRemainder, ownSide, oppositeSide, accept, kept, isNumber, cancel, wouldNowCross, setAnew, afterMoves, firstMove, quote, close, does}
+use Rattle.rules.specs.Working.{withShares, buying, takings, remainder, after, ending, remainderOf, withRemainder, accept}
+use Rattle.rules.proofs.LawsCommands.{fateBy, IfSet, SameOrder, set-same}
 use Rattle.soundness.proofs.LawsAccepted.{InOrder}
 use Rattle.soundness.proofs.LawsInsert.{added-insert, added-all}
-use Rattle.soundness.proofs.LawsMoves.{inserted-all}
+use Rattle.soundness.proofs.LawsSettled.{settled-are}
 use Rattle.soundness.proofs.LawsSides.{all-holding, sides-of}
 use Rattle.soundness.proofs.LawsSound.{Sound}
-use Rattle.soundness.proofs.LawsThinned.{Thinned, thinned-after, thinned-kept, thinned-all}
+use Rattle.soundness.proofs.LawsThinned.{thinned-after, thinned-all}
 use Rattle.demands.specs.Once.{commandNumber, acts}
 use Rattle.demands.proofs.LawsExecutes.{acts-accepted}
-use Rattle.demands.proofs.LawsLinesTell.{onceEach, once-first, once-rest, opposite-once, one-of-all}
+use Rattle.demands.proofs.LawsLinesTell.{onceEach, once-first, once-rest, opposite-once}
 use Rattle.demands.proofs.LawsOnce.{refused-book, refused-events, next-acts}
 use Rattle.demands.proofs.LawsRun.{accepted-does}
 
--- ── Who is in a list ──
-
--- each element of a list is one of it
-pub each-there : {A : Type 0} (s : List A) → All (λ (x : A). OneOf x s) s
-each-there [] = none
-each-there (x ∷ s) = also first (all-alike (λ y p. later p) (each-there s))
-
--- and one of each longer list
-pub in-front : {A : Type 0} {x : A} {s : List A} (u : List A) → OneOf x s → OneOf x (s ++ u)
-in-front u first = first
-in-front u (later p) = later (in-front u p)
-
-pub behind : {A : Type 0} {y : A} (s : List A) {u : List A} → OneOf y u → OneOf y (s ++ u)
-behind [] q = q
-behind (x ∷ s) q = later (behind s q)
-
 -- ── Where a resting order comes from ──
-
--- a command leaves an order's price alone: a quote does if the order would not cross it
-abbrev pub LeftAlone : Body → Bool → Resting → Type 0
-LeftAlone (body.Order o) buy h = Unit {0}
-LeftAlone (body.Cancel of) buy h = Unit {0}
-LeftAlone (body.Quote away) buy h = wouldNowCross buy away h ≡ false
-LeftAlone body.Close buy h = Unit {0}
 
 -- where x, of a side of the book after command n, comes from
 pub data Comes (b : Book) (n : Number) (buy : Bool) (x : Resting) : Body → Type 0 where
-  stays : {c : Body} (h : Resting) → OneOf h (ownSide buy b) → LeftAlone c buy h → x .number ≡ h .number → x .price ≡ h .price → Comes b n buy x c
-  moves : {away : Away} (h : Resting) → OneOf h (ownSide buy b) → wouldNowCross buy away h ≡ true → h .back ≡ false
-      → x .number ≡ h .number → x .price ≡ lockingPrice buy away → Comes b n buy x (body.Quote away)
+  stayed : {c : Body} (h : Resting) → OneOf h (ownSide buy b) → fateBy c buy h ≡ Stays → x .number ≡ h .number → x .price ≡ h .price
+      → Comes b n buy x c
+  anew : {c : Body} (h new : Resting) → OneOf h (ownSide buy b) → fateBy c buy h ≡ IsSet new → x .number ≡ h .number → x .price ≡ new .price
+      → Comes b n buy x c
   rests : {o : Order} → buying o ≡ buy → ending o (b .held .away) (oppositeSide buy b) ≡ Rests (x .price) → x .number ≡ n → Comes b n buy x (body.Order o)
 
 module _ (b : Book) (isSound : Sound b) (n : Number) (time : ℕ) where
-  -- fewer shares change neither number nor price
-  fewer : {c : Body} (buy : Bool) (h : Resting) (left : ℕ) → 1 ≤ left → left ≤ h .shares .0 → Comes b n buy h c → Comes b n buy (withShares left h) c
-  fewer buy h left l m (stays g p a i e) = stays g p a i e
-  fewer buy h left l m (moves g p t k i e) = moves g p t k i e
-  fewer buy h left l m (rests t e i) = rests t e i
-
-  -- who is left of a side that no quote moves was there
-  thinned-comes : {c : Body} (buy : Bool) {s : List Resting} → ((h : Resting) → LeftAlone c buy h) → Thinned (ownSide buy b) s
-      → All (λ x. Comes b n buy x c) s
-  thinned-comes buy alone t = thinned-all (fewer buy) t (all-alike (λ h p. stays h p (alone h) refl refl) (each-there (ownSide buy b)))
-
-  -- the orders of a sound book hold shares
-  all-own : (buy : Bool) → All (λ (h : Resting). 1 ≤ h .shares .0) (ownSide buy b)
-  all-own buy = all-holding (b .held .last) (sides-of buy b isSound .ownInRange)
-
-  -- an order: on the opposite side, and on its own
-  opposite-comes : (o : Order) (buy : Bool) (ts : List ℕ) → All (λ x. Comes b n buy x (body.Order o)) (after (ownSide buy b) ts)
-  opposite-comes o buy ts = thinned-comes buy (λ h. tt) (thinned-after ts (all-own buy))
-
+  -- an order: on its own side, and on the opposite one, where fewer shares change neither number nor price
   same-comes : (o : Order) (buy : Bool) → All (λ x. Comes b n buy x (body.Order o)) (ownSide buy b)
-  same-comes o buy = all-alike (λ h p. stays h p tt refl refl) (each-there (ownSide buy b))
+  same-comes o buy = all-alike (λ h p. stayed h p refl refl refl) (each-there (ownSide buy b))
 
   own-comes : (o : Order) (buy : Bool) → buying o ≡ buy → (left : ℕ) (e : Ending) → ending o (b .held .away) (oppositeSide buy b) ≡ e
       → All (λ x. Comes b n buy x (body.Order o)) (withRemainder n o left e (ownSide buy b))
@@ -101,8 +62,16 @@ module _ (b : Book) (isSound : Sound b) (n : Number) (time : ℕ) where
   own-comes o buy t left (Rests price) i =
       added-all (rests t i refl) (added-insert (buying o) (remainderOf n o left price) (ownSide buy b)) (same-comes o buy)
 
-  accept-comes : (o : Order) (buy : Bool) → All (λ x. Comes b n buy x (body.Order o)) (ownSide buy (accept n time o b .book))
-  unfolding accept
+  opposite-comes : (o : Order) (buy : Bool) (ts : List ℕ) → All (λ x. Comes b n buy x (body.Order o)) (after (ownSide buy b) ts)
+  opposite-comes o buy ts = thinned-all fewer (thinned-after ts (all-holding (b .held .last) (sides-of buy b isSound .ownInRange))) (same-comes o buy)
+    where
+      fewer : (h : Resting) (left : ℕ) → 1 ≤ left → left ≤ h .shares .0 → Comes b n buy h (body.Order o) → Comes b n buy (withShares left h) (body.Order o)
+      fewer h left l m (stayed g p a i e) = stayed g p a i e
+      fewer h left l m (anew g new p a i e) = anew g new p a i e
+      fewer h left l m (rests t e i) = rests t e i
+
+  accept-comes : (o : Order) (buy : Bool) → All (λ x. Comes b n buy x (body.Order o)) (ownSide buy (does n time (body.Order o) b .book))
+  unfolding does carriedOut accept
   accept-comes o true =
       ⊎-elim
       (λ (t : buying o ≡ true). rw t (own-comes o true t (remainder o (b .held .away) (b .sells)) (ending o (b .held .away) (b .sells)) refl))
@@ -114,51 +83,27 @@ module _ (b : Book) (isSound : Sound b) (n : Number) (time : ℕ) where
       (λ (t : buying o ≡ false). rw t (own-comes o false t (remainder o (b .held .away) (b .buys)) (ending o (b .held .away) (b .buys)) refl))
       (holds-or-not (buying o))
 
-  -- a quote: who stays, and who is set anew
-  kept-comes : (away : Away) (buy : Bool) {s : List Resting} → All (λ x. OneOf x (ownSide buy b)) s
-      → All (λ x. Comes b n buy x (body.Quote away)) (kept (wouldNowCross buy away) s)
-  unfolding kept
-  kept-comes away buy none = none
-  kept-comes away buy (also {x = h} p a) =
-      ⊎-elim
-      (λ (t : wouldNowCross buy away h ≡ true). rw t (kept-comes away buy a))
-      (λ (t : wouldNowCross buy away h ≡ false). rw t (also (stays h p t refl refl) (kept-comes away buy a)))
-      (holds-or-not (wouldNowCross buy away h))
-
-  set-comes : (away : Away) (buy : Bool) (k : ℕ) {s : List Resting} → All (λ x. OneOf x (ownSide buy b)) s
-      → All (λ x. Comes b n buy x (body.Quote away)) (setAnew n k buy away s)
-  unfolding setAnew
-  set-comes away buy k none = none
-  set-comes away buy k (also {x = h} p a) =
-      ⊎-elim
-      (λ (t : (wouldNowCross buy away h && not (h .back)) ≡ true).
-      let crosses = and-left (wouldNowCross buy away h) (not (h .back)) t in
-      let notBack = not-true (h .back) (and-right (wouldNowCross buy away h) (not (h .back)) t) in
-      rw t (also (moves h p crosses notBack refl refl) (set-comes away buy (suc k) a)))
-      (λ (t : (wouldNowCross buy away h && not (h .back)) ≡ false). rw t (set-comes away buy k a))
-      (holds-or-not (wouldNowCross buy away h && not (h .back)))
-
-  moved-comes : (away : Away) (buy : Bool) (k : ℕ) → All (λ x. Comes b n buy x (body.Quote away)) (afterMoves n k buy away (ownSide buy b))
-  unfolding afterMoves
-  moved-comes away buy k =
-      let there = each-there (ownSide buy b) in
-      inserted-all buy (set-comes away buy k there) (kept-comes away buy there)
+  -- every other command
+  settled-comes : (c : Body) (buy : Bool) (k : ℕ) → All (λ x. Comes b n buy x c) (settledSide n k buy (fateBy c buy) (ownSide buy b))
+  settled-comes c buy k =
+      settled-are (fateBy c buy) n k buy (ownSide buy b) (λ h p e. stayed h p e refl refl)
+      (λ h new p e. anew h new p e (subst (IfSet (SameOrder h)) e (set-same c buy h) .number) refl)
 
   -- whatever a command does
   pub does-comes : (c : Body) (buy : Bool) → All (λ x. Comes b n buy x c) (ownSide buy (does n time c b .book))
-  unfolding does cancel quote close
+  unfolding does carriedOut cancel quote close bothSettled settled
   does-comes (body.Order o) buy = accept-comes o buy
-  does-comes (body.Cancel of) true = thinned-comes true (λ h. tt) (thinned-kept (isNumber of) (all-own true))
-  does-comes (body.Cancel of) false = thinned-comes false (λ h. tt) (thinned-kept (isNumber of) (all-own false))
-  does-comes (body.Quote away) true = moved-comes away true firstMove
-  does-comes (body.Quote away) false = moved-comes away false (firstMove + length (setAnew n firstMove true away (b .buys)))
-  does-comes body.Close true = none
-  does-comes body.Close false = none
+  does-comes (body.Cancel of) true = settled-comes (body.Cancel of) true _
+  does-comes (body.Cancel of) false = settled-comes (body.Cancel of) false _
+  does-comes (body.Quote away) true = settled-comes (body.Quote away) true _
+  does-comes (body.Quote away) false = settled-comes (body.Quote away) false _
+  does-comes body.Close true = settled-comes body.Close true _
+  does-comes body.Close false = settled-comes body.Close false _
 
 -- ── A number stands for one order of a sound book ──
 
 -- on one side
-same-order : {s : List Resting} {x y : Resting} → onceEach s ≡ true → OneOf x s → OneOf y s → x .number .0 ≡ y .number .0 → x ≡ y
+pub same-order : {s : List Resting} {x y : Resting} → onceEach s ≡ true → OneOf x s → OneOf y s → x .number .0 ≡ y .number .0 → x ≡ y
 same-order d first first e = refl
 same-order {x = x} d (first {s = s}) (later q) e = absurd (one-of-all (once-first x s d) q e)
 same-order {y = y} d (later p) (first {s = s}) e = absurd (one-of-all (once-first y s d) p (sym e))

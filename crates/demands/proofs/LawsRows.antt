@@ -25,9 +25,10 @@ use Rattle.rules.specs.declared.Ending.the-variants.{Filled, Rests, Cancels}
 use Rattle.rules.specs.declared.Order.{Order}
 use Rattle.rules.specs.declared.Resting.{Resting}
 use Rattle.rules.specs.Book.{Book, BookRecord, bookIn, awayInRange, opening, closing, placesASide}
+use Rattle.rules.specs.Commands.{isNumber}
 use Rattle.rules.specs.Instructions.{market, has, lawful}
 use Rattle.rules.specs.Refusals.{Refusal, isClose, untimely, orderPriceInRange, orderInRange, isResting, isRest, restsOnFullSide, headerRefusals, bodyRefusals}
-use Rattle.rules.specs.Working.{ending, isNumber}
+use Rattle.rules.specs.Working.{ending}
 use Rattle.demands.specs.ShareOut.{opposite}
 use Rattle.demands.specs.ExactlyWhen.{own, NeitherNoneNorInRange, AppliesTo, seen, tooHigh, isClosed, beforeTheLast, beforeTheOpening, fromTheClosingOn, afterTheClosing, unlawful, noSide, sharesOutside, limitOutside, marketPriced, bidOutside, offerOutside, notResting, sideFull}
 

@@ -1,12 +1,11 @@
 -- The demands over a run of lines from a fresh book, said of what is printed. Assumes nothing.
-use Prim.Native.Nat.{ℕ, _+_, _≤_, _<_, _^_}
+use Prim.Native.Nat.{ℕ, _+_, _≤_}
 use mathlib.Core.Bool.{true, false}
 use mathlib.Core.List.{List}
 use mathlib.Core.Logic.{⊎-elim}
 use mathlib.Core.Path.{_≡_, refl, sym, subst}
 use lib.Dec.{eqb}
 use lib.ListN.{length}
-use native.Mathlib.Omega.{arith}
 use borrow.Author.Tests.{le-ltb}
 use Rattle.basics.specs.Bytes.{onto}
 use Rattle.basics.specs.Choice.{if_then_else_}
@@ -17,19 +16,19 @@ use Rattle.rules.specs.declared.Order.{Order}
 use Rattle.rules.specs.declared.Reading.the-variants as reading
 use Rattle.rules.specs.Book.{Book, fresh, sound, recordOf}
 use Rattle.rules.specs.CommandLines.{commandIn}
+use Rattle.rules.specs.Commands.{does}
 use Rattle.rules.specs.Day.{printed, bookAfter, printedOf}
 use Rattle.rules.specs.EventLines.{eventLines}
 use Rattle.rules.specs.Instructions.{postOnly, has}
 use Rattle.rules.specs.Refusals.{leastRoom, firstOf, lineRefusals, refusals}
 use Rattle.rules.specs.Step.{doneBy, answer, answerTo, step, stepOn}
-use Rattle.rules.specs.Working.{does}
 use Rattle.soundness.proofs.LawsKept.{answer-sound, fresh-sound, book-record, record-sound}
 use Rattle.demands.specs.Executes.{Executes}
 use Rattle.demands.specs.Once.{acts, byLine}
 use Rattle.demands.specs.Run.{eventsOf, Enters, now, later}
 use Rattle.demands.specs.Told.{eventsIn, executedIn, cancelledIn, restingOf}
 use Rattle.demands.proofs.LawsExecutes.{executes}
-use Rattle.demands.proofs.LawsSums.{settled, conserved-from}
+use Rattle.demands.proofs.LawsSums.{run-balance, conserved-from}
 use Rattle.demands.proofs.LawsTold.{line-told, run-told}
 
 -- ── A call in a day ──
@@ -86,7 +85,7 @@ told-conserved {b = b} {lines = lines} s r = rw (run-told b lines s) (conserved-
 pub told-settled : (n : Number) (b : Book) (lines : List (List ℕ)) → sound b ≡ true → n .0 ≤ b .held .last .0
     → restingOf n b
     ≡ executedIn n (eventsIn (printedOf b lines)) + cancelledIn n (eventsIn (printedOf b lines)) + restingOf n (bookAfter b lines)
-told-settled n b lines s old = rw (run-told b lines s) (settled n b lines s old)
+told-settled n b lines s old = rw (run-told b lines s) (run-balance n b lines s old)
 
 -- the same from a fresh book
 pub run-executes : (lines : List (List ℕ)) (stood : Book) (line : List ℕ) (c : Command) (o : Order) → Enters byLine fresh lines stood line c o

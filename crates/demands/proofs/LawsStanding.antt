@@ -1,22 +1,20 @@
 -- Every execution is at the price at which the resting order was last told to stand, and that price is fair: within the incoming limit
 -- and, unless the order is an ISO, the away quote then held. Assumes nothing.
-use Prim.Native.Nat.{ℕ, _<_, _^_}
-use mathlib.Core.Bool.{Bool, true, false, true≢false}
+use Prim.Native.Nat.{ℕ, _<_}
+use mathlib.Core.Bool.{Bool, true, false}
 use mathlib.Core.List.{List, [], _∷_, _++_, append-assoc, append-nil}
-use mathlib.Core.Logic.{_≢_, ⊎-elim}
+use mathlib.Core.Logic.{_≢_}
 use mathlib.Core.Path.{_≡_, refl, sym, ap, _∙_, subst, subst₂}
 use lib.Dec.{eqb}
 use native.Mathlib.Omega.{arith}
 use borrow.Author.Tests.{eq-eqb, ne-eqb}
 use Rattle.basics.specs.Choice.{if_then_else_}
-use Rattle.basics.specs.Lists.{All, none, also, OneOf, first, later}
-use Rattle.basics.proofs.LawsChoice.{holds-or-not}
-use Rattle.basics.proofs.LawsLists.{all-alike, all-both}
+use Rattle.basics.specs.Lists.{gathered, All, none, also, OneOf, first, later}
+use Rattle.basics.proofs.LawsLists.{all-alike, all-both, one-of-all, each-there, gathered-all}
 use Rattle.kinds.specs.Kinds.{cents}
 use Rattle.kinds.specs.declared.Cents.{Cents}
 use Rattle.kinds.specs.declared.Number.{Number}
 use Rattle.kinds.specs.declared.Shares.{Shares}
-use Rattle.rules.specs.declared.Away.{Away}
 use Rattle.rules.specs.declared.Body.{Body}
 use Rattle.rules.specs.declared.Body.the-variants as body
 use Rattle.rules.specs.declared.Command.{Command}
@@ -29,19 +27,26 @@ use Rattle.rules.specs.declared.Reading.the-variants as reading
 use Rattle.rules.specs.declared.Resting.{Resting}
 use Rattle.rules.specs.Book.{Book, fresh, sound}
 use Rattle.rules.specs.CommandLines.{commandIn}
+use Rattle.rules.specs.Commands.{carriedOut, does}
 use Rattle.rules.specs.Day.{printed, bookAfter, printedOf}
+use Rattle.rules.specs.Settling as settling
+use Rattle.rules.specs.declared.Fate.{Fate}
+use Rattle.rules.specs.declared.Fate.the-variants.{Stays, IsCancelled, IsSet}
+use Rattle.rules.specs.Settling.{told, ownSide, oppositeSide}
 use Rattle.rules.specs.Step.{answerTo}
-use Rattle.rules.specs.Working.{buying, lockingPrice, takings, remainder, executions, ending, lastLine, ownSide, oppositeSide, accept, cancels, cancel, wouldNowCross, moveLine, moveLines, quote, close, does}
+use Rattle.rules.specs.Working.{buying, takings, remainder, executions, ending, lastLine, accept}
+use Rattle.rules.proofs.LawsCommands.{fateBy, IfSet, SameOrder, set-same, never-set, does-tells}
 use Rattle.soundness.proofs.LawsKept.{answer-sound, fresh-sound, after-sound}
+use Rattle.soundness.proofs.LawsSides.{sides-of}
 use Rattle.soundness.proofs.LawsSound.{Sound, sound-is}
 use Rattle.demands.specs.Beyond.{toldBy, lastTold, standsAt}
 use Rattle.demands.specs.Once.{acts}
 use Rattle.demands.specs.Run.{eventsOf}
 use Rattle.demands.specs.ShareOut.{Fair}
 use Rattle.demands.specs.Told.{eventsIn}
-use Rattle.demands.proofs.LawsFairly.{every-execution, every-cancel, every-move, Fairly, order-fairly}
-use Rattle.demands.proofs.LawsLinesTell.{one-of-all}
-use Rattle.demands.proofs.LawsOrigins.{each-there, LeftAlone, Comes, stays, moves, rests, does-comes, one-number, other-number, another-number, after-line}
+use Rattle.demands.proofs.LawsFairly.{every-execution, Fairly, order-fairly}
+use Rattle.demands.proofs.LawsLinesTell.{onceEach, once-first, once-rest, opposite-once}
+use Rattle.demands.proofs.LawsOrigins.{Comes, stayed, anew, rests, does-comes, one-number, other-number, another-number, after-line}
 use Rattle.demands.proofs.LawsRun.{run-read}
 use Rattle.demands.proofs.LawsTold.{line-told}
 
@@ -69,12 +74,9 @@ told-same n price before = rw (eq-eqb (n .0) (n .0) refl) refl
 told-other : (n m : Number) (price before : Cents) → n .0 ≢ m .0 → (if eqb (n .0) (m .0) then price else before) ≡ before
 told-other n m price before d = rw (ne-eqb (n .0) (m .0) d) refl
 
--- executions and cancels tell no price
+-- executions tell no price
 executions-quiet : (n m : Number) (s : List Resting) (ts : List ℕ) → All (Quiet n) (executions m s ts)
 executions-quiet n m s ts = every-execution m (λ h t before. refl) s ts
-
-cancels-quiet : (n : Number) (reason : ℕ) (gone : Resting → Bool) (s : List Resting) → All (Quiet n) (cancels reason gone s)
-cancels-quiet n reason gone s = every-cancel reason gone (λ h before. refl) s
 
 -- the last line of an order tells no price of another
 last-quiet : (n m : Number) (left : ℕ) (e : Ending) → n .0 ≢ m .0 → All (Quiet n) (lastLine m left e)
@@ -87,41 +89,31 @@ last-told : (n : Number) (left : ℕ) (e : Ending) (price : Cents) → e ≡ Res
 unfolding lastTold
 last-told n left e price i before = rw i (told-same n price before)
 
-module _ (buy : Bool) (away : Away) where
-  -- the lines of a quote tell no price of a number that none of those has who would cross
-  moves-quiet : (n : Number) {s : List Resting} → All (λ (y : Resting). wouldNowCross buy away y ≡ true → n .0 ≢ y .number .0) s
-      → All (Quiet n) (moveLines buy away s)
-  moves-quiet n a =
-      every-move buy away (all-alike (λ y d t. (λ before. refl, λ before. told-other n (y .number) (lockingPrice buy away) before (d t))) a)
-
-  -- who stands at the Locking Price is told to stand nowhere else
-  locked-told : (n : Number) (s : List Resting) → lastTold n (lockingPrice buy away) (moveLines buy away s) ≡ lockingPrice buy away
-  unfolding moveLines lastTold
-  locked-told n [] = refl
-  locked-told n (y ∷ s) =
-      ⊎-elim
-      (λ (t : wouldNowCross buy away y ≡ true).
-      ⊎-elim
-      (λ (c : y .back ≡ true). rw (t, c) (locked-told n s))
-      (λ (c : y .back ≡ false). rw (t, c) (rw (either-way (eqb (n .0) (y .number .0))) (locked-told n s)))
-      (holds-or-not (y .back)))
-      (λ (t : wouldNowCross buy away y ≡ false). rw t (locked-told n s))
-      (holds-or-not (wouldNowCross buy away y))
+-- fates that set no order anew as another one
+module _ (fate : Resting → Fate) (same : (h : Resting) → IfSet (SameOrder h) (fate h)) where
+  -- they tell no price of a number, if whoever has it stays
+  told-quiet : (n : Number) {s : List Resting} → All (λ (y : Resting). n .0 ≡ y .number .0 → fate y ≡ Stays) s → All (Quiet n) (told fate s)
+  unfolding told
+  told-quiet n a = gathered-all (λ (y : Resting). settling.toldBy (fate y) y) (all-alike (λ y alone. by-fate y (fate y) alone (same y)) a)
     where
-      either-way : (t : Bool) → (if t then lockingPrice buy away else lockingPrice buy away) ≡ lockingPrice buy away
-      either-way true = refl
-      either-way false = refl
+      by-fate : (y : Resting) (f : Fate) → (n .0 ≡ y .number .0 → f ≡ Stays) → IfSet (SameOrder y) f → All (Quiet n) (settling.toldBy f y)
+      by-fate y Stays alone i = none
+      by-fate y (IsCancelled reason) alone i = also (λ before. refl) none
+      by-fate y (IsSet new) alone i =
+          let other : n .0 ≢ new .number .0 = λ e. never-set (sym (alone (e ∙ ap (λ (m : Number). m .0) (i .number)))) in
+          also (λ before. told-other n (new .number) (new .price) before other) none
 
-  -- who is moved is told to stand there
-  moves-told : (h : Resting) → wouldNowCross buy away h ≡ true → h .back ≡ false → {s : List Resting} → OneOf h s → (before : Cents)
-      → lastTold (h .number) before (moveLines buy away s) ≡ lockingPrice buy away
-  unfolding moveLines lastTold
-  moves-told h t c (first {s = s}) before = rw (t, c) (rw (told-same (h .number) (lockingPrice buy away) before) (locked-told (h .number) s))
-  moves-told h t c (later {y = y} {s = s} p) before =
-      ⊎-elim
-      (λ (u : wouldNowCross buy away y ≡ true). rw u (moves-told h t c p (toldBy (h .number) (moveLine (lockingPrice buy away) y) before)))
-      (λ (u : wouldNowCross buy away y ≡ false). rw u (moves-told h t c p before))
-      (holds-or-not (wouldNowCross buy away y))
+  -- whoever is set anew is told to stand at the new price
+  set-told : (h new : Resting) → fate h ≡ IsSet new → {s : List Resting} → onceEach s ≡ true → OneOf h s → (before : Cents)
+      → lastTold (h .number) before (told fate s) ≡ new .price
+  unfolding told gathered lastTold
+  set-told h new e d (first {s = s}) before =
+      let number = subst (IfSet (SameOrder h)) e (same h) .number in
+      let quiet = told-quiet (h .number) (all-alike (λ y other is. absurd (other is)) (once-first h s d)) in
+      rw (e, number, told-same (h .number) (new .price) before) (quiet-told (h .number) (new .price) quiet)
+  set-told h new e d (later {y = y} {s = s} p) before =
+      let lines = settling.toldBy (fate y) y in
+      told-append (h .number) before lines (told fate s) ∙ set-told h new e (once-rest y s d) p (lastTold (h .number) before lines)
 
 -- ── A command keeps what events told ──
 
@@ -130,46 +122,53 @@ abbrev StandAsTold : List Event → Book → Type 0
 StandAsTold es b = (buy : Bool) → All (λ (h : Resting). standsAt (h .number) es ≡ h .price) (ownSide buy b)
 
 module _ (b : Book) (isSound : Sound b) (n : Number) (next : b .held .last .0 < n .0) (time : ℕ) where
-  -- a quote tells nothing of one that would not cross it
-  uncrossed-quiet : (away : Away) (buy : Bool) (h : Resting) → OneOf h (ownSide buy b) → wouldNowCross buy away h ≡ false
-      → (side : Bool) → All (Quiet (h .number)) (moveLines side away (ownSide side b))
-  uncrossed-quiet away buy h p a side =
-      moves-quiet side away (h .number)
-      (all-alike (λ y q t e. true≢false (sym (crosses-too y t (one-number b isSound buy side p q e)) ∙ a)) (each-there (ownSide side b)))
+  -- events tell nothing of one that stays
+  stays-quiet : (buy : Bool) (h : Resting) → OneOf h (ownSide buy b) → (c : Body) → fateBy c buy h ≡ Stays → All (Quiet (h .number)) (does n time c b .events)
+  unfolding does carriedOut accept
+  stays-quiet buy h p = does-tells n time b (λ (c : Body) (es : List Event). fateBy c buy h ≡ Stays → All (Quiet (h .number)) es) order-quiet both-quiet
     where
-      crosses-too : (y : Resting) → wouldNowCross side away y ≡ true → (buy ≡ side) × (h ≡ y) → wouldNowCross buy away h ≡ true
-      crosses-too y t same = subst₂ (λ (s : Bool) (z : Resting). wouldNowCross s away z ≡ true) (sym (same .0)) (sym (same .1)) t
+      order-quiet : (o : Order) → fateBy (body.Order o) buy h ≡ Stays → All (Quiet (h .number)) (does n time (body.Order o) b .events)
+      order-quiet o alone =
+          let s = oppositeSide (buying o) b in
+          all-both (executions-quiet (h .number) n s (takings o (b .held .away) s))
+          (last-quiet (h .number) n (remainder o (b .held .away) s) (ending o (b .held .away) s) (another-number b isSound n next buy p))
 
-  -- events tell nothing of one that is left alone
-  stays-quiet : (c : Body) (buy : Bool) (h : Resting) → OneOf h (ownSide buy b) → LeftAlone c buy h
-      → All (Quiet (h .number)) (does n time c b .events)
-  unfolding does accept cancel quote close
-  stays-quiet (body.Order o) buy h p a =
-      let s = oppositeSide (buying o) b in
-      all-both (executions-quiet (h .number) n s (takings o (b .held .away) s))
-      (last-quiet (h .number) n (remainder o (b .held .away) s) (ending o (b .held .away) s) (another-number b isSound n next buy p))
-  stays-quiet (body.Cancel of) buy h p a = all-both (cancels-quiet (h .number) _ _ (b .buys)) (cancels-quiet (h .number) _ _ (b .sells))
-  stays-quiet (body.Quote away) buy h p a = all-both (uncrossed-quiet away buy h p a true) (uncrossed-quiet away buy h p a false)
-  stays-quiet body.Close buy h p a = all-both (cancels-quiet (h .number) _ _ (b .buys)) (cancels-quiet (h .number) _ _ (b .sells))
+      side-quiet : (c : Body) → fateBy c buy h ≡ Stays → (side : Bool) → All (Quiet (h .number)) (told (fateBy c side) (ownSide side b))
+      side-quiet c alone side =
+          told-quiet (fateBy c side) (set-same c side) (h .number)
+          (all-alike
+          (λ y q e.
+          let same = one-number b isSound buy side p q e in
+          subst₂ (λ (s : Bool) (z : Resting). fateBy c s z ≡ Stays) (same .0) (same .1) alone) (each-there (ownSide side b)))
 
-  -- one that a quote moves is told its new price, whatever was told of it before
-  crossed-told : (away : Away) (buy : Bool) (h : Resting) → OneOf h (ownSide buy b) → wouldNowCross buy away h ≡ true → h .back ≡ false
-      → (before : Cents) → lastTold (h .number) before (does n time (body.Quote away) b .events) ≡ lockingPrice buy away
-  unfolding does quote
-  crossed-told away true h p t c before =
-      let told = lastTold (h .number) before (moveLines true away (b .buys)) in
-      told-append (h .number) before (moveLines true away (b .buys)) (moveLines false away (b .sells))
-      ∙ quiet-told (h .number) told
-      (moves-quiet false away (h .number) (all-alike (λ y q u. other-number (b .sells) (isSound .once) p q) (each-there (b .sells))))
-      ∙ moves-told true away h t c p before
-  crossed-told away false h p t c before =
-      told-append (h .number) before (moveLines true away (b .buys)) (moveLines false away (b .sells))
-      ∙ moves-told false away h t c p (lastTold (h .number) before (moveLines true away (b .buys)))
+      both-quiet : (c : Body) → fateBy c buy h ≡ Stays → All (Quiet (h .number)) (told (fateBy c true) (b .buys) ++ told (fateBy c false) (b .sells))
+      both-quiet c alone = all-both (side-quiet c alone true) (side-quiet c alone false)
+
+  -- one that is set anew is told its new price, whatever was told of it before
+  anew-told : (buy : Bool) (h new : Resting) → OneOf h (ownSide buy b) → (before : Cents) (c : Body) → fateBy c buy h ≡ IsSet new
+      → lastTold (h .number) before (does n time c b .events) ≡ new .price
+  anew-told buy h new p before =
+      does-tells n time b (λ (c : Body) (es : List Event). fateBy c buy h ≡ IsSet new → lastTold (h .number) before es ≡ new .price)
+      (λ o e. never-set e) (λ c e. by-side c buy p e)
+    where
+      by-side : (c : Body) (buy : Bool) → OneOf h (ownSide buy b) → fateBy c buy h ≡ IsSet new
+          → lastTold (h .number) before (told (fateBy c true) (b .buys) ++ told (fateBy c false) (b .sells)) ≡ new .price
+      by-side c true p e =
+          let buys = told (fateBy c true) (b .buys) in
+          told-append (h .number) before buys (told (fateBy c false) (b .sells))
+          ∙ quiet-told (h .number) (lastTold (h .number) before buys)
+          (told-quiet (fateBy c false) (set-same c false) (h .number)
+          (all-alike (λ y q is. absurd (other-number (b .sells) (isSound .once) p q is)) (each-there (b .sells))))
+          ∙ set-told (fateBy c true) (set-same c true) h new e (opposite-once (sides-of false b isSound)) p before
+      by-side c false p e =
+          let buys = told (fateBy c true) (b .buys) in
+          told-append (h .number) before buys (told (fateBy c false) (b .sells))
+          ∙ set-told (fateBy c false) (set-same c false) h new e (opposite-once (sides-of true b isSound)) p (lastTold (h .number) before buys)
 
   -- and one that comes to rest is told where
   rested-told : (o : Order) (price : Cents) (buy : Bool) → buying o ≡ buy → ending o (b .held .away) (oppositeSide buy b) ≡ Rests price → (before : Cents)
       → lastTold n before (does n time (body.Order o) b .events) ≡ price
-  unfolding does accept
+  unfolding does carriedOut accept
   rested-told o price buy t e before =
       let s = oppositeSide buy b in
       rw t
@@ -179,44 +178,41 @@ module _ (b : Book) (isSound : Sound b) (n : Number) (next : b .held .last .0 < 
   -- so each that stands afterwards stands where it was last told to
   comes-told : (es : List Event) → StandAsTold es b → (c : Body) (buy : Bool) (x : Resting) → Comes b n buy x c
       → standsAt (x .number) (es ++ does n time c b .events) ≡ x .price
-  comes-told es told c buy x (stays h p a i e) =
-      let events = does n time c b .events in
+  comes-told es stand c buy x (stayed h p a i e) =
       rw (i, e)
-      (told-append (h .number) (cents 0) es events
-      ∙ quiet-told (h .number) (standsAt (h .number) es) (stays-quiet c buy h p a)
-      ∙ one-of-all (told buy) p)
-  comes-told es told (body.Quote away) buy x (moves h p t k i e) =
-      rw (i, e)
-      (told-append (h .number) (cents 0) es (does n time (body.Quote away) b .events)
-      ∙ crossed-told away buy h p t k (standsAt (h .number) es))
-  comes-told es told (body.Order o) buy x (rests t e i) =
+      (told-append (h .number) (cents 0) es (does n time c b .events)
+      ∙ quiet-told (h .number) (standsAt (h .number) es) (stays-quiet buy h p c a)
+      ∙ one-of-all (stand buy) p)
+  comes-told es stand c buy x (anew h new p a i e) =
+      rw (i, e) (told-append (h .number) (cents 0) es (does n time c b .events) ∙ anew-told buy h new p (standsAt (h .number) es) c a)
+  comes-told es stand (body.Order o) buy x (rests t e i) =
       rw i
       (told-append n (cents 0) es (does n time (body.Order o) b .events)
       ∙ rested-told o (x .price) buy t e (standsAt n es))
 
   -- a command keeps it
   does-told : (es : List Event) → StandAsTold es b → (c : Body) → StandAsTold (es ++ does n time c b .events) (does n time c b .book)
-  does-told es told c buy = all-alike (comes-told es told c buy) (does-comes b isSound n time c buy)
+  does-told es stand c buy = all-alike (comes-told es stand c buy) (does-comes b isSound n time c buy)
 
 -- ── A run of lines ──
 
 -- so does a line
 line-stands : (b : Book) (line : List ℕ) (es : List Event) → sound b ≡ true → StandAsTold es b
     → StandAsTold (es ++ answerTo b line .events) (answerTo b line .book)
-line-stands b line es s told =
+line-stands b line es s stand =
     after-line (λ (book : Book) (events : List Event). StandAsTold (es ++ events) book) b line
-    (λ t. subst (λ (fs : List Event). StandAsTold fs b) (sym (append-nil es)) told)
-    (λ c t e order. does-told b (sound-is b s) (c .number) (omega (arith, order .next)) (c .time) es told (c .body))
+    (λ t. subst (λ (fs : List Event). StandAsTold fs b) (sym (append-nil es)) stand)
+    (λ c t e order. does-told b (sound-is b s) (c .number) (omega (arith, order .next)) (c .time) es stand (c .body))
 
 -- over any run, each resting order stands where it was last told to
 run-stands : (b : Book) (lines : List (List ℕ)) (es : List Event) → sound b ≡ true → StandAsTold es b
     → StandAsTold (es ++ eventsOf b lines) (bookAfter b lines)
 unfolding eventsOf bookAfter
-run-stands b [] es s told = subst (λ (fs : List Event). StandAsTold fs b) (sym (append-nil es)) told
-run-stands b (line ∷ lines) es s told =
+run-stands b [] es s stand = subst (λ (fs : List Event). StandAsTold fs b) (sym (append-nil es)) stand
+run-stands b (line ∷ lines) es s stand =
     let a = answerTo b line in
     subst (λ (fs : List Event). StandAsTold fs (bookAfter (a .book) lines)) (append-assoc es (a .events) (eventsOf (a .book) lines))
-    (run-stands (a .book) lines (es ++ a .events) (answer-sound b line s) (line-stands b line es s told))
+    (run-stands (a .book) lines (es ++ a .events) (answer-sound b line s) (line-stands b line es s stand))
 
 -- ── Executions are where the resting order was told to stand ──
 
@@ -225,14 +221,14 @@ executes-where-told : (b : Book) (es : List Event) → sound b ≡ true → Stan
     → acts b line ≡ true → commandIn line ≡ reading.Is c → c .body ≡ body.Order o
     → (incoming resting : Number) (price : Cents) (shares : Shares) → OneOf (Executed incoming resting price shares) (answerTo b line .events)
     → (incoming ≡ c .number) × (price ≡ standsAt resting es) × Fair o (b .held .away) price
-executes-where-told b es s told line c o t e f incoming resting price shares p =
+executes-where-told b es s stand line c o t e f incoming resting price shares p =
     let x : Fairly o (b .held .away) (c .number) (oppositeSide (buying o) b) incoming resting price = one-of-all (order-fairly b line c o s t e f) p in
     let stands = one-of-all (opposite-told (buying o)) (x .there) in
     (x .isIncoming, x .atItsPrice ∙ sym stands ∙ ap (λ (n : Number). standsAt n es) (sym (x .isResting)), x .isFair)
   where
     opposite-told : (buy : Bool) → All (λ (h : Resting). standsAt (h .number) es ≡ h .price) (oppositeSide buy b)
-    opposite-told true = told false
-    opposite-told false = told true
+    opposite-told true = stand false
+    opposite-told false = stand true
 
 -- each execution of a day is at the price at which the resting order was last told to stand, which is fair
 pub executions-where-told : (before : List (List ℕ)) (line : List ℕ) (c : Command) (o : Order)
@@ -243,8 +239,8 @@ pub executions-where-told : (before : List (List ℕ)) (line : List ℕ) (c : Co
 executions-where-told before line c o t e f incoming resting price shares p =
     let b = bookAfter fresh before in
     let s = after-sound fresh before fresh-sound in
-    let told : StandAsTold (eventsIn (printedOf fresh before)) b = rw (run-read before) (run-stands fresh before [] fresh-sound fresh-told) in
-    executes-where-told b (eventsIn (printedOf fresh before)) s told line c o t e f incoming resting price shares
+    let stand : StandAsTold (eventsIn (printedOf fresh before)) b = rw (run-read before) (run-stands fresh before [] fresh-sound fresh-told) in
+    executes-where-told b (eventsIn (printedOf fresh before)) s stand line c o t e f incoming resting price shares
     (subst (OneOf (Executed incoming resting price shares)) (line-told b line s) p)
   where
     fresh-told : StandAsTold [] fresh

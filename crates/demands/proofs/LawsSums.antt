@@ -1,11 +1,10 @@
 -- Demand 3, the sums: over any run from a fresh book, for each accepted order, shares entered equal shares executed plus cancelled,
 -- both summed from the event lines, plus those still resting. Assumes nothing.
 use Prim.Native.Nat.{ℕ, _+_, _≤_, _<_}
-use mathlib.Core.Bool.{true, false}
+use mathlib.Core.Bool.{Bool, true, false}
 use mathlib.Core.List.{List, [], _∷_, _++_}
 use mathlib.Core.Logic.{_≢_, ⊎-elim}
 use mathlib.Core.Path.{_≡_, refl, _∙_, subst}
-use lib.ListN.{length}
 use native.Mathlib.Omega.{arith}
 use Rattle.basics.specs.Lists.{total, sumOf, All, none, also}
 use Rattle.basics.proofs.LawsChoice.{holds-or-not}
@@ -22,17 +21,20 @@ use Rattle.rules.specs.declared.Reading.the-variants as reading
 use Rattle.rules.specs.declared.Resting.{Resting}
 use Rattle.rules.specs.Book.{Book, fresh, sound}
 use Rattle.rules.specs.CommandLines.{commandIn}
+use Rattle.rules.specs.Commands.{withAway, shut, cancel, quote, close, begun, carriedOut, does}
 use Rattle.rules.specs.Day.{bookAfter}
-use Rattle.rules.specs.EventLines.{byCommand, atClose}
+use Rattle.rules.specs.declared.Fate.{Fate}
+use Rattle.rules.specs.Settling.{told, Done, onHeld, firstMove, settled, bothSettled}
 use Rattle.rules.specs.Step.{doneBy, answer, answerTo}
-use Rattle.rules.specs.Working.{buying, takings, remainder, executions, after, ending, lastLine, withRemainder, accept, cancels, isNumber, cancel, setAnew, moveLines, firstMove, quote, close, does}
+use Rattle.rules.specs.Working.{buying, takings, remainder, executions, after, ending, lastLine, withRemainder, accept}
+use Rattle.rules.proofs.LawsCommands.{fateBy, IfSet, SameOrder, set-same}
 use Rattle.soundness.proofs.LawsKept.{answer-sound, fresh-sound}
 use Rattle.soundness.proofs.LawsSides.{InRange, sides-of}
 use Rattle.soundness.proofs.LawsSound.{sound-is}
 use Rattle.demands.specs.Once.{commandNumber, acts, byLine}
 use Rattle.demands.specs.Run.{eventsOf, Enters, now, later}
 use Rattle.demands.specs.Told.{executedBy, cancelledBy, countedIf, executedIn, cancelledIn, restsOn, restingOf}
-use Rattle.demands.proofs.LawsHeld.{counted-same, counted-other, counted-split, takings-no-more, takings-at-most, executions-sum, executions-cancel-none, cancels-sum, cancels-all, cancels-execute-none, moves-sum, moves-execute-none, ending-sum, ending-leaves}
+use Rattle.demands.proofs.LawsHeld.{counted-same, counted-other, counted-split, takings-no-more, takings-at-most, executions-sum, executions-cancel-none, told-sum, told-execute-none, ending-sum, ending-leaves}
 use Rattle.demands.proofs.LawsOnce.{refused-book, refused-events, next-acts, answer-rises}
 
 -- ── One command ──
@@ -69,13 +71,38 @@ work-sum n m o away own opposite =
     )
 
 accept-sum : (n m : Number) (time : ℕ) (o : Order) (b : Book)
-    → restingOf n b + countedIf n m (o .shares .0) ≡ goneIn n (accept m time o b .events) + restingOf n (accept m time o b .book)
-unfolding accept
+    → restingOf n b + countedIf n m (o .shares .0)
+    ≡ goneIn n (does m time (body.Order o) b .events) + restingOf n (does m time (body.Order o) b .book)
+unfolding does carriedOut accept
 accept-sum n m time o b =
     ⊎-elim
     (λ (t : buying o ≡ true). rw t (work-sum n m o (b .held .away) (b .buys) (b .sells)))
     (λ (t : buying o ≡ false). rw t (omega (arith, work-sum n m o (b .held .away) (b .sells) (b .buys))))
     (holds-or-not (buying o))
+
+-- what settles a side, after all that a command has done, loses no share: what is gone and what rests add up as before
+settled-balance : (n : Number) (fate : Resting → Fate) → ((h : Resting) → IfSet (SameOrder h) (fate h)) → (buy : Bool) (d : Done)
+    → goneIn n (settled fate buy d .events) + restingOf n (settled fate buy d .book) ≡ goneIn n (d .events) + restingOf n (d .book)
+unfolding settled
+settled-balance n fate same true d =
+    let s = d .book .buys in
+    let sum = told-sum n (d .book .held .last) (firstMove + d .moves) true fate same s in
+    omega (arith, gone-append n (d .events) (told fate s), sum, told-execute-none n fate s)
+settled-balance n fate same false d =
+    let s = d .book .sells in
+    let sum = told-sum n (d .book .held .last) (firstMove + d .moves) false fate same s in
+    omega (arith, gone-append n (d .events) (told fate s), sum, told-execute-none n fate s)
+
+-- .. and so of both sides, by the fates of a command
+both-balance : (n : Number) (c : Body) (d : Done)
+    → goneIn n (bothSettled (fateBy c) d .events) + restingOf n (bothSettled (fateBy c) d .book) ≡ goneIn n (d .events) + restingOf n (d .book)
+unfolding bothSettled
+both-balance n c d =
+    omega (
+      arith,
+      settled-balance n (fateBy c true) (set-same c true) true d,
+      settled-balance n (fateBy c false) (set-same c false) false (settled (fateBy c true) true d),
+    )
 
 -- the shares that a command of number m enters under n
 abbrev pub enteredBy : Number → Number → Body → ℕ
@@ -89,36 +116,11 @@ enteredUnder n c = enteredBy n (c .number) (c .body)
 
 does-sum : (n m : Number) (time : ℕ) (c : Body) (b : Book)
     → restingOf n b + enteredBy n m c ≡ goneIn n (does m time c b .events) + restingOf n (does m time c b .book)
-unfolding does cancel quote close sumOf
+unfolding does carriedOut cancel quote close sumOf
 does-sum n m time (body.Order o) b = accept-sum n m time o b
-does-sum n m time (body.Cancel of) b =
-    omega (
-      arith,
-      gone-append n (cancels byCommand (isNumber of) (b .buys)) (cancels byCommand (isNumber of) (b .sells)),
-      cancels-sum n byCommand (isNumber of) (b .buys),
-      cancels-sum n byCommand (isNumber of) (b .sells),
-      cancels-execute-none n byCommand (isNumber of) (b .buys),
-      cancels-execute-none n byCommand (isNumber of) (b .sells),
-    )
-does-sum n m time (body.Quote away) b =
-    let after = firstMove + length (setAnew m firstMove true away (b .buys)) in
-    omega (
-      arith,
-      gone-append n (moveLines true away (b .buys)) (moveLines false away (b .sells)),
-      moves-sum n m firstMove true away (b .buys),
-      moves-sum n m after false away (b .sells),
-      moves-execute-none n true away (b .buys),
-      moves-execute-none n false away (b .sells),
-    )
-does-sum n m time body.Close b =
-    omega (
-      arith,
-      gone-append n (cancels atClose (λ h. true) (b .buys)) (cancels atClose (λ h. true) (b .sells)),
-      cancels-all n atClose (b .buys),
-      cancels-all n atClose (b .sells),
-      cancels-execute-none n atClose (λ h. true) (b .buys),
-      cancels-execute-none n atClose (λ h. true) (b .sells),
-    )
+does-sum n m time (body.Cancel of) b = omega (arith, both-balance n (body.Cancel of) (begun m time b))
+does-sum n m time (body.Quote away) b = omega (arith, both-balance n (body.Quote away) (onHeld (withAway away) (begun m time b)))
+does-sum n m time body.Close b = omega (arith, both-balance n body.Close (onHeld shut (begun m time b)))
 
 -- ── One line ──
 
@@ -161,11 +163,11 @@ acts-balance b line n s t other = by-reading (commandIn line) refl
         omega (arith, balance b line n s t c e, entered-none c (c .body) (next-number b line t c e))
 
 -- nothing more enters under a number that is not above the last
-pub settled : (n : Number) (b : Book) (lines : List (List ℕ)) → sound b ≡ true → n .0 ≤ b .held .last .0
+pub run-balance : (n : Number) (b : Book) (lines : List (List ℕ)) → sound b ≡ true → n .0 ≤ b .held .last .0
     → restingOf n b ≡ goneIn n (eventsOf b lines) + restingOf n (bookAfter b lines)
 unfolding eventsOf bookAfter sumOf
-settled n b [] s l = omega arith
-settled n b (line ∷ lines) s l =
+run-balance n b [] s l = omega arith
+run-balance n b (line ∷ lines) s l =
     ⊎-elim
     (λ (t : acts b line ≡ true).
     let book = answerTo b line .book in
@@ -175,11 +177,11 @@ settled n b (line ∷ lines) s l =
       arith,
       gone-append n (answerTo b line .events) (eventsOf book lines),
       acts-balance b line n s t other,
-      settled n book lines (answer-sound b line s) (omega (arith, last)),
+      run-balance n book lines (answer-sound b line s) (omega (arith, last)),
     ))
     (λ (t : acts b line ≡ false).
     let book = answerTo b line .book in
-    let rest : restingOf n b ≡ goneIn n (eventsOf book lines) + restingOf n (bookAfter book lines) = rw (refused-book b line t) (settled n b lines s l) in
+    let rest : restingOf n b ≡ goneIn n (eventsOf book lines) + restingOf n (bookAfter book lines) = rw (refused-book b line t) (run-balance n b lines s l) in
     rw (refused-events b line t) rest)
     (holds-or-not (acts b line))
 
@@ -217,7 +219,7 @@ conserved-from s (now {b = b} {x = line} {xs = lines} {c = c} {o = o} t e f) =
       balance b line (c .number) s t c e,
       entered-order (c .number) c o refl f,
       above-rests-none (c .number) b s (omega (arith, next)),
-      settled (c .number) book lines (answer-sound b line s) (omega (arith, next, last)),
+      run-balance (c .number) book lines (answer-sound b line s) (omega (arith, next, last)),
     )
 conserved-from s (later {b = b} {x = line} {xs = lines} {stood = stood} {c = c} {o = o} r) =
     let book = answerTo b line .book in

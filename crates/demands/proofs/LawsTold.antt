@@ -9,7 +9,7 @@ use lib.Dec.{eqb}
 use native.Mathlib.Omega.{arith}
 use Rattle.basics.specs.Lists.{All, none, also}
 use Rattle.basics.proofs.LawsChoice.{holds-or-not}
-use Rattle.basics.proofs.LawsLists.{all-alike, all-both}
+use Rattle.basics.proofs.LawsLists.{all-alike, all-both, gathered-all}
 use Rattle.kinds.specs.declared.Cents.{Cents}
 use Rattle.kinds.specs.declared.Number.{Number}
 use Rattle.kinds.specs.Kinds.{priceInRange}
@@ -26,11 +26,16 @@ use Rattle.rules.specs.declared.Reading.the-variants as reading
 use Rattle.rules.specs.declared.Resting.{Resting}
 use Rattle.rules.specs.Book.{Book, sound}
 use Rattle.rules.specs.CommandLines.{Fitting, empty, fits, headerForm, orderForm, quoteForm, numbersOf, formOf, commandIn}
+use Rattle.rules.specs.Commands.{carriedOut, does}
 use Rattle.rules.specs.Day.{linesIn, printed, printedOf}
-use Rattle.rules.specs.EventLines.{FitsEvent, eventLines, executedKind, restedKind, cancelledKind, movedKind, byCommand, iocRemainder, fokKilled, cancelledBack, noPriceInRange, postOnlyMeets, atClose}
+use Rattle.rules.specs.EventLines.{FitsEvent, eventLines, executedKind, restedKind, cancelledKind, movedKind, iocRemainder, fokKilled, cancelledBack, noPriceInRange, postOnlyMeets}
 use Rattle.rules.specs.Instructions.{ioc, fok, has}
+use Rattle.rules.specs.declared.Fate.{Fate}
+use Rattle.rules.specs.declared.Fate.the-variants.{Stays, IsCancelled, IsSet}
+use Rattle.rules.specs.Settling.{toldBy, told, oppositeSide}
 use Rattle.rules.specs.Step.{doneBy, answer, answerTo}
-use Rattle.rules.specs.Working.{buying, lockingPrice, oppositeSide, remainder, executions, endingWith, ending, lastLine, accept, cancels, isNumber, cancel, wouldNowCross, moveLines, quote, close, does}
+use Rattle.rules.specs.Working.{buying, lockingPrice, remainder, executions, endingWith, ending, lastLine, accept}
+use Rattle.rules.proofs.LawsCommands.{fateBy, cancel-fate, quote-fate, does-tells}
 use Rattle.rules.proofs.LawsLines.{commandIn-is}
 use Rattle.soundness.proofs.LawsEndings.{chosen, sought-is}
 use Rattle.soundness.proofs.LawsKept.{answer-sound}
@@ -42,7 +47,7 @@ use Rattle.demands.specs.ShareOut.{Each, empty, with}
 use Rattle.demands.specs.Told.{eventsOn, eventsIn}
 use Rattle.demands.proofs.LawsEventLines.{events-read, refusal-read}
 use Rattle.demands.proofs.LawsHeld.{NoMore, takings-no-more}
-use Rattle.demands.proofs.LawsOnce.{refused-book, refused-events, next-acts}
+use Rattle.demands.proofs.LawsOnce.{refused-events, next-acts}
 
 -- ── Resting orders ──
 
@@ -60,7 +65,7 @@ price-small p e = omega (arith, price-highest p e)
 all-small : {last : Number} → last .0 < 2 ^ 32 → {s : List Resting} → All (InRange last) s → All Small s
 all-small l a = all-alike (λ h r. record { number = omega (arith, l, r .upToLast); price = price-small (h .price) (r .priced); shares = omega (arith, r .atMost) }) a
 
--- ── Executions and cancels ──
+-- ── Executions ──
 
 -- each execution is of a resting order, at its price, and none gives more than it holds
 executions-fit : (n : Number) → n .0 < 2 ^ 32 → {s : List Resting} {ts : List ℕ} → All Small s → Each NoMore s ts → All FitsEvent (executions n s ts)
@@ -73,34 +78,38 @@ executions-fit n l (also {x = h} r a) (with {y = t} m e) =
     rw z (also (fits 1 executedKind (omega arith) (fits 4 (n .0) l (fits 4 (h .number .0) (r .number) (fits 4 (h .price .0) (r .price) (fits 4 t (omega (arith, r .shares)) empty))))) (executions-fit n l a e)))
     (holds-or-not (eqb t 0))
 
--- each cancel is of a resting order with all of its shares
-cancels-fit : (reason : ℕ) → reason < 2 ^ 8 → (gone : Resting → Bool) {s : List Resting} → All Small s → All FitsEvent (cancels reason gone s)
-unfolding cancels
-cancels-fit reason l gone none = none
-cancels-fit reason l gone (also {x = h} r a) =
-    ⊎-elim
-    (λ (t : gone h ≡ true).
-    rw t (also (fits 1 cancelledKind (omega arith) (fits 4 (h .number .0) (r .number) (fits 4 (h .shares .0) (r .shares) (fits 1 reason l empty)))) (cancels-fit reason l gone a)))
-    (λ (t : gone h ≡ false). rw t (cancels-fit reason l gone a))
-    (holds-or-not (gone h))
+-- ── Cancels and moves ──
 
--- ── Moves ──
+-- a reason fits in one byte, and so do the fields of whoever is set anew in four
+abbrev SmallFate : Fate → Type 0
+SmallFate Stays = Unit {0}
+SmallFate (IsCancelled reason) = reason < 2 ^ 8
+SmallFate (IsSet new) = Small new
 
--- each line is of a resting order with all of its shares, that of a move with the Locking Price
-moves-fit : (buy : Bool) (away : Away) → lockingPrice buy away .0 < 2 ^ 32 → {s : List Resting} → All Small s → All FitsEvent (moveLines buy away s)
-unfolding moveLines
-moves-fit buy away l none = none
-moves-fit buy away l (also {x = h} r a) =
-    ⊎-elim
-    (λ (t : wouldNowCross buy away h ≡ true).
-    ⊎-elim
-    (λ (c : h .back ≡ true).
-    rw (t, c) (also (fits 1 cancelledKind (omega arith) (fits 4 (h .number .0) (r .number) (fits 4 (h .shares .0) (r .shares) (fits 1 cancelledBack (omega arith) empty)))) (moves-fit buy away l a)))
-    (λ (c : h .back ≡ false).
-    rw (t, c) (also (fits 1 movedKind (omega arith) (fits 4 (h .number .0) (r .number) (fits 4 (lockingPrice buy away .0) l (fits 4 (h .shares .0) (r .shares) empty)))) (moves-fit buy away l a)))
-    (holds-or-not (h .back)))
-    (λ (t : wouldNowCross buy away h ≡ false). rw t (moves-fit buy away l a))
-    (holds-or-not (wouldNowCross buy away h))
+told-fits : (fate : Resting → Fate) → ((h : Resting) → Small h → SmallFate (fate h)) → {s : List Resting} → All Small s → All FitsEvent (told fate s)
+unfolding told
+told-fits fate small a = gathered-all (λ (h : Resting). toldBy (fate h) h) (all-alike (λ h r. by-fate (fate h) h r (small h r)) a)
+  where
+    by-fate : (f : Fate) (h : Resting) → Small h → SmallFate f → All FitsEvent (toldBy f h)
+    by-fate Stays h r i = none
+    by-fate (IsCancelled reason) h r i =
+        also (fits 1 cancelledKind (omega arith) (fits 4 (h .number .0) (r .number) (fits 4 (h .shares .0) (r .shares) (fits 1 reason i empty)))) none
+    by-fate (IsSet new) h r i =
+        let fields = fits 4 (new .number .0) (i .number) (fits 4 (new .price .0) (i .price) (fits 4 (new .shares .0) (i .shares) empty)) in
+        also (fits 1 movedKind (omega arith) fields) none
+
+-- an away quote that was read has prices of four bytes
+locking-small : (buy : Bool) (away : Away) → Fitting quoteForm (numbersOf (body.Quote away)) → lockingPrice buy away .0 < 2 ^ 32
+locking-small true away (fits w bid p (fits x offer q empty)) = q
+locking-small false away (fits w bid p (fits x offer q empty)) = p
+
+-- so are the fates that a command that was read gives
+fates-small : (c : Body) → Fitting (formOf c) (numbersOf c) → (buy : Bool) (h : Resting) → Small h → SmallFate (fateBy c buy h)
+fates-small (body.Order o) f buy h r = tt
+fates-small (body.Cancel of) f buy h r = cancel-fate SmallFate of h (omega arith) (λ t. tt)
+fates-small (body.Quote away) f buy h r =
+    quote-fate SmallFate away buy h (λ t. tt) (λ t b. omega arith) (λ t b. record { number = r .number; price = locking-small buy away f; shares = r .shares })
+fates-small body.Close f buy h r = omega arith
 
 -- ── The ending of an order ──
 
@@ -133,34 +142,20 @@ module _ (b : Book) (s : sound b ≡ true) (l : b .held .last .0 < 2 ^ 32) (n : 
   opposite-small : (buy : Bool) → All Small (oppositeSide buy b)
   opposite-small buy = all-small l (sides-of buy b (sound-is b s) .oppositeInRange)
 
-  -- no more is left of an order than it has
-  accept-fits : (o : Order) → o .price .0 < 2 ^ 32 → o .shares .0 < 2 ^ 32 → All FitsEvent (accept n time o b .events)
-  unfolding accept remainder
-  accept-fits o p q =
+  -- no more is left of an order than it has, and one that was read has a price and shares of four bytes
+  order-fits : (o : Order) → Fitting orderForm (numbersOf (body.Order o)) → All FitsEvent (does n time (body.Order o) b .events)
+  unfolding does carriedOut accept remainder
+  order-fits o (fits w side i (fits x word j (fits y price p (fits z size q empty)))) =
       let opposite = oppositeSide (buying o) b in
       all-both (executions-fit n m (opposite-small (buying o)) (takings-no-more o (b .held .away) opposite))
       (last-line-fits n (remainder o (b .held .away) opposite) m (omega (arith, q)) (ending-fits o (b .held .away) opposite p))
 
-  -- cancels on both sides
-  all-cancels-fit : (reason : ℕ) → reason < 2 ^ 8 → (gone : Resting → Bool) → All FitsEvent (cancels reason gone (b .buys) ++ cancels reason gone (b .sells))
-  all-cancels-fit reason k gone = all-both (cancels-fit reason k gone (opposite-small false)) (cancels-fit reason k gone (opposite-small true))
-
-  -- an order that was read has a price and shares of four bytes
-  order-fits : (o : Order) → Fitting orderForm (numbersOf (body.Order o)) → All FitsEvent (accept n time o b .events)
-  order-fits o (fits w side i (fits x word j (fits y price p (fits z size q empty)))) = accept-fits o p q
-
-  -- an away quote that was read has prices of four bytes
-  quote-fits : (away : Away) → Fitting quoteForm (numbersOf (body.Quote away)) → All FitsEvent (quote n time away b .events)
-  unfolding quote
-  quote-fits away (fits w bid p (fits x offer q empty)) = all-both (moves-fit true away q (opposite-small false)) (moves-fit false away p (opposite-small true))
-
   -- whatever a command that was read does, its events fit
   does-fits : (c : Body) → Fitting (formOf c) (numbersOf c) → All FitsEvent (does n time c b .events)
-  unfolding does cancel quote close
-  does-fits (body.Order o) f = order-fits o f
-  does-fits (body.Cancel of) f = all-cancels-fit byCommand (omega arith) (isNumber of)
-  does-fits (body.Quote away) f = quote-fits away f
-  does-fits body.Close f = all-cancels-fit atClose (omega arith) (λ h. true)
+  does-fits =
+      does-tells n time b (λ (c : Body) (es : List Event). Fitting (formOf c) (numbersOf c) → All FitsEvent es) order-fits
+      (λ c f. all-both
+      (told-fits (fateBy c true) (fates-small c f true) (opposite-small false)) (told-fits (fateBy c false) (fates-small c f false) (opposite-small true)))
 
 -- ── One line ──
 

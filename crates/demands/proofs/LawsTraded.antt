@@ -11,7 +11,7 @@ use borrow.Author.Tests.{eq-eqb, ne-eqb, eqb-true, eqb-false}
 use Rattle.basics.specs.Choice.{if_then_else_}
 use Rattle.basics.specs.Lists.{sumOf, All, none, also, OneOf, first, later}
 use Rattle.basics.proofs.LawsChoice.{holds-or-not}
-use Rattle.basics.proofs.LawsLists.{all-alike, all-both, sumOf-append}
+use Rattle.basics.proofs.LawsLists.{all-alike, all-both, sumOf-append, one-of-all, in-front, behind}
 use Rattle.kinds.specs.declared.Number.{Number}
 use Rattle.rules.specs.declared.Body.{Body}
 use Rattle.rules.specs.declared.Body.the-variants as body
@@ -24,10 +24,13 @@ use Rattle.rules.specs.declared.Reading.the-variants as reading
 use Rattle.rules.specs.declared.Resting.{Resting}
 use Rattle.rules.specs.Book.{Book, fresh, sound}
 use Rattle.rules.specs.CommandLines.{commandIn}
+use Rattle.rules.specs.Commands.{does}
 use Rattle.rules.specs.Day.{printedOf}
 use Rattle.rules.specs.Refusals.{firstOf, bodyRefusals}
+use Rattle.rules.specs.Settling.{ownSide, oppositeSide}
 use Rattle.rules.specs.Step.{answerTo}
-use Rattle.rules.specs.Working.{buying, ownSide, oppositeSide, cancel, quote, close, does}
+use Rattle.rules.specs.Working.{buying}
+use Rattle.rules.proofs.LawsCommands.{does-tells}
 use Rattle.soundness.proofs.LawsAccepted.{InOrder, accepted-order}
 use Rattle.soundness.proofs.LawsKept.{answer-sound, fresh-sound}
 use Rattle.soundness.proofs.LawsSound.{Sound, sound-is}
@@ -36,11 +39,10 @@ use Rattle.demands.specs.Once.{commandNumber, acts}
 use Rattle.demands.specs.Run.{eventsOf}
 use Rattle.demands.specs.Told.{eventsIn, countedIf, executedBy, executedIn}
 use Rattle.demands.proofs.LawsExecutes.{acts-order, order-side}
-use Rattle.demands.proofs.LawsFairly.{every-cancel, every-move, FairlyExecuted, order-fairly}
+use Rattle.demands.proofs.LawsFairly.{every-told, FairlyExecuted, order-fairly}
 use Rattle.demands.proofs.LawsHeld.{counted-same, counted-other}
-use Rattle.demands.proofs.LawsLinesTell.{one-of-all}
 use Rattle.demands.proofs.LawsOnce.{next-acts, answer-rises}
-use Rattle.demands.proofs.LawsOrigins.{each-there, in-front, behind, Comes, stays, moves, rests, does-comes, after-line}
+use Rattle.demands.proofs.LawsOrigins.{Comes, stayed, anew, rests, does-comes, after-line}
 use Rattle.demands.proofs.LawsRun.{accepted-does, run-read}
 
 -- ── Who is entered ──
@@ -87,8 +89,8 @@ module _ (ns : Bool → List Number) (b : Book) (isSound : Sound b) (listed : Li
     where
       comes-listed : (x : Body) → firstOf (bodyRefusals b x) ≡ 0 → (h : Resting) → Comes b (c .number) buy h x
           → OneOf (h .number) (ns buy ++ orderNumber (sideOf buy) c x)
-      comes-listed x accepted h (stays g p a i e) = rw i (in-front (orderNumber (sideOf buy) c x) (one-of-all (listed buy) p))
-      comes-listed (body.Quote away) accepted h (moves g p t k i e) = rw i (in-front [] (one-of-all (listed buy) p))
+      comes-listed x accepted h (stayed g p a i e) = rw i (in-front (orderNumber (sideOf buy) c x) (one-of-all (listed buy) p))
+      comes-listed x accepted h (anew g new p a i e) = rw i (in-front (orderNumber (sideOf buy) c x) (one-of-all (listed buy) p))
       comes-listed (body.Order o) accepted h (rests t e i) =
           rw i (behind (ns buy) (order-entered c o buy (order-side o (accepted-order b o accepted .inRange)) t))
 
@@ -125,19 +127,19 @@ module _ (ns : Bool → List Number) (b : Book) (line : List ℕ) (s : sound b �
   -- whatever a command does
   body-pairs : (c : Command) → acts b line ≡ true → commandIn line ≡ reading.Is c → InOrder b c → (x : Body) → c .body ≡ x
       → All (Pairs (withLine ns b line true) (withLine ns b line false)) (does (c .number) (c .time) x b .events)
-  unfolding does cancel quote close
-  body-pairs c t e order (body.Order o) f =
-      let events = accepted-does b line c e t .1 ∙ ap (λ (x : Body). does (c .number) (c .time) x b .events) f in
-      let side = order-side o (acts-order b c o order f .inRange) in
-      let new : OneOf (c .number) (enteredAt (sideOf (buying o)) b line) = rw (t, e, f) (order-entered c o (buying o) side refl) in
-      subst (All (Pairs (withLine ns b line true) (withLine ns b line false))) events
-      (all-alike (fairly-pairs o (c .number) (buying o) (behind (ns (buying o)) new)) (order-fairly b line c o s t e f))
-  body-pairs c t e order (body.Cancel of) f = all-both (every-cancel _ _ (λ h. tt) (b .buys)) (every-cancel _ _ (λ h. tt) (b .sells))
-  body-pairs c t e order (body.Quote away) f =
-      all-both
-      (every-move true away (all-alike (λ h p u. (tt, tt)) (each-there (b .buys))))
-      (every-move false away (all-alike (λ h p u. (tt, tt)) (each-there (b .sells))))
-  body-pairs c t e order body.Close f = all-both (every-cancel _ _ (λ h. tt) (b .buys)) (every-cancel _ _ (λ h. tt) (b .sells))
+  body-pairs c t e order =
+      does-tells (c .number) (c .time) b
+      (λ (x : Body) (es : List Event). c .body ≡ x → All (Pairs (withLine ns b line true) (withLine ns b line false)) es) order-pairs
+      (λ x f. every-told (λ m k reason. tt) (λ m price k. tt) x b)
+    where
+      order-pairs : (o : Order) → c .body ≡ body.Order o
+          → All (Pairs (withLine ns b line true) (withLine ns b line false)) (does (c .number) (c .time) (body.Order o) b .events)
+      order-pairs o f =
+          let events = accepted-does b line c e t .1 ∙ ap (λ (x : Body). does (c .number) (c .time) x b .events) f in
+          let side = order-side o (acts-order b c o order f .inRange) in
+          let new : OneOf (c .number) (enteredAt (sideOf (buying o)) b line) = rw (t, e, f) (order-entered c o (buying o) side refl) in
+          subst (All (Pairs (withLine ns b line true) (withLine ns b line false))) events
+          (all-alike (fairly-pairs o (c .number) (buying o) (behind (ns (buying o)) new)) (order-fairly b line c o s t e f))
 
   -- whatever a line tells
   line-pairs : All (Pairs (withLine ns b line true) (withLine ns b line false)) (answerTo b line .events)

@@ -8,9 +8,9 @@ use mathlib.Core.Path.{_≡_, refl, sym, ap, subst, _∙_}
 use lib.Dec.{eqb}
 use native.Mathlib.Omega.{arith}
 use borrow.Author.Tests.{eq-eqb, ne-eqb, eqb-true, eqb-false, not-false}
-use Rattle.basics.specs.Lists.{any, All, none, also, OneOf, first, later}
+use Rattle.basics.specs.Lists.{any, gathered, none, also, OneOf, first, later}
 use Rattle.basics.proofs.LawsChoice.{holds-or-not}
-use Rattle.basics.proofs.LawsLists.{all-alike, all-both}
+use Rattle.basics.proofs.LawsLists.{map-append, all-alike, one-of-all, each-there, in-front, behind, gathered-append, gathered-all, gathered-has}
 use Rattle.kinds.specs.Kinds.{shares, number}
 use Rattle.kinds.specs.declared.Cents.{Cents}
 use Rattle.kinds.specs.declared.Number.{Number}
@@ -22,30 +22,35 @@ use Rattle.rules.specs.declared.Command.{Command}
 use Rattle.rules.specs.declared.Ending.{Ending}
 use Rattle.rules.specs.declared.Ending.the-variants.{Filled, Rests, Cancels}
 use Rattle.rules.specs.declared.Event.{Event}
-use Rattle.rules.specs.declared.Event.the-variants.{Executed, Rested, Cancelled, Moved}
+use Rattle.rules.specs.declared.Event.the-variants.{Executed, Cancelled}
 use Rattle.rules.specs.declared.Order.{Order}
 use Rattle.rules.specs.declared.Reading.the-variants as reading
 use Rattle.rules.specs.declared.Resting.{Resting}
 use Rattle.rules.specs.Book.{Book, sound}
 use Rattle.rules.specs.CommandLines.{commandIn}
+use Rattle.rules.specs.Commands.{isNumber, cancelFate, cancel, quote, closeFate, close, carriedOut, does}
 use Rattle.rules.specs.Day.{printed}
-use Rattle.rules.specs.EventLines.{byCommand, atClose}
+use Rattle.rules.specs.EventLines.{byCommand}
 use Rattle.rules.specs.Refusals.{firstOf, isResting, bodyRefusals}
+use Rattle.rules.specs.declared.Fate.{Fate}
+use Rattle.rules.specs.Settling.{keptBy, toldBy, staying, told, ownSide, oppositeSide, settled, bothSettled}
 use Rattle.rules.specs.Step.{answerTo}
-use Rattle.rules.specs.Working.{buying, takings, remainder, executions, ending, lastLine, remainderOf, withRemainder, ownSide, oppositeSide, accept, kept, cancels, isNumber, cancel, moveLines, quote, close, does}
+use Rattle.rules.specs.Working.{buying, takings, remainder, executions, ending, lastLine, remainderOf, withRemainder, accept}
+use Rattle.rules.proofs.LawsCommands.{cancel-fate, cancel-does, quote-does, close-does, does-tells, does-number-and-time}
 use Rattle.rules.proofs.LawsRefusals.{none-given}
-use Rattle.soundness.proofs.LawsInsert.{added-insert}
+use Rattle.soundness.proofs.LawsInsert.{added-insert, added-new}
+use Rattle.soundness.proofs.LawsSettled.{staying-are}
 use Rattle.soundness.proofs.LawsSound.{sound-is}
+use Rattle.demands.specs.Beyond.{NoExecution}
 use Rattle.demands.specs.Once.{acts}
 use Rattle.demands.specs.ShareOut.{Each, empty, with}
 use Rattle.demands.specs.Told.{eventsIn}
 use Rattle.demands.specs.Written.{Executions, ofNobody, ofNone, ofOne, LastLine, filled, rests, isCancelled, OrderWrites, CancelWrites, closeLine, IsOrder}
-use Rattle.demands.proofs.LawsCrossing.{added-new, kept-are, kept-has}
 use Rattle.demands.proofs.LawsExecutes.{acts-accepted}
-use Rattle.demands.proofs.LawsFairly.{every-cancel, every-move}
+use Rattle.demands.proofs.LawsFairly.{every-told}
 use Rattle.demands.proofs.LawsHeld.{NoMore, takings-no-more}
-use Rattle.demands.proofs.LawsLinesTell.{onceEach, NoneIs, once-first, once-rest, one-of-all}
-use Rattle.demands.proofs.LawsOrigins.{each-there, in-front, behind, another-number}
+use Rattle.demands.proofs.LawsLinesTell.{onceEach, NoneIs, once-first, once-rest}
+use Rattle.demands.proofs.LawsOrigins.{another-number}
 use Rattle.demands.proofs.LawsRows.{NoneHas, has-other, either-holds}
 use Rattle.demands.proofs.LawsRun.{accepted-does}
 use Rattle.demands.proofs.LawsTold.{line-told}
@@ -89,8 +94,8 @@ last-line-is n o left (Cancels reason) side new = isCancelled (shares left) reas
 
 -- so of an order that is entered under a number that no order has
 accept-writes : (b : Book) (n : Number) (time : ℕ) (o : Order) → NoneHas n (ownSide (buying o) b)
-    → OrderWrites n o b (accept n time o b .book) (accept n time o b .events)
-unfolding accept
+    → OrderWrites n o b (does n time (body.Order o) b .book) (does n time (body.Order o) b .events)
+unfolding does carriedOut accept
 accept-writes b n time o new =
     let side = oppositeSide (buying o) b in
     let left = remainder o (b .held .away) side in
@@ -116,33 +121,12 @@ none-new b s n l buy =
 -- so of an accepted order
 pub order-writes : (b : Book) (line : List ℕ) (c : Command) (o : Order) → sound b ≡ true → acts b line ≡ true → commandIn line ≡ reading.Is c
     → c .body ≡ body.Order o → OrderWrites (c .number) o b (answerTo b line .book) (eventsIn (printed (answerTo b line)))
-unfolding does
 order-writes b line c o s t e f =
     let next = acts-accepted b line c t e .next in
     let new = none-new b s (c .number) (omega (arith, next)) (buying o) in
     printed-body (OrderWrites (c .number) o b) b line c (body.Order o) s t e f (accept-writes b (c .number) (c .time) o new)
 
 -- ── A cancel ──
-
--- both sides are one list, of those that are kept and of the lines of those that are not
-kept-both : (gone : Resting → Bool) (s u : List Resting) → kept gone (s ++ u) ≡ kept gone s ++ kept gone u
-unfolding kept
-kept-both gone [] u = refl
-kept-both gone (h ∷ s) u =
-    ⊎-elim
-    (λ (t : gone h ≡ true). rw t (kept-both gone s u))
-    (λ (t : gone h ≡ false). rw t (ap (λ (r : List Resting). h ∷ r) (kept-both gone s u)))
-    (holds-or-not (gone h))
-
-cancels-both : (reason : ℕ) (gone : Resting → Bool) (s u : List Resting)
-    → cancels reason gone (s ++ u) ≡ cancels reason gone s ++ cancels reason gone u
-unfolding cancels
-cancels-both reason gone [] u = refl
-cancels-both reason gone (h ∷ s) u =
-    ⊎-elim
-    (λ (t : gone h ≡ true). rw t (ap (λ (es : List Event). Cancelled (h .number) (h .shares) reason ∷ es) (cancels-both reason gone s u)))
-    (λ (t : gone h ≡ false). rw t (cancels-both reason gone s u))
-    (holds-or-not (gone h))
 
 -- an order that is found by its number stands there
 found : (n : Number) (s : List Resting) → any (isNumber n) s ≡ true → (h : Resting) × (OneOf h s) × (h .number ≡ n)
@@ -163,30 +147,32 @@ found-on-one n s u a =
     (either-holds (any (isNumber n) s) (any (isNumber n) u) a)
 
 -- the lines of a number: none where no order has it, and one where one has it and no number stands twice
-cancels-none : (reason : ℕ) (n : Number) {s : List Resting} → NoneIs n s → cancels reason (isNumber n) s ≡ []
-unfolding cancels
-cancels-none reason n none = refl
-cancels-none reason n (also {x = h} other a) = rw (ne-eqb (h .number .0) (n .0) (λ e. other (sym e))) (cancels-none reason n a)
+told-none : (n : Number) {s : List Resting} → NoneIs n s → told (cancelFate n) s ≡ []
+unfolding told gathered
+told-none n none = refl
+told-none n (also {x = h} other a) = rw (ne-eqb (h .number .0) (n .0) (λ e. other (sym e))) (told-none n a)
 
-cancels-one : (reason : ℕ) {h : Resting} {s : List Resting} → onceEach s ≡ true → OneOf h s
-    → cancels reason (isNumber (h .number)) s ≡ Cancelled (h .number) (h .shares) reason ∷ []
-unfolding cancels
-cancels-one reason {h = h} d (first {s = s}) =
-    rw (eq-eqb (h .number .0) (h .number .0) refl, cancels-none reason (h .number) (once-first h s d)) refl
-cancels-one reason {h = h} d (later {y = y} {s = s} p) =
-    rw (ne-eqb (y .number .0) (h .number .0) (one-of-all (once-first y s d) p)) (cancels-one reason (once-rest y s d) p)
+told-one : {h : Resting} {s : List Resting} → onceEach s ≡ true → OneOf h s → told (cancelFate (h .number)) s ≡ Cancelled (h .number) (h .shares) byCommand ∷ []
+unfolding told gathered
+told-one {h = h} d (first {s = s}) = rw (eq-eqb (h .number .0) (h .number .0) refl, told-none (h .number) (once-first h s d)) refl
+told-one {h = h} d (later {y = y} {s = s} p) = rw (ne-eqb (y .number .0) (h .number .0) (one-of-all (once-first y s d) p)) (told-one (once-rest y s d) p)
 
 -- so of the orders of both sides, one of which has the number
-cancels-write : (of : Number) (s : List Resting) → onceEach s ≡ true → (h : Resting) → OneOf h s → h .number ≡ of
-    → CancelWrites of s (kept (isNumber of) s) (cancels byCommand (isNumber of) s)
-cancels-write of s d h p e = record {
+cancel-leaves : (of : Number) (s : List Resting) → onceEach s ≡ true → (h : Resting) → OneOf h s → h .number ≡ of
+    → CancelWrites of s (staying (cancelFate of) s) (told (cancelFate of) s)
+unfolding staying
+cancel-leaves of s d h p e = record {
   gone = h;
   stood = p;
   named = e;
-  told = subst (λ (n : Number). cancels byCommand (isNumber n) s ≡ Cancelled n (h .shares) byCommand ∷ []) e (cancels-one byCommand d p);
-  off = kept-are (isNumber of) s (λ x q t is. eqb-false (x .number .0) (of .0) t (ap (λ (n : Number). n .0) is));
-  others = λ x other q. kept-has (isNumber of) q (has-other of x other);
-  noneNew = λ x q. one-of-all (kept-are (isNumber of) s (λ y r t. r)) q;
+  told = subst (λ (n : Number). told (cancelFate n) s ≡ Cancelled n (h .shares) byCommand ∷ []) e (told-one d p);
+  off =
+      gathered-all (λ (x : Resting). keptBy (cancelFate of x) x)
+      (all-alike
+      (λ x q. cancel-fate (λ (f : Fate). NoneHas of (keptBy f x)) of x none
+      (λ t. also (λ is. eqb-false (x .number .0) (of .0) t (ap (λ (n : Number). n .0) is)) none)) (each-there s));
+  others = λ x other q. gathered-has (λ (y : Resting). keptBy (cancelFate of y) y) q (rw (has-other of x other) first);
+  noneNew = λ x q. one-of-all (staying-are (cancelFate of) s (λ y r t. r)) q;
 }
 
 -- an accepted cancel is of an order that rests
@@ -198,58 +184,53 @@ accepted-cancel b of e = not-false (isResting of b) (none-given 10 (not (isResti
 pub cancel-writes : (b : Book) (line : List ℕ) (c : Command) (of : Number) → sound b ≡ true → acts b line ≡ true → commandIn line ≡ reading.Is c
     → c .body ≡ body.Cancel of
     → CancelWrites of (b .buys ++ b .sells) (answerTo b line .book .buys ++ answerTo b line .book .sells) (eventsIn (printed (answerTo b line)))
-unfolding does cancel
+unfolding staying told
 cancel-writes b line c of s t e f =
     let byBody = subst (λ (x : Body). firstOf (bodyRefusals b x) ≡ 0) f (acts-accepted b line c t e .byBody) in
     let (h, p, is) = found-on-one of (b .buys) (b .sells) (accepted-cancel b of byBody) in
-    let writes = cancels-write of (b .buys ++ b .sells) (sound-is b s .once) h p is in
+    let does = cancel-does (c .number) (c .time) b of in
+    let left = gathered-append (λ (x : Resting). keptBy (cancelFate of x) x) (b .buys) (b .sells) in
+    let lines = gathered-append (λ (x : Resting). toldBy (cancelFate of x) x) (b .buys) (b .sells) in
     printed-body (λ (a : Book) (es : List Event). CancelWrites of (b .buys ++ b .sells) (a .buys ++ a .sells) es) b line c (body.Cancel of) s t e f
-    (rw (kept-both (isNumber of) (b .buys) (b .sells), cancels-both byCommand (isNumber of) (b .buys) (b .sells)) at writes)
+    (rw (does .0, does .1, ← left, ← lines) (cancel-leaves of (b .buys ++ b .sells) (sound-is b s .once) h p is))
 
 -- ── A close ──
 
 -- where all are cancelled, each has its line
-cancels-every : (s : List Resting) → cancels atClose (λ h. true) s ≡ map closeLine s
-unfolding cancels
-cancels-every [] = refl
-cancels-every (h ∷ s) = ap (λ (es : List Event). closeLine h ∷ es) (cancels-every s)
+told-every : (s : List Resting) → told closeFate s ≡ map closeLine s
+unfolding told gathered
+told-every [] = refl
+told-every (h ∷ s) = ap (λ (es : List Event). closeLine h ∷ es) (told-every s)
 
 -- an accepted close tells all buys and then all sells, and leaves a closed book with no orders
 pub close-writes : (b : Book) (line : List ℕ) (c : Command) → sound b ≡ true → acts b line ≡ true → commandIn line ≡ reading.Is c
     → c .body ≡ body.Close
     → (eventsIn (printed (answerTo b line)) ≡ map closeLine (b .buys ++ b .sells))
     × (answerTo b line .book .buys ≡ []) × (answerTo b line .book .sells ≡ []) × (answerTo b line .book .held .closed ≡ true)
-unfolding does close
 close-writes b line c s t e f =
-    let all = sym (cancels-both atClose (λ h. true) (b .buys) (b .sells)) ∙ cancels-every (b .buys ++ b .sells) in
+    let done = close-does (c .number) (c .time) b in
     printed-body
     (λ (a : Book) (es : List Event). (es ≡ map closeLine (b .buys ++ b .sells)) × (a .buys ≡ []) × (a .sells ≡ []) × (a .held .closed ≡ true))
-    b line c body.Close s t e f (all, refl, refl, refl)
+    b line c body.Close s t e f
+    (rw (done .0, done .1, told-every (b .buys), told-every (b .sells)) (sym (map-append closeLine (b .buys) (b .sells)), refl, refl, refl))
 
 -- ── What every command leaves ──
 
 -- its number and its time
-does-number-and-time : (n : Number) (time : ℕ) (x : Body) (b : Book) → (does n time x b .book .held .last ≡ n) × (does n time x b .book .held .time ≡ time)
-unfolding does accept cancel quote close
-does-number-and-time n time (body.Order o) b = (refl, refl)
-does-number-and-time n time (body.Cancel of) b = (refl, refl)
-does-number-and-time n time (body.Quote away) b = (refl, refl)
-does-number-and-time n time body.Close b = (refl, refl)
-
 pub number-and-time-left : (b : Book) (line : List ℕ) (c : Command) → acts b line ≡ true → commandIn line ≡ reading.Is c
     → (answerTo b line .book .held .last ≡ c .number) × (answerTo b line .book .held .time ≡ c .time)
 number-and-time-left b line c t e =
     after-body (λ (a : Book) (es : List Event). (a .held .last ≡ c .number) × (a .held .time ≡ c .time)) b line c (c .body) t e refl
-    (does-number-and-time (c .number) (c .time) (c .body) b)
+    (does-number-and-time (c .number) (c .time) b (c .body))
 
 -- a quote is held, and every other command leaves the away quote
 pub quote-held : (b : Book) (line : List ℕ) (c : Command) (away : Away) → acts b line ≡ true → commandIn line ≡ reading.Is c
     → c .body ≡ body.Quote away → answerTo b line .book .held .away ≡ away
-unfolding does quote
-quote-held b line c away t e f = after-body (λ (a : Book) (es : List Event). a .held .away ≡ away) b line c (body.Quote away) t e f refl
+quote-held b line c away t e f =
+    after-body (λ (a : Book) (es : List Event). a .held .away ≡ away) b line c (body.Quote away) t e f (rw (quote-does (c .number) (c .time) b away .0) refl)
 
 does-away : (n : Number) (time : ℕ) (x : Body) (b : Book) → ((away : Away) → x ≢ body.Quote away) → does n time x b .book .held .away ≡ b .held .away
-unfolding does accept cancel close
+unfolding does carriedOut accept cancel close bothSettled settled
 does-away n time (body.Order o) b other = refl
 does-away n time (body.Cancel of) b other = refl
 does-away n time (body.Quote away) b other = absurd (other away refl)
@@ -262,7 +243,7 @@ away-kept b line c t e other =
 
 -- an accepted command came to an open book, which only a close closes
 does-closed : (n : Number) (time : ℕ) (x : Body) (b : Book) → x ≢ body.Close → does n time x b .book .held .closed ≡ b .held .closed
-unfolding does accept cancel quote
+unfolding does carriedOut accept cancel quote bothSettled settled
 does-closed n time (body.Order o) b other = refl
 does-closed n time (body.Cancel of) b other = refl
 does-closed n time (body.Quote away) b other = refl
@@ -276,29 +257,13 @@ open-unless-closed b line c t e other =
 
 -- ── Only orders execute ──
 
--- an event is no execution
-abbrev NoExecution : Event → Type 0
-NoExecution (Executed incoming resting price given) = ⊥
-NoExecution (Rested n price left) = Unit {0}
-NoExecution (Cancelled n left reason) = Unit {0}
-NoExecution (Moved n price left) = Unit {0}
-
--- cancels are none, and neither are the moves and cancels of a quote
-no-cancel : (reason : ℕ) (gone : Resting → Bool) (b : Book) → All NoExecution (cancels reason gone (b .buys) ++ cancels reason gone (b .sells))
-no-cancel reason gone b = all-both (every-cancel reason gone (λ h. tt) (b .buys)) (every-cancel reason gone (λ h. tt) (b .sells))
-
-no-move : (buy : Bool) (away : Away) (s : List Resting) → All NoExecution (moveLines buy away s)
-no-move buy away s = every-move buy away (all-alike (λ h p t. (tt, tt)) (each-there s))
-
--- so a command that gives an execution is an order
-does-executes : (n : Number) (time : ℕ) (x : Body) (b : Book) (incoming resting : Number) (price : Cents) (given : Shares)
+-- a command that gives an execution is an order: cancels and moves are none
+does-executes : (n : Number) (time : ℕ) (b : Book) (incoming resting : Number) (price : Cents) (given : Shares) (x : Body)
     → OneOf (Executed incoming resting price given) (does n time x b .events) → IsOrder x
-unfolding does cancel quote close
-does-executes n time (body.Order o) b incoming resting price given p = record { order = o; is = refl }
-does-executes n time (body.Cancel of) b incoming resting price given p = absurd (one-of-all (no-cancel byCommand (isNumber of) b) p)
-does-executes n time (body.Quote away) b incoming resting price given p =
-    absurd (one-of-all (all-both (no-move true away (b .buys)) (no-move false away (b .sells))) p)
-does-executes n time body.Close b incoming resting price given p = absurd (one-of-all (no-cancel atClose (λ h. true) b) p)
+does-executes n time b incoming resting price given =
+    does-tells n time b (λ (x : Body) (es : List Event). OneOf (Executed incoming resting price given) es → IsOrder x)
+    (λ o p. record { order = o; is = refl })
+    (λ x p. absurd (one-of-all {P = NoExecution} (every-told (λ m k reason. tt) (λ m price k. tt) x b) p))
 
 -- and so of what is printed
 pub only-orders-execute : (b : Book) (line : List ℕ) (c : Command) (incoming resting : Number) (price : Cents) (shares : Shares) → sound b ≡ true
@@ -306,4 +271,4 @@ pub only-orders-execute : (b : Book) (line : List ℕ) (c : Command) (incoming r
     → OneOf (Executed incoming resting price shares) (eventsIn (printed (answerTo b line))) → IsOrder (c .body)
 only-orders-execute b line c incoming resting price shares s t e =
     printed-body (λ (a : Book) (es : List Event). OneOf (Executed incoming resting price shares) es → IsOrder (c .body)) b line c (c .body) s t e refl
-    (does-executes (c .number) (c .time) (c .body) b incoming resting price shares)
+    (does-executes (c .number) (c .time) b incoming resting price shares (c .body))

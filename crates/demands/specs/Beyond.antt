@@ -1,10 +1,8 @@
 -- Beyond the three demands: words for what else a broker may want to know of a day. `LawsBeyond`, `LawsStanding` and `LawsTraded` have the
 -- proofs.
 use Prim.Native.Nat.{ℕ, zero, suc}
-use mathlib.Core.Bool.{Bool, true, false}
 use mathlib.Core.List.{List, [], _∷_, _++_}
 use mathlib.Core.Logic.{_⊎_}
-use mathlib.Core.Path.{_≡_}
 use lib.Dec.{eqb}
 use Rattle.basics.specs.Choice.{if_then_else_}
 use Rattle.basics.specs.Lists.{sumOf, OneOf}

@@ -12,8 +12,9 @@ use Rattle.rules.specs.declared.Event.the-variants.{Executed, Rested, Cancelled
 use Rattle.rules.specs.declared.Order.{Order}
 use Rattle.rules.specs.declared.Resting.{Resting}
 use Rattle.rules.specs.Book.{Book, ranksBefore}
+use Rattle.rules.specs.Commands.{isNumber}
 use Rattle.rules.specs.Instructions.{fok, has}
-use Rattle.rules.specs.Working.{buying, isNumber}
+use Rattle.rules.specs.Working.{buying}
 use Rattle.demands.specs.ShareOut.{opposite, Given, Each, Fair, given, Lawful, Fills}
 use Rattle.demands.specs.Told.{executedIn, givenIn, cancelledIn, pricesIn, isKilled}
 

@@ -4,13 +4,12 @@
 // that it runs short.
 use libc::STDIN_FILENO;
 use libc::STDOUT_FILENO;
-use rows::PLACES;
-use rows::WORDS;
-ghost use mathlib.Core.List.{[]};
+use rows::Index;
+use rows::Rows;
+use walk::Takings;
 ghost use mathlib.Core.Path.{_≡_};
 ghost use Prim.Native.Nat.{_+_, _≤_, _<_};
 ghost use lib.ListN.{length};
-ghost use Rattle.rows.specs.Table.{tableOf};
 ghost use Rattle.rules.specs.Refusals.{leastRoom};
 
 // ── The days ──
@@ -92,22 +91,27 @@ fn end_day(part: &[u8], out: &mut [u8]) -> bool
     hand_over(&out[..length])
 }
 
-// A day over fresh tables, turn by turn; whether all was written.
+// A day from a fresh book, turn by turn; whether all was written.
 fn take_turns(
     day: &[u8],
     input: &mut [u8],
-    buys: &mut [[u32; WORDS]; PLACES],
-    sells: &mut [[u32; WORDS]; PLACES],
+    x: &mut Index,
+    buys: &mut Rows,
+    y: &mut Index,
+    sells: &mut Rows,
+    took: &mut Takings,
     out: &mut [u8],
 ) -> bool
-    requires { ⌜ (now buys ≡ tableOf []) × (now sells ≡ tableOf []) × (leastRoom ≤ length (now out)) ⌝ }
+    requires { ⌜ leastRoom ≤ length (now out) ⌝ }
 {
     let mut head = replay::begin();
+    tables::clear(x, buys);
+    tables::clear(y, sells);
     let mut at = 0;
     let mut have = 0;
     let mut turns = u64::MAX;
     while 0 < turns {
-        let turn = night::take_turn(head, input, have, buys, sells, out);
+        let turn = night::take_turn(head, input, have, x, buys, y, sells, took, out);
         if !hand_over(&out[..turn.length]) {
             return false;
         }
@@ -129,9 +133,21 @@ fn run_day(day: &[u8], out: &mut [u8]) -> bool
     requires { ⌜ leastRoom ≤ length (now out) ⌝ }
 {
     let mut input = [0u8; 139];
-    let mut buys = [[0u32; WORDS]; PLACES];
-    let mut sells = [[0u32; WORDS]; PLACES];
-    take_turns(day, &mut input, &mut buys, &mut sells, out)
+    let mut x: Index = [0; rows::INDEX];
+    let mut buys: Rows = [[0; rows::WORDS]; rows::PLACES];
+    let mut y: Index = [0; rows::INDEX];
+    let mut sells: Rows = [[0; rows::WORDS]; rows::PLACES];
+    let mut took: Takings = [[0; 3]; walk::TAKINGS];
+    take_turns(
+        day,
+        &mut input,
+        &mut x,
+        &mut buys,
+        &mut y,
+        &mut sells,
+        &mut took,
+        out,
+    )
 }
 
 // The days, each under the line that names it.

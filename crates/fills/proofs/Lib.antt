@@ -1,2 +1,3 @@
 pub mod LawsFills
+pub mod LawsClosing
 pub mod Determined

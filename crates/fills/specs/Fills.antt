@@ -1,14 +1,31 @@
--- What a walk that stopped at a place takes of a side: from the orders before the place all, from the one there a part.
-use Prim.Native.Nat.{_≤_, _<_}
-use mathlib.Core.List.{List}
-use lib.ListN.{length, getD}
-use Rattle.basics.specs.Lists.{All}
+-- A side after a walk: every order without what was taken from it, and without the orders that have nothing left.
+use Prim.Native.Nat.{ℕ, _+_}
+use mathlib.Core.Bool.{Bool, not}
+use mathlib.Core.List.{List, [], _∷_}
+use lib.Dec.{eqb}
+use Rattle.basics.specs.Choice.{if_then_else_}
 use Rattle.rules.specs.declared.Resting.{Resting}
-use Rattle.rules.specs.Book.{unused}
-use Rattle.walk.specs.declared.Stop.{Stop}
+use Rattle.rules.specs.Working.{reducedBy}
+use Rattle.walk.specs.declared.Taking.{Taking}
 
--- a stop within a side of orders that hold shares: where it takes a part, the order there keeps some
-pub record StopsIn (s : List Resting) (stop : Stop) : Type 0 where
-  pub holding : All (λ (h : Resting). 1 ≤ h .shares .0) s
-  pub place : stop .at ≤ length s
-  pub keeps : 0 < stop .part .0 → (stop .at < length s) × (stop .part .0 < getD s (stop .at) unused .shares .0)
+-- all that was taken from the order at rank i
+unfoldable pub takenAt : ℕ → List Taking → ℕ
+takenAt i [] = 0
+takenAt i (k ∷ ks) = (if eqb (k .place) i then k .shares .0 else 0) + takenAt i ks
+
+-- the orders from rank i on without what was taken from them
+unfoldable pub lessened : ℕ → List Taking → List Resting → List Resting
+lessened i ks [] = []
+lessened i ks (h ∷ s) = reducedBy (takenAt i ks) h ∷ lessened (i + 1) ks s
+
+-- an order has something left
+abbrev pub keeps : Resting → Bool
+keeps h = not (eqb (h .shares .0) 0)
+
+-- "whoever keeps none leaves the book"
+unfoldable pub keeping : List Resting → List Resting
+keeping [] = []
+keeping (h ∷ s) = if keeps h then h ∷ keeping s else keeping s
+
+abbrev pub afterTakings : List Taking → List Resting → List Resting
+afterTakings ks s = keeping (lessened 0 ks s)

@@ -1,53 +1,81 @@
-// What a walk executes: its lines, and the opposite side after it.
-use kinds::Number;
-use rows::PLACES;
-use rows::WORDS;
-use walk::Stop;
+// What the takings of a walk do to the side that was walked.
+use rows::Index;
+use rows::Rows;
+use rules::Resting;
+use walk::Takings;
+ghost use mathlib.Core.Bool.{true};
 ghost use mathlib.Core.Path.{_≡_};
-ghost use Prim.Native.Nat.{_≤_};
-ghost use lib.ListN.{length};
-ghost use Rattle.basics.specs.Bytes.{onto};
-ghost use Rattle.rows.specs.Table.{side, tableOf, Holds};
-ghost use Rattle.rules.specs.EventLines.{eventLines};
-ghost use Rattle.rules.specs.Refusals.{leastRoom};
-ghost use Rattle.rules.specs.Working.{executions, after};
-ghost use Rattle.walk.specs.Walk.{tookTo};
-ghost use Rattle.fills.specs.Fills.{StopsIn};
+ghost use Prim.Native.Nat.{_+_, _≤_, _<_};
+ghost use lib.ListN.{length, drop};
+ghost use Rattle.basics.specs.Choice.{if_then_else_};
+ghost use Rattle.basics.specs.Lists.{All, every};
+ghost use Rattle.rows.specs.Table.{side, Holds, Shows};
+ghost use Rattle.rules.specs.Book.{placesASide};
+ghost use Rattle.walk.specs.Walk.{mostTakings, isBelow, takingsIn};
+ghost use Rattle.fills.specs.Fills.{keeps, lessened, keeping, afterTakings};
 
-// The orders before the place leave, and the one there keeps what it did not give.
-pub fn use_up(t: &mut [[u32; WORDS]; PLACES], n: usize, stop: Stop)
-    requires { ⌜ Holds n (now t) × StopsIn (side n (now t)) stop ⌝ }
-    ensures { λ _. ⌜ now (t .exit) ≡ tableOf (after (side n (now (t .entry))) (tookTo (stop .at) (stop .part .0) (side n (now (t .entry))))) ⌝ }
+// Takes the takings off the orders.
+fn subtract(x: &Index, t: &mut Rows, n: usize, took: &Takings, count: usize)
+    requires { ⌜ Holds n (now x) (now t) × (count ≤ mostTakings) × All (isBelow n) (takingsIn count (now took)) ⌝ }
+    ensures { λ _. ⌜ Shows (lessened 0 (takingsIn count (now (took .entry))) (side n (now (x .entry)) (now (t .entry)))) (now (x .entry)) (now (t .exit)) ⌝ }
 {
-    let at = stop.at;
-    let part = stop.part;
-    if part.0 == 0 {
-        shifts::drop_first(t, n, at);
-        return;
+    walk::whole(took);
+    let mut i = 0;
+    while i < count {
+        let k = walk::taking_at(took, i);
+        shifts::reduce(x, t, n, k.place, k.shares);
+        i += 1;
     }
-    shifts::reduce(t, n, at, part);
-    shifts::drop_first(t, n, at);
 }
 
-// A line for each order that gives, in rank order; the length of the lines.
-pub fn report(
-    t: &[[u32; WORDS]; PLACES],
-    n: usize,
-    stop: Stop,
-    number: Number,
-    out: &mut [u8],
-) -> usize
-    requires { ⌜ Holds n (now t) × StopsIn (side n (now t)) stop × (leastRoom ≤ length (now out)) ⌝ }
-    ensures { λ r. ⌜ r ≡ length (eventLines (executions number (side n (now (t .entry))) (tookTo (stop .at) (stop .part .0) (side n (now (t .entry)))))) ⌝ }
-    ensures { λ _. ⌜ now (out .exit) ≡ onto (eventLines (executions number (side n (now (t .entry))) (tookTo (stop .at) (stop .part .0) (side n (now (t .entry)))))) (now (out .entry)) ⌝ }
+// Whether an order has something left.
+fn has_shares(o: Resting) -> bool
+    ensures { λ r. ⌜ r ≡ keeps o ⌝ }
 {
-    let at = stop.at;
-    let part = stop.part;
-    let len = reports::report_whole(t, n, at, number, out);
-    if part.0 == 0 {
-        return len;
+    o.shares.0 != 0
+}
+
+// One more where the test holds.
+fn counted(to: usize, one: bool) -> usize
+    requires { ⌜ to < placesASide ⌝ }
+    ensures { λ r. ⌜ r ≡ (if one then to + 1 else to) ⌝ }
+{
+    if one { to + 1 } else { to }
+}
+
+// Of the first `reached` orders those leave that have nothing left; how many orders stay. From the worst of them to the best, each changes
+// places with the first that leaves, so that whoever leaves comes to stand behind; whether one counts is no branch.
+fn close_up(x: &mut Index, t: &Rows, n: usize, reached: usize) -> usize
+    requires { ⌜ Holds n (now x) (now t) × (reached ≤ n) × (every keeps (drop reached (side n (now x) (now t))) ≡ true) ⌝ }
+    ensures { λ r. ⌜ r ≡ length (keeping (side n (now (x .entry)) (now (t .entry)))) ⌝ }
+    ensures { λ _. ⌜ Shows (keeping (side n (now (x .entry)) (now (t .entry)))) (now (x .exit)) (now (t .entry)) ⌝ }
+{
+    let mut to = n - reached;
+    let mut i = to;
+    while i < n {
+        let slot = x[i];
+        x[i] = x[to];
+        x[to] = slot;
+        let o = rows::row(t, rows::wide(slot));
+        to = counted(to, has_shares(o));
+        i += 1;
     }
-    let o = rows::row(t, at);
-    let more = events::write_executed(&mut out[len..], number, o.number, o.price, part);
-    len + more
+    to
+}
+
+// Takes the takings off the side, from which the orders go that have nothing left; how many orders stay. No taking is from `at` on.
+pub fn take_off(
+    x: &mut Index,
+    t: &mut Rows,
+    n: usize,
+    at: usize,
+    took: &Takings,
+    count: usize,
+) -> usize
+    requires { ⌜ Holds n (now x) (now t) × (at ≤ n) × (count ≤ mostTakings) × All (isBelow at) (takingsIn count (now took)) × (every keeps (side n (now x) (now t)) ≡ true) ⌝ }
+    ensures { λ r. ⌜ r ≡ length (afterTakings (takingsIn count (now (took .entry))) (side n (now (x .entry)) (now (t .entry)))) ⌝ }
+    ensures { λ _. ⌜ Shows (afterTakings (takingsIn count (now (took .entry))) (side n (now (x .entry)) (now (t .entry)))) (now (x .exit)) (now (t .exit)) ⌝ }
+{
+    subtract(x, t, n, took, count);
+    close_up(x, t, n, at)
 }

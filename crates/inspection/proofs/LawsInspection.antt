@@ -12,7 +12,7 @@ use borrow.Author.Tests.{not-true, not-false, ltb-true, ltb-false, le-leb, lt-le
 use Rattle.basics.proofs.LawsLists.{map-take}
 use Rattle.basics.specs.Lists.{every, any, distinct}
 use Rattle.basics.proofs.LawsChoice.{holds-or-not, or-neither}
-use Rattle.rows.specs.Table.{orderOf, side}
+use Rattle.rows.specs.Table.{orderOf, loaded}
 use Rattle.rules.specs.declared.Resting.{Resting}
 use Rattle.rules.specs.Book.{numbers, placesASide, opening, closing, restingInRange, isUnused, awayInRange, inRankOrder, apart, bookIn, sound, recordSound}
 use Rattle.tables.specs.declared.Head.{Head}
@@ -77,7 +77,7 @@ pub both-fit : (n m : ℕ) → (ltb placesASide n || ltb placesASide m) ≡ fals
 both-fit n m fit =
     (ltb-false placesASide n (or-neither (ltb placesASide n) (ltb placesASide m) fit .0), ltb-false placesASide m (or-neither (ltb placesASide n) (ltb placesASide m) fit .1))
 
-length-used : (n : ℕ) (t : List (List ℕ)) → length t ≡ placesASide → n ≤ placesASide → length (side n t) ≡ n
+length-used : (n : ℕ) (t : List (List ℕ)) → length t ≡ placesASide → n ≤ placesASide → length (loaded n t) ≡ n
 length-used n t whole fit = length-map (take n t) orderOf ∙ length-take-le n t (omega arith)
 
 module _ (h : Head) (t u : List (List ℕ)) where
@@ -97,8 +97,8 @@ module _ (h : Head) (t u : List (List ℕ)) where
     inspected : recordSound (recordOn h t u)
         ≡ (sideSound true (h .held .last) (h .buys) t
         && sideSound false (h .held .last) (h .sells) u
-        && every (noneOf (numbers (side (h .sells) u))) (numbers (side (h .buys) t))
-        && (headSound h && apart (side (h .buys) t) (side (h .sells) u)))
+        && every (noneOf (numbers (loaded (h .sells) u))) (numbers (loaded (h .buys) t))
+        && (headSound h && apart (loaded (h .buys) t) (loaded (h .sells) u)))
     unfolding recordSound bookIn sound
     inspected =
         let fits = both-fit (h .buys) (h .sells) fit in
@@ -109,10 +109,10 @@ module _ (h : Head) (t u : List (List ℕ)) where
           wholeSells,
           ← map-take orderOf (h .buys) t,
           ← map-take orderOf (h .sells) u,
-          every-append (restingInRange (h .held .last)) (side (h .buys) t) (side (h .sells) u),
-          map-append (λ (o : Resting). o .number .0) (side (h .buys) t) (side (h .sells) u),
-          distinct-append (numbers (side (h .buys) t)) (numbers (side (h .sells) u)),
-          length-append (side (h .buys) t) (side (h .sells) u),
+          every-append (restingInRange (h .held .last)) (loaded (h .buys) t) (loaded (h .sells) u),
+          map-append (λ (o : Resting). o .number .0) (loaded (h .buys) t) (loaded (h .sells) u),
+          distinct-append (numbers (loaded (h .buys) t)) (numbers (loaded (h .sells) u)),
+          length-append (loaded (h .buys) t) (loaded (h .sells) u),
           length-used (h .buys) t wholeBuys (fits .0),
           length-used (h .sells) u wholeSells (fits .1),
           le-leb (h .buys) placesASide (fits .0),
@@ -122,14 +122,14 @@ module _ (h : Head) (t u : List (List ℕ)) where
         (regroup
         (every isUnused (drop (h .buys) (map orderOf t)))
         (every isUnused (drop (h .sells) (map orderOf u)))
-        (inRankOrder true (side (h .buys) t))
-        (every (restingInRange (h .held .last)) (side (h .buys) t))
-        (distinct (numbers (side (h .buys) t)))
-        (inRankOrder false (side (h .sells) u))
-        (every (restingInRange (h .held .last)) (side (h .sells) u))
-        (distinct (numbers (side (h .sells) u)))
-        (every (noneOf (numbers (side (h .sells) u))) (numbers (side (h .buys) t)))
-        (apart (side (h .buys) t) (side (h .sells) u))
+        (inRankOrder true (loaded (h .buys) t))
+        (every (restingInRange (h .held .last)) (loaded (h .buys) t))
+        (distinct (numbers (loaded (h .buys) t)))
+        (inRankOrder false (loaded (h .sells) u))
+        (every (restingInRange (h .held .last)) (loaded (h .sells) u))
+        (distinct (numbers (loaded (h .sells) u)))
+        (every (noneOf (numbers (loaded (h .sells) u))) (numbers (loaded (h .buys) t)))
+        (apart (loaded (h .buys) t) (loaded (h .sells) u))
         (leb opening (h .held .time))
         (leb (h .held .time) closing)
         (awayInRange (h .held .away .bid))
@@ -145,11 +145,11 @@ module _ (h : Head) (t u : List (List ℕ)) where
         pub sells-fail : not sells ≡ true → recordSound (recordOn h t u) ≡ false
         sells-fail fail = inspected ∙ rw (← buysAre, not-false buys buysPass, ← sellsAre, not-true sells fail)
 
-        module _ (sellsPass : not sells ≡ false) (once : Bool) (onceIs : once ≡ every (noneOf (numbers (side (h .sells) u))) (numbers (side (h .buys) t))) where
+        module _ (sellsPass : not sells ≡ false) (once : Bool) (onceIs : once ≡ every (noneOf (numbers (loaded (h .sells) u))) (numbers (loaded (h .buys) t))) where
           pub numbers-fail : not once ≡ true → recordSound (recordOn h t u) ≡ false
           numbers-fail fail = inspected ∙ rw (← buysAre, not-false buys buysPass, ← sellsAre, not-false sells sellsPass, ← onceIs, not-true once fail)
 
-          pub rest-decides : not once ≡ false → (head best : Bool) → head ≡ headSound h → best ≡ apart (side (h .buys) t) (side (h .sells) u)
+          pub rest-decides : not once ≡ false → (head best : Bool) → head ≡ headSound h → best ≡ apart (loaded (h .buys) t) (loaded (h .sells) u)
               → recordSound (recordOn h t u) ≡ (head && best)
           rest-decides pass head best headIs bestIs =
               inspected

@@ -13,7 +13,7 @@ use borrow.Author.Tests.{eqb-true, eqb-false}
 use Rattle.basics.proofs.LawsLists.{map-drop}
 use Rattle.basics.specs.Lists.{every, any, distinct}
 use Rattle.basics.proofs.LawsChoice.{lt-or-le, holds-or-not, or-neither}
-use Rattle.rows.specs.Table.{orderOf, side}
+use Rattle.rows.specs.Table.{orderOf, loaded}
 use Rattle.rules.specs.declared.Resting.{Resting}
 use Rattle.rules.specs.Book.{numbers, ranksBefore, inRankOrder, apart, placesASide}
 use Rattle.rows.proofs.LawsTable.{ahead, ahead-end, ahead-next}
@@ -83,8 +83,8 @@ ahead-unused n t whole =
     rw e (map-drop orderOf n t)
 
 -- the numbers ahead are those of the side from the place on
-pub ahead-numbers : (n : ℕ) (t : List (List ℕ)) (i : ℕ) → numbers (ahead n t i) ≡ drop i (numbers (side n t))
-ahead-numbers n t i = ap numbers (map-drop orderOf i (take n t)) ∙ map-drop (λ (o : Resting). o .number .0) i (side n t)
+pub ahead-numbers : (n : ℕ) (t : List (List ℕ)) (i : ℕ) → numbers (ahead n t i) ≡ drop i (numbers (loaded n t))
+ahead-numbers n t i = ap numbers (map-drop orderOf i (take n t)) ∙ map-drop (λ (o : Resting). o .number .0) i (loaded n t)
 
 -- ── Rank ──
 
@@ -109,12 +109,12 @@ module _ (buy : Bool) (n : ℕ) (t : List (List ℕ)) (i : ℕ) (whole : n ≤ l
 -- ── The best of two sides ──
 
 module _ (n m : ℕ) (t u : List (List ℕ)) where
-  pub apart-none : (eqb n 0 || eqb m 0) ≡ true → apart (side n t) (side m u) ≡ true
+  pub apart-none : (eqb n 0 || eqb m 0) ≡ true → apart (loaded n t) (loaded m u) ≡ true
   unfolding apart
   apart-none none =
       ⊎-elim
       (λ (p : eqb n 0 ≡ true). rw (eqb-true n 0 p))
-      (λ (p : eqb n 0 ≡ false). rw (eqb-true m 0 (sym (ap (λ (b : Bool). b || eqb m 0) p) ∙ none)) (no-sells (side n t)))
+      (λ (p : eqb n 0 ≡ false). rw (eqb-true m 0 (sym (ap (λ (b : Bool). b || eqb m 0) p) ∙ none)) (no-sells (loaded n t)))
       (holds-or-not (eqb n 0))
     where
       no-sells : (s : List Resting) → apart s [] ≡ true
@@ -122,7 +122,7 @@ module _ (n m : ℕ) (t u : List (List ℕ)) where
       no-sells (x ∷ s) = refl
 
   pub apart-best : n ≤ length t → m ≤ length u → (eqb n 0 || eqb m 0) ≡ false → (x y : Resting) → x ≡ orderOf (getD t 0 []) → y ≡ orderOf (getD u 0 [])
-      → apart (side n t) (side m u) ≡ ltb (x .price .0) (y .price .0)
+      → apart (loaded n t) (loaded m u) ≡ ltb (x .price .0) (y .price .0)
   unfolding apart
   apart-best wholeT wholeU some x y ex ey =
       let p : 0 < n = positive n (or-neither (eqb n 0) (eqb m 0) some .0) in

@@ -8,7 +8,7 @@ use lib.ListN.{drop}
 use Rattle.basics.specs.Lists.{every, distinct}
 use Rattle.kinds.specs.declared.Number.{Number}
 use Rattle.rules.specs.Book.{numbers, opening, closing, awayInRange, isUnused, inRankOrder, restingInRange}
-use Rattle.rows.specs.Table.{orderOf, side}
+use Rattle.rows.specs.Table.{orderOf, loaded}
 use Rattle.tables.specs.declared.Head.{Head}
 
 -- what is said of the header alone
@@ -23,7 +23,7 @@ headSound h =
 -- what is said of one side alone, the unused places with it
 abbrev pub sideSound : Bool → Number → ℕ → List (List ℕ) → Bool
 sideSound buy last n t =
-    inRankOrder buy (side n t)
-    && every (restingInRange last) (side n t)
+    inRankOrder buy (loaded n t)
+    && every (restingInRange last) (loaded n t)
     && every isUnused (drop n (map orderOf t))
-    && distinct (numbers (side n t))
+    && distinct (numbers (loaded n t))

@@ -1,7 +1,7 @@
 // Whether a book is sound (01, The book), decided on its header and two lent tables of rows, whatever they hold.
 use kinds::Number;
 use rows::PLACES;
-use rows::WORDS;
+use rows::Rows;
 use rules::Resting;
 use tables::Head;
 ghost use mathlib.Core.Bool.{not};
@@ -11,7 +11,7 @@ ghost use Prim.Native.Nat.{_≤_};
 ghost use lib.Dec.{eqb};
 ghost use lib.ListN.{drop};
 ghost use Rattle.basics.specs.Lists.{every, any, distinct};
-ghost use Rattle.rows.specs.Table.{orderOf, side};
+ghost use Rattle.rows.specs.Table.{orderOf, loaded};
 ghost use Rattle.rules.specs.Book.{numbers, placesASide, restingInRange, isUnused, inRankOrder, apart, recordSound};
 ghost use Rattle.tables.specs.Tables.{recordOn};
 ghost use Rattle.inspection.specs.Inspection.{headSound, sideSound};
@@ -34,9 +34,9 @@ fn in_range(last: Number, o: Resting) -> bool
 
 // ── One side ──
 
-fn all_in_range(t: &[[u32; WORDS]; PLACES], n: usize, last: Number) -> bool
+fn all_in_range(t: &Rows, n: usize, last: Number) -> bool
     requires { ⌜ n ≤ placesASide ⌝ }
-    ensures { λ r. ⌜ r ≡ every (restingInRange last) (side n (now (t .entry))) ⌝ }
+    ensures { λ r. ⌜ r ≡ every (restingInRange last) (loaded n (now (t .entry))) ⌝ }
 {
     rows::whole(t);
     let mut i = 0;
@@ -50,7 +50,7 @@ fn all_in_range(t: &[[u32; WORDS]; PLACES], n: usize, last: Number) -> bool
 }
 
 // Unused places are all zero.
-fn all_unused(t: &[[u32; WORDS]; PLACES], n: usize) -> bool
+fn all_unused(t: &Rows, n: usize) -> bool
     requires { ⌜ n ≤ placesASide ⌝ }
     ensures { λ r. ⌜ r ≡ every isUnused (drop n (map orderOf (now (t .entry)))) ⌝ }
 {
@@ -66,9 +66,9 @@ fn all_unused(t: &[[u32; WORDS]; PLACES], n: usize) -> bool
 }
 
 // Used places are in strict rank order.
-fn in_rank_order(t: &[[u32; WORDS]; PLACES], n: usize, buying: bool) -> bool
+fn in_rank_order(t: &Rows, n: usize, buying: bool) -> bool
     requires { ⌜ n ≤ placesASide ⌝ }
-    ensures { λ r. ⌜ r ≡ inRankOrder buying (side n (now (t .entry))) ⌝ }
+    ensures { λ r. ⌜ r ≡ inRankOrder buying (loaded n (now (t .entry))) ⌝ }
 {
     rows::whole(t);
     let mut i = 1;
@@ -84,9 +84,9 @@ fn in_rank_order(t: &[[u32; WORDS]; PLACES], n: usize, buying: bool) -> bool
 // ── Numbers ──
 
 // Whether an order from place `from` on has the number.
-fn has_number(t: &[[u32; WORDS]; PLACES], n: usize, from: usize, number: Number) -> bool
+fn has_number(t: &Rows, n: usize, from: usize, number: Number) -> bool
     requires { ⌜ (n ≤ placesASide) × (from ≤ n) ⌝ }
-    ensures { λ r. ⌜ r ≡ any (eqb (number .0)) (drop from (numbers (side n (now (t .entry))))) ⌝ }
+    ensures { λ r. ⌜ r ≡ any (eqb (number .0)) (drop from (numbers (loaded n (now (t .entry))))) ⌝ }
 {
     rows::whole(t);
     let mut i = from;
@@ -101,9 +101,9 @@ fn has_number(t: &[[u32; WORDS]; PLACES], n: usize, from: usize, number: Number)
 }
 
 // No number stands twice on a side.
-fn none_twice(t: &[[u32; WORDS]; PLACES], n: usize) -> bool
+fn none_twice(t: &Rows, n: usize) -> bool
     requires { ⌜ n ≤ placesASide ⌝ }
-    ensures { λ r. ⌜ r ≡ distinct (numbers (side n (now (t .entry)))) ⌝ }
+    ensures { λ r. ⌜ r ≡ distinct (numbers (loaded n (now (t .entry)))) ⌝ }
 {
     rows::whole(t);
     let mut i = 0;
@@ -118,14 +118,9 @@ fn none_twice(t: &[[u32; WORDS]; PLACES], n: usize) -> bool
 }
 
 // No number of the first side stands on the second.
-fn none_on_both(
-    t: &[[u32; WORDS]; PLACES],
-    n: usize,
-    other: &[[u32; WORDS]; PLACES],
-    m: usize,
-) -> bool
+fn none_on_both(t: &Rows, n: usize, other: &Rows, m: usize) -> bool
     requires { ⌜ (n ≤ placesASide) × (m ≤ placesASide) ⌝ }
-    ensures { λ r. ⌜ r ≡ every (λ k. not (any (eqb k) (numbers (side m (now (other .entry)))))) (numbers (side n (now (t .entry)))) ⌝ }
+    ensures { λ r. ⌜ r ≡ every (λ k. not (any (eqb k) (numbers (loaded m (now (other .entry)))))) (numbers (loaded n (now (t .entry)))) ⌝ }
 {
     rows::whole(t);
     let mut i = 0;
@@ -142,14 +137,9 @@ fn none_on_both(
 // ── The book ──
 
 // The best buy is below the best sell.
-fn are_apart(
-    buys: &[[u32; WORDS]; PLACES],
-    n: usize,
-    sells: &[[u32; WORDS]; PLACES],
-    m: usize,
-) -> bool
+fn are_apart(buys: &Rows, n: usize, sells: &Rows, m: usize) -> bool
     requires { ⌜ (n ≤ placesASide) × (m ≤ placesASide) ⌝ }
-    ensures { λ r. ⌜ r ≡ apart (side n (now (buys .entry))) (side m (now (sells .entry))) ⌝ }
+    ensures { λ r. ⌜ r ≡ apart (loaded n (now (buys .entry))) (loaded m (now (sells .entry))) ⌝ }
 {
     rows::whole(buys);
     rows::whole(sells);
@@ -177,7 +167,7 @@ fn head_sound(h: Head) -> bool
 }
 
 // What sound says of one side alone, and of its unused places.
-fn side_sound(t: &[[u32; WORDS]; PLACES], n: usize, buying: bool, last: Number) -> bool
+fn side_sound(t: &Rows, n: usize, buying: bool, last: Number) -> bool
     requires { ⌜ n ≤ placesASide ⌝ }
     ensures { λ r. ⌜ r ≡ sideSound buying last n (now (t .entry)) ⌝ }
 {
@@ -188,7 +178,7 @@ fn side_sound(t: &[[u32; WORDS]; PLACES], n: usize, buying: bool, last: Number) 
     ranked & ranged & zero & once
 }
 
-pub fn is_sound(h: Head, buys: &[[u32; WORDS]; PLACES], sells: &[[u32; WORDS]; PLACES]) -> bool
+pub fn is_sound(h: Head, buys: &Rows, sells: &Rows) -> bool
     ensures { λ r. ⌜ r ≡ recordSound (recordOn h (now (buys .entry)) (now (sells .entry))) ⌝ }
 {
     let held = h.held;

@@ -1,14 +1,17 @@
--- The public contract determines its result, both sides and the bytes: any two outcomes that meet it are equal. The contract is
--- read here as the checker reads it from the source (`Post`), not from a copy. Assumes nothing.
+-- The public contract determines its result, both sides and the bytes: any two outcomes that meet it are equal, but for the rows in which a
+-- side stands. The contract is read here as the checker reads it from the source (`Post`), not from a copy. Assumes nothing.
 use mathlib.Core.Path.{_≡_, sym, _∙_}
 use denote.Ref.{now}
+use Rattle.rows.specs.Table.{side}
+use Rattle.rows.proofs.LawsSides.{shown-same}
 use Rattle.matching.specs.declared.Matched.{Matched}
 use Rattle.matching.proofs.match_order.Reads as match-order
 
 pub match-order-determined : (κs : _) (a : _) (r r′ : Matched) (s s′ : _) → match-order.Post κs a r s → match-order.Post κs a r′ s′
     → (r ≡ r′)
-    × (now (s .1 .1 .1 .0) ≡ now (s′ .1 .1 .1 .0))
-    × (now (s .1 .1 .1 .1 .1 .0) ≡ now (s′ .1 .1 .1 .1 .1 .0))
-    × (now (s .1 .1 .1 .1 .1 .1 .1 .0) ≡ now (s′ .1 .1 .1 .1 .1 .1 .1 .0))
+    × (side (r .own) (now (s .1 .1 .1 .0)) (now (s .1 .1 .1 .1 .0)) ≡ side (r .own) (now (s′ .1 .1 .1 .0)) (now (s′ .1 .1 .1 .1 .0)))
+    × (side (r .opposite) (now (s .1 .1 .1 .1 .1 .1 .0)) (now (s .1 .1 .1 .1 .1 .1 .1 .0))
+    ≡ side (r .opposite) (now (s′ .1 .1 .1 .1 .1 .1 .0)) (now (s′ .1 .1 .1 .1 .1 .1 .1 .0)))
+    × (now (s .1 .1 .1 .1 .1 .1 .1 .1 .1 .1 .0) ≡ now (s′ .1 .1 .1 .1 .1 .1 .1 .1 .1 .1 .0))
 match-order-determined κs a r r′ s s′ p q =
-    (p .0 ∙ sym (q .0), p .1 .0 ∙ sym (q .1 .0), p .1 .1 .0 ∙ sym (q .1 .1 .0), p .1 .1 .1 ∙ sym (q .1 .1 .1))
+    (p .0 ∙ sym (q .0), rw (p .0) (shown-same (p .1 .0) (q .1 .0)), rw (p .0) (shown-same (p .1 .1 .0) (q .1 .1 .0)), p .1 .1 .1 ∙ sym (q .1 .1 .1))

@@ -1,3 +1,2 @@
-pub mod LawsMatching
 pub mod LawsMatched
 pub mod Determined

@@ -1,35 +1,29 @@
-// An order matched in place, on two lent tables: its own side and the opposite one (01, How an order is worked). One function for
-// both sides of the market.
+// An order matched in place, on two sides that are lent: its own and the opposite one (01, How an order is worked). One function for both
+// sides of the market.
 use kinds::Cents;
 use kinds::Number;
 use kinds::Shares;
+use rows::Index;
 use rows::PLACES;
-use rows::WORDS;
+use rows::Rows;
 use rules::Away;
 use rules::Ending;
 use rules::Order;
 use rules::Resting;
 use rules::Stamp;
-use walk::Stop;
-ghost use mathlib.Core.List.{[], _∷_, _++_};
-ghost use mathlib.Core.Bool.{true, not};
+use walk::Takings;
+ghost use mathlib.Core.Bool.{true};
 ghost use mathlib.Core.Path.{_≡_};
 ghost use Prim.Native.Nat.{_≤_, _<_, _+_};
 ghost use lib.ListN.{length};
 ghost use Rattle.basics.specs.Bytes.{onto};
 ghost use Rattle.basics.specs.Choice.{if_then_else_};
-ghost use Rattle.basics.specs.Lists.{All};
-ghost use Rattle.fills.specs.Fills.{StopsIn};
-ghost use Rattle.kinds.specs.Kinds.{largest};
-ghost use Rattle.rows.specs.Table.{side, tableOf, Holds};
-ghost use Rattle.rules.specs.Book.{placesASide, inRankOrder};
+ghost use Rattle.rows.specs.Table.{side, Holds, Shows};
+ghost use Rattle.rules.specs.Book.{placesASide};
 ghost use Rattle.rules.specs.EventLines.{eventLines};
 ghost use Rattle.rules.specs.Refusals.{isRest, leastRoom};
-ghost use Rattle.rules.specs.Working.{executions, after, insert, lastLine, remainderOf, withRemainder, buying, lockingPrice};
-ghost use Rattle.rules.specs.declared.Event.the-variants.{Rested, Cancelled};
-ghost use Rattle.walk.specs.Walk.{tookTo};
-ghost use Rattle.work.specs.Stopping.{Workable};
-ghost use Rattle.matching.specs.Matching.{matchOf, matched};
+ghost use Rattle.rules.specs.Working.{lastLine, remainderOf, withRemainder, buying};
+ghost use Rattle.matching.specs.Matching.{matchOf, Ready, MayRest, Matches};
 
 // What a match leaves: a refusal or 0, how many orders each side holds, and the length of the lines.
 pub struct Matched {
@@ -37,70 +31,6 @@ pub struct Matched {
     pub own: usize,
     pub opposite: usize,
     pub length: usize,
-}
-
-// The executions of a walk: their lines, and then the opposite side after them.
-fn execute(
-    t: &mut [[u32; WORDS]; PLACES],
-    n: usize,
-    stop: Stop,
-    number: Number,
-    out: &mut [u8],
-) -> usize
-    requires { ⌜ Holds n (now t) × StopsIn (side n (now t)) stop × (leastRoom ≤ length (now out)) ⌝ }
-    ensures { λ r. ⌜ r ≡ length (eventLines (executions number (side n (now (t .entry))) (tookTo (stop .at) (stop .part .0) (side n (now (t .entry)))))) ⌝ }
-    ensures { λ _. ⌜ now (t .exit) ≡ tableOf (after (side n (now (t .entry))) (tookTo (stop .at) (stop .part .0) (side n (now (t .entry))))) ⌝ }
-    ensures { λ _. ⌜ now (out .exit) ≡ onto (eventLines (executions number (side n (now (t .entry))) (tookTo (stop .at) (stop .part .0) (side n (now (t .entry)))))) (now (out .entry)) ⌝ }
-{
-    let len = fills::report(t, n, stop, number, out);
-    fills::use_up(t, n, stop);
-    len
-}
-
-// The executions of a walk, and then the shares left of the order are cancelled.
-fn execute_and_cancel(
-    t: &mut [[u32; WORDS]; PLACES],
-    n: usize,
-    stop: Stop,
-    number: Number,
-    reason: u8,
-    out: &mut [u8],
-) -> usize
-    requires { ⌜ Holds n (now t) × StopsIn (side n (now t)) stop × (leastRoom ≤ length (now out)) ⌝ }
-    ensures { λ r. ⌜ r ≡ length (eventLines (executions number (side n (now (t .entry))) (tookTo (stop .at) (stop .part .0) (side n (now (t .entry)))) ++ (Cancelled number (stop .left) reason ∷ []))) ⌝ }
-    ensures { λ _. ⌜ now (t .exit) ≡ tableOf (after (side n (now (t .entry))) (tookTo (stop .at) (stop .part .0) (side n (now (t .entry))))) ⌝ }
-    ensures { λ _. ⌜ now (out .exit) ≡ onto (eventLines (executions number (side n (now (t .entry))) (tookTo (stop .at) (stop .part .0) (side n (now (t .entry)))) ++ (Cancelled number (stop .left) reason ∷ []))) (now (out .entry)) ⌝ }
-{
-    let left = stop.left;
-    let len = execute(t, n, stop, number, out);
-    let more = events::write_cancelled(&mut out[len..], number, left, reason);
-    len + more
-}
-
-// The executions of a walk, and then the shares left of the order rest on its own side.
-fn execute_and_rest(
-    own: &mut [[u32; WORDS]; PLACES],
-    n: usize,
-    opposite: &mut [[u32; WORDS]; PLACES],
-    m: usize,
-    stop: Stop,
-    buy: bool,
-    order: Resting,
-    out: &mut [u8],
-) -> usize
-    requires { ⌜ Holds n (now own) × (n < placesASide) × Holds m (now opposite) × StopsIn (side m (now opposite)) stop × (leastRoom ≤ length (now out)) × (inRankOrder buy (side n (now own)) ≡ true) ⌝ }
-    ensures { λ r. ⌜ r ≡ length (eventLines (executions (order .number) (side m (now (opposite .entry))) (tookTo (stop .at) (stop .part .0) (side m (now (opposite .entry)))) ++ (Rested (order .number) (order .price) (order .shares) ∷ []))) ⌝ }
-    ensures { λ _. ⌜ now (own .exit) ≡ tableOf (insert buy order (side n (now (own .entry)))) ⌝ }
-    ensures { λ _. ⌜ now (opposite .exit) ≡ tableOf (after (side m (now (opposite .entry))) (tookTo (stop .at) (stop .part .0) (side m (now (opposite .entry))))) ⌝ }
-    ensures { λ _. ⌜ now (out .exit) ≡ onto (eventLines (executions (order .number) (side m (now (opposite .entry))) (tookTo (stop .at) (stop .part .0) (side m (now (opposite .entry)))) ++ (Rested (order .number) (order .price) (order .shares) ∷ []))) (now (out .entry)) ⌝ }
-{
-    let number = order.number;
-    let price = order.price;
-    let shares = order.shares;
-    let len = execute(opposite, m, stop, number, out);
-    places::rest(own, n, buy, order);
-    let more = events::write_rested(&mut out[len..], number, price, shares);
-    len + more
 }
 
 // How many orders its own side holds after an order's ending.
@@ -135,55 +65,55 @@ fn remainder_of(number: Number, o: Order, left: Shares, price: Cents) -> Resting
     }
 }
 
-// The executions of a walk, and then what becomes of the shares left of the order.
-fn finish(
+// What becomes of the shares left of an order, after its executions: its last line, if it has one, and its own side with what rests.
+fn conclude(
     o: Order,
     number: Number,
     end: Ending,
-    stop: Stop,
-    own: &mut [[u32; WORDS]; PLACES],
+    left: Shares,
+    x: &mut Index,
+    t: &mut Rows,
     n: usize,
-    opposite: &mut [[u32; WORDS]; PLACES],
-    m: usize,
     out: &mut [u8],
 ) -> usize
-    requires { ⌜ Holds n (now own) × (isRest end ≡ true → n < placesASide) × Holds m (now opposite) × StopsIn (side m (now opposite)) stop × (leastRoom ≤ length (now out)) × (inRankOrder (buying o) (side n (now own)) ≡ true) ⌝ }
-    ensures { λ r. ⌜ r ≡ length (eventLines (executions number (side m (now (opposite .entry))) (tookTo (stop .at) (stop .part .0) (side m (now (opposite .entry)))) ++ lastLine number (stop .left .0) end)) ⌝ }
-    ensures { λ _. ⌜ now (own .exit) ≡ tableOf (withRemainder number o (stop .left .0) end (side n (now (own .entry)))) ⌝ }
-    ensures { λ _. ⌜ now (opposite .exit) ≡ tableOf (after (side m (now (opposite .entry))) (tookTo (stop .at) (stop .part .0) (side m (now (opposite .entry))))) ⌝ }
-    ensures { λ _. ⌜ now (out .exit) ≡ onto (eventLines (executions number (side m (now (opposite .entry))) (tookTo (stop .at) (stop .part .0) (side m (now (opposite .entry)))) ++ lastLine number (stop .left .0) end)) (now (out .entry)) ⌝ }
+    requires { ⌜ Holds n (now x) (now t) × (isRest end ≡ true → n < placesASide) × (27 ≤ length (now out)) × MayRest (buying o) number end (side n (now x) (now t)) ⌝ }
+    ensures { λ r. ⌜ r ≡ length (eventLines (lastLine number (left .0) end)) ⌝ }
+    ensures { λ _. ⌜ Shows (withRemainder number o (left .0) end (side n (now (x .entry)) (now (t .entry)))) (now (x .exit)) (now (t .exit)) ⌝ }
+    ensures { λ _. ⌜ now (out .exit) ≡ onto (eventLines (lastLine number (left .0) end)) (now (out .entry)) ⌝ }
 {
     match end {
-        Ending::Filled => execute(opposite, m, stop, number, out),
-        Ending::Cancels(reason) => execute_and_cancel(opposite, m, stop, number, reason, out),
+        Ending::Filled => 0,
+        Ending::Cancels(reason) => events::write_cancelled(out, number, left, reason),
         Ending::Rests(price) => {
-            let order = remainder_of(number, o, stop.left, price);
-            execute_and_rest(own, n, opposite, m, stop, o.side == 0, order, out)
+            let order = remainder_of(number, o, left, price);
+            places::rest(x, t, n, o.side == 0, order);
+            events::write_rested(out, number, price, left)
         }
     }
 }
 
-// An order is matched: refusal 11 leaves both sides and every byte as they were.
+// An order is matched: refusal 11 leaves both sides and every byte as they were. Fill-or-Kill and 11 are judged before a line is written.
 pub fn match_order(
     o: Order,
     number: Number,
     away: Away,
-    own: &mut [[u32; WORDS]; PLACES],
+    x: &mut Index,
+    own: &mut Rows,
     n: usize,
-    opposite: &mut [[u32; WORDS]; PLACES],
+    y: &mut Index,
+    opposite: &mut Rows,
     m: usize,
+    took: &mut Takings,
     out: &mut [u8],
 ) -> Matched
-    requires { ⌜ Holds n (now own) × Holds m (now opposite) × All Workable (side m (now opposite)) × (inRankOrder (not (buying o)) (side m (now opposite)) ≡ true) × (lockingPrice (buying o) away .0 < largest) × (leastRoom ≤ length (now out)) × (inRankOrder (buying o) (side n (now own)) ≡ true) ⌝ }
-    ensures { λ r. ⌜ r ≡ matched (matchOf o number away (side n (now (own .entry))) (side m (now (opposite .entry)))) ⌝ }
-    ensures { λ _. ⌜ now (own .exit) ≡ tableOf (matchOf o number away (side n (now (own .entry))) (side m (now (opposite .entry))) .own) ⌝ }
-    ensures { λ _. ⌜ now (opposite .exit) ≡ tableOf (matchOf o number away (side n (now (own .entry))) (side m (now (opposite .entry))) .opposite) ⌝ }
-    ensures { λ _. ⌜ now (out .exit) ≡ onto (eventLines (matchOf o number away (side n (now (own .entry))) (side m (now (opposite .entry))) .events)) (now (out .entry)) ⌝ }
+    requires { ⌜ Holds n (now x) (now own) × Holds m (now y) (now opposite) × Ready o number away (side n (now x) (now own)) (side m (now y) (now opposite)) × (leastRoom ≤ length (now out)) ⌝ }
+    ensures { λ r. ⌜ Matches r (now (x .exit)) (now (own .exit)) (now (y .exit)) (now (opposite .exit)) (now (out .exit)) (now (out .entry))
+        (matchOf o number away (side n (now (x .entry)) (now (own .entry))) (side m (now (y .entry)) (now (opposite .entry)))) ⌝ }
 {
-    let stop = work::stop_of(o, away, opposite, m);
-    let at = stop.at;
-    let left = stop.left;
-    let end = work::ending_of(o, away, opposite, m, left);
+    let w = work::walk_of(o, away, y, opposite, m, took);
+    let count = w.count;
+    let left = w.left;
+    let end = work::ending_of(o, away, y, opposite, m, left);
     let held = places_after(end, n);
     if PLACES < held {
         return Matched {
@@ -193,11 +123,13 @@ pub fn match_order(
             length: 0,
         };
     }
-    let length = finish(o, number, end, stop, own, n, opposite, m, out);
+    let length = reports::report(y, opposite, m, took, count, number, out);
+    let stay = fills::take_off(y, opposite, m, w.at, took, count);
+    let more = conclude(o, number, end, left, x, own, n, &mut out[length..]);
     Matched {
         refusal: 0,
         own: held,
-        opposite: m - at,
-        length: length,
+        opposite: stay,
+        length: length + more,
     }
 }

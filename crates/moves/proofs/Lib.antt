@@ -1,3 +1,3 @@
-pub mod LawsTurns
-pub mod LawsMoving
+pub mod LawsOneByOne
+pub mod LawsSettling
 pub mod Determined

@@ -1,22 +1,26 @@
--- Each public contract determines its result, the bytes that wait, both tables and the output: any two outcomes that meet it are equal.
+-- Each public contract determines its result, the bytes that wait, both sides and the output: any two outcomes that meet it
+-- agree in these.
 -- A contract is read here as the checker reads it from the source (`Post`), not from a copy. Assumes nothing.
 use Prim.Native.Nat.{ℕ}
 use mathlib.Core.Path.{_≡_, sym, _∙_}
 use denote.Ref.{now}
 use Rattle.night.specs.declared.Turn.{Turn}
+use Rattle.rows.specs.Table.{side}
+use Rattle.rows.proofs.LawsSides.{shown-same}
 use Rattle.night.proofs.take_turn.Reads as turn
 use Rattle.night.proofs.finish.Reads as finish
 
 pub take-turn-determined : (κs : _) (a : _) (r r′ : Turn) (s s′ : _) → turn.Post κs a r s → turn.Post κs a r′ s′
     → (r ≡ r′)
-    × (now (s .1 .1 .1 .0) ≡ now (s′ .1 .1 .1 .0))
-    × (now (s .1 .1 .1 .1 .0) ≡ now (s′ .1 .1 .1 .1 .0))
+    × (side (r .head .buys) (now (s .1 .1 .1 .0)) (now (s .1 .1 .1 .1 .0)) ≡ side (r .head .buys) (now (s′ .1 .1 .1 .0)) (now (s′ .1 .1 .1 .1 .0)))
+    × (side (r .head .sells) (now (s .1 .1 .1 .1 .1 .0)) (now (s .1 .1 .1 .1 .1 .1 .0))
+    ≡ side (r .head .sells) (now (s′ .1 .1 .1 .1 .1 .0)) (now (s′ .1 .1 .1 .1 .1 .1 .0)))
     × (now (s .1 .0) ≡ now (s′ .1 .0))
-    × (now (s .1 .1 .1 .1 .1 .0) ≡ now (s′ .1 .1 .1 .1 .1 .0))
+    × (now (s .1 .1 .1 .1 .1 .1 .1 .1 .0) ≡ now (s′ .1 .1 .1 .1 .1 .1 .1 .1 .0))
 take-turn-determined κs a r r′ s s′ p q = (
   p .0 ∙ sym (q .0),
-  p .1 .0 ∙ sym (q .1 .0),
-  p .1 .1 .0 ∙ sym (q .1 .1 .0),
+  rw (p .0) (shown-same (p .1 .0) (q .1 .0)),
+  rw (p .0) (shown-same (p .1 .1 .0) (q .1 .1 .0)),
   p .1 .1 .1 .0 ∙ sym (q .1 .1 .1 .0),
   p .1 .1 .1 .1 .0 ∙ sym (q .1 .1 .1 .1 .0),
 )

@@ -18,14 +18,14 @@ use Rattle.lines.specs.Pieces.{Cut, cut, partKept, allOf}
 use Rattle.lines.proofs.LawsCut.{cut-line, cut-none}
 use Rattle.replay.specs.Feed.{Worked, worked}
 use Rattle.replay.specs.Pieces.{printedAtEnd, printedOfPieces}
-use Rattle.replay.proofs.LawsFeed.{book-back}
 use Rattle.replay.proofs.LawsPieces.{cut-anywhere}
-use Rattle.rows.specs.Table.{tableOf}
+use Rattle.rows.specs.Table.{Shows}
 use Rattle.rules.specs.Book.{Book, fresh}
 use Rattle.rules.specs.Day.{bookAfter, printed, printedOf, output}
 use Rattle.rules.specs.Refusals.{leastRoom}
 use Rattle.rules.specs.Step.{answerTo}
 use Rattle.tables.specs.Tables.{bookOn, headOf}
+use Rattle.tables.proofs.LawsAnswers.{book-back}
 use Rattle.night.specs.Turns.{Turned, turned, Runs, goesOn, readsOn, ends, Ran, Stops, stops, stopsAtEnd, goesOnTo, readsOnTo, Begins}
 
 -- ── What stands behind whole lines ──
@@ -342,8 +342,8 @@ stops-output room pieces written stopped =
 
 -- ── From one turn to the next ──
 
--- the book that a turn leaves is the book that stands in the header and the tables that it leaves, and what waits stands at the front
-pub hands-on : (b : Book) (waits input : List ℕ)
-    → (bookOn (headOf b) (tableOf (b .buys)) (tableOf (b .sells)) ≡ b) × (take (length waits) (onto waits input) ≡ waits)
+-- the book that a turn leaves is the book that stands in the header and the two sides that it leaves, and what waits stands at the front
+pub hands-on : (b : Book) (waits input x : List ℕ) (t : List (List ℕ)) (y : List ℕ) (u : List (List ℕ)) → Shows (b .buys) x t → Shows (b .sells) y u
+    → (bookOn (headOf b) x t y u ≡ b) × (take (length waits) (onto waits input) ≡ waits)
 unfolding onto
-hands-on b waits input = (book-back b, take-append-seam waits (drop (length waits) input))
+hands-on b waits input x t y u buys sells = (book-back b x t y u buys sells, take-append-seam waits (drop (length waits) input))

@@ -15,10 +15,9 @@ use Rattle.replay.specs.Feed.{worked}
 use Rattle.replay.specs.Pieces.{printedAtEnd}
 use Rattle.rules.specs.Book.{Book, fresh}
 use Rattle.rules.specs.Refusals.{leastRoom}
-use Rattle.rows.specs.Table.{tableOf}
-use Rattle.tables.specs.declared.Head.{Head}
+use Rattle.rows.specs.Table.{Shows}
 use Rattle.tables.specs.Answers.{Stands}
-use Rattle.tables.specs.Tables.{bookOn, headOf}
+use Rattle.tables.specs.Tables.{headOf}
 use Rattle.night.specs.declared.Turn.{Turn}
 
 -- what a turn leaves: the book, the bytes that wait, what is handed to `write`, and whether more is to be read before the next turn
@@ -46,12 +45,12 @@ turned room b waits =
 abbrev pub turnOf : Turned → Turn
 turnOf t = record { head = headOf (t .book); have = length (t .waits); length = length (t .printed); reads = t .reads }
 
--- what a turn leaves of a sound book in a header and two tables, of the input whose first `have` bytes wait, and of the output
-abbrev pub Takes : Head → List ℕ → ℕ → List (List ℕ) → List (List ℕ) → List ℕ → Turn → List ℕ → List (List ℕ) → List (List ℕ) → List ℕ → Type 0
-Takes h input have buys sells out r input′ buys′ sells′ out′ =
-    let t = turned (length out) (bookOn h buys sells) (take have input) in
-    (r ≡ turnOf t) × ((buys′ ≡ tableOf (t .book .buys)) × ((sells′ ≡ tableOf (t .book .sells)) × ((input′ ≡ onto (t .waits) input)
-    × ((out′ ≡ onto (t .printed) out) × (Stands (r .head) buys′ sells′ × (r .have ≤ have) × (r .length ≤ length out))))))
+-- what a turn leaves of a sound book in a header and two sides that are lent, of the input whose first `have` bytes wait, and of the output
+abbrev pub Takes : Book → List ℕ → ℕ → List ℕ → Turn → List ℕ → List ℕ → List (List ℕ) → List ℕ → List (List ℕ) → List ℕ → Type 0
+Takes b input have out r input′ x t y u out′ =
+    let w = turned (length out) b (take have input) in
+    (r ≡ turnOf w) × (Shows (w .book .buys) x t × (Shows (w .book .sells) y u × ((input′ ≡ onto (w .waits) input)
+    × ((out′ ≡ onto (w .printed) out) × (Stands (r .head) x t y u × (r .have ≤ have) × (r .length ≤ length out))))))
 
 -- the turns of the program from a book and the bytes that wait: what its reads give, piece by piece up to the end of the input, and all
 -- that it hands to `write`, one after the other

@@ -1,8 +1,9 @@
 // The turns of a day (01, Examples from the desk: the program): all that the program does between a read and a write. What reads, calls these
 // and writes what they hand over is the program itself.
-use rows::PLACES;
-use rows::WORDS;
+use rows::Index;
+use rows::Rows;
 use tables::Head;
+use walk::Takings;
 ghost use mathlib.Core.Path.{_≡_};
 ghost use Prim.Native.Nat.{_≤_};
 ghost use lib.ListN.{length};
@@ -10,6 +11,7 @@ ghost use Rattle.basics.specs.Bytes.{onto};
 ghost use Rattle.replay.specs.Pieces.{printedAtEnd};
 ghost use Rattle.rules.specs.Refusals.{leastRoom};
 ghost use Rattle.tables.specs.Answers.{Stands};
+ghost use Rattle.tables.specs.Tables.{bookOn};
 ghost use Rattle.night.specs.Turns.{Takes};
 
 // What a turn leaves: the header, how many bytes wait at the front of the input, how many bytes of the output are to be written, and whether
@@ -26,15 +28,18 @@ pub fn take_turn(
     h: Head,
     input: &mut [u8],
     have: usize,
-    buys: &mut [[u32; WORDS]; PLACES],
-    sells: &mut [[u32; WORDS]; PLACES],
+    x: &mut Index,
+    buys: &mut Rows,
+    y: &mut Index,
+    sells: &mut Rows,
+    took: &mut Takings,
     out: &mut [u8],
 ) -> Turn
-    requires { ⌜ Stands h (now buys) (now sells) × (have ≤ length (now input)) × (leastRoom ≤ length (now out)) ⌝ }
-    ensures { λ r. ⌜ Takes h (now (input .entry)) have (now (buys .entry)) (now (sells .entry)) (now (out .entry)) r
-        (now (input .exit)) (now (buys .exit)) (now (sells .exit)) (now (out .exit)) ⌝ }
+    requires { ⌜ Stands h (now x) (now buys) (now y) (now sells) × (have ≤ length (now input)) × (leastRoom ≤ length (now out)) ⌝ }
+    ensures { λ r. ⌜ Takes (bookOn h (now (x .entry)) (now (buys .entry)) (now (y .entry)) (now (sells .entry))) (now (input .entry)) have (now (out .entry)) r
+        (now (input .exit)) (now (x .exit)) (now (buys .exit)) (now (y .exit)) (now (sells .exit)) (now (out .exit)) ⌝ }
 {
-    let fed = replay::feed(h, &input[..have], buys, sells, out);
+    let fed = replay::feed(h, &input[..have], x, buys, y, sells, took, out);
     let head = fed.head;
     let length = fed.length;
     let is_short = out.len() - length < rules::LEAST_ROOM;

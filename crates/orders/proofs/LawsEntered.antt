@@ -4,15 +4,15 @@ use Prim.Native.Nat.{ℕ}
 use mathlib.Core.Bool.{Bool, true, false}
 use mathlib.Core.List.{List, []}
 use mathlib.Core.Logic.{⊎-elim}
-use mathlib.Core.Path.{_≡_, refl, sym, ap, _∙_}
+use mathlib.Core.Path.{_≡_, refl, ap, subst, _∙_}
 use native.Mathlib.Omega.{arith}
 use Rattle.basics.specs.Bytes.{onto}
 use Rattle.basics.specs.Choice.{if_then_else_}
 use Rattle.basics.proofs.LawsChoice.{holds-or-not}
 use Rattle.kinds.specs.declared.Number.{Number}
 use Rattle.matching.specs.declared.Matched.{Matched}
-use Rattle.matching.specs.Matching.{Match, isFull, matchOf, matched}
-use Rattle.rows.specs.Table.{tableOf}
+use Rattle.matching.specs.Matching.{Match, isFull, matchOf, matched, Matches}
+use Rattle.rows.specs.Table.{Shows}
 use Rattle.rules.specs.declared.Body.the-variants as body
 use Rattle.rules.specs.declared.Order.{Order}
 use Rattle.rules.specs.Book.{Book}
@@ -20,12 +20,15 @@ use Rattle.rules.specs.EventLines.{eventLines}
 use Rattle.rules.specs.Instructions.{lawful}
 use Rattle.rules.specs.Refusals.{firstOf, bodyRefusals, orderInRange, restsOnFullSide}
 use Rattle.rules.specs.Step.{Answer}
-use Rattle.rules.specs.Working.{buying, ending, ownSide, oppositeSide, withSides, does, accept}
+use Rattle.rules.specs.Commands.{withAccepted, carriedOut, does}
+use Rattle.rules.specs.Settling.{ownSide, oppositeSide}
+use Rattle.rules.specs.Working.{buying, ending, accept}
 use Rattle.tables.specs.declared.Head.{Head}
+use Rattle.tables.specs.declared.Step.{Step}
 use Rattle.tables.specs.Answers.{Left, bodyAnswer, Stands}
 use Rattle.tables.specs.Tables.{bookOn}
 use Rattle.tables.proofs.LawsAnswers.{refusedWith, doneWith, body-refused, body-done, left-refused}
-use Rattle.orders.specs.Orders.{settled}
+use Rattle.orders.specs.Orders.{entered}
 
 module _ (n : Number) (time : ℕ) (o : Order) (b : Book) where
   pub unlawful : lawful (o .word) ≡ false → bodyAnswer n time (body.Order o) b ≡ refusedWith 8 b
@@ -49,65 +52,66 @@ module _ (n : Number) (time : ℕ) (o : Order) (b : Book) where
 
     room : (buy : Bool) → buying o ≡ buy → isFull (ending o (b .held .away) (oppositeSide buy b)) (ownSide buy b) ≡ false
         → (bodyAnswer n time (body.Order o) b ≡ doneWith (record {
-          book = withSides n time b (if buy then matches buy .own else matches buy .opposite) (if buy then matches buy .opposite else matches buy .own);
+          book = record {
+            held = withAccepted n time (b .held);
+            buys = if buy then matches buy .own else matches buy .opposite;
+            sells = if buy then matches buy .opposite else matches buy .own;
+          };
           events = matches buy .events;
+          moves = 0;
         }))
         × (matches buy .refusal ≡ 0)
-    unfolding bodyRefusals firstOf restsOnFullSide matchOf does accept
+    unfolding bodyRefusals firstOf restsOnFullSide matchOf does carriedOut accept
     room buy q f = (body-done n time (body.Order o) b (rw (isLawful, inRange, q, f)) ∙ rw (q, f), rw f)
 
--- ── In a header and two tables ──
+-- ── In a header and two sides that are lent ──
 
-module _ (h : Head) (t u : List (List ℕ)) (stands : Stands h t u) (n : Number) (time : ℕ) (out : List ℕ) where
-  -- what a match leaves, by the side of the market that the order is of: its own table and the opposite one
-  module _ (m : Match) (own opposite : List (List ℕ)) (out′ : List ℕ) (ownIs : own ≡ tableOf (m .own)) (oppositeIs : opposite ≡ tableOf (m .opposite))
-      (outIs : out′ ≡ onto (eventLines (m .events)) out) (a : Answer) where
-    left-full : (buy : Bool) → a ≡ refusedWith 11 (bookOn h t u)
-        → m ≡ record { refusal = 11; events = []; own = ownSide buy (bookOn h t u); opposite = oppositeSide buy (bookOn h t u) }
-        → Left (settled h n time buy (matched m)) (if buy then own else opposite) (if buy then opposite else own) out′ out a
-    unfolding eventLines
-    left-full true e q =
-        let f = left-refused h t u stands 11 out a e in (
-          ap (λ (x : Match). settled h n time true (matched x)) q ∙ f .0,
-          (
-            ownIs ∙ ap (λ (x : Match). tableOf (x .own)) q ∙ sym (stands .buys .table) ∙ f .1 .0,
-            (oppositeIs ∙ ap (λ (x : Match). tableOf (x .opposite)) q ∙ sym (stands .sells .table) ∙ f .1 .1 .0, outIs ∙ rw (q, e)),
-          ),
-        )
-    left-full false e q =
-        let f = left-refused h t u stands 11 out a e in (
-          ap (λ (x : Match). settled h n time false (matched x)) q ∙ f .0,
-          (
-            oppositeIs ∙ ap (λ (x : Match). tableOf (x .opposite)) q ∙ sym (stands .buys .table) ∙ f .1 .0,
-            (ownIs ∙ ap (λ (x : Match). tableOf (x .own)) q ∙ sym (stands .sells .table) ∙ f .1 .1 .0, outIs ∙ rw (q, e)),
-          ),
-        )
+module _ (h : Head) (x : List ℕ) (t : List (List ℕ)) (y : List ℕ) (u : List (List ℕ)) (stands : Stands h x t y u) (n : Number) (time : ℕ) (out : List ℕ) where
+  abbrev book : Book
+  book = bookOn h x t y u
 
-    left-room : (buy : Bool) → a ≡ doneWith (record {
-      book = withSides n time (bookOn h t u) (if buy then m .own else m .opposite) (if buy then m .opposite else m .own);
-      events = m .events;
-    })
-        → m .refusal ≡ 0 → Left (settled h n time buy (matched m)) (if buy then own else opposite) (if buy then opposite else own) out′ out a
-    left-room true e z = rw (e, z) (refl, (ownIs, (oppositeIs, outIs)))
-    left-room false e z = rw (e, z) (refl, (oppositeIs, (ownIs, outIs)))
+  -- what a match leaves, by the side of the market that the order is of: x′ and t′ hold its own side, y′ and u′ the opposite one
+  module _ (x′ : List ℕ) (t′ : List (List ℕ)) (y′ : List ℕ) (u′ : List (List ℕ)) (out′ : List ℕ) where
+    abbrev pub LeftBy : Bool → Step → Answer → Type 0
+    LeftBy buy s a = Left s (if buy then x′ else y′) (if buy then t′ else u′) (if buy then y′ else x′) (if buy then u′ else t′) out′ out a
 
-  pub left-entered : (o : Order) → lawful (o .word) ≡ true → orderInRange o ≡ true → (buy : Bool) → buying o ≡ buy
-      → (r : Matched) (own opposite : List (List ℕ)) (out′ : List ℕ)
-      → r ≡ matched (matches n time o (bookOn h t u) buy)
-      → own ≡ tableOf (matches n time o (bookOn h t u) buy .own)
-      → opposite ≡ tableOf (matches n time o (bookOn h t u) buy .opposite)
-      → out′ ≡ onto (eventLines (matches n time o (bookOn h t u) buy .events)) out
-      → Left (settled h n time buy r) (if buy then own else opposite) (if buy then opposite else own) out′ out (bodyAnswer n time (body.Order o) (bookOn h t u))
-  left-entered o isLawful inRange buy q r own opposite out′ e p d s =
-      let b = bookOn h t u in
-      let a = bodyAnswer n time (body.Order o) b in
-      let m = matches n time o b buy in
-      rw e
-      (⊎-elim
-      (λ (f : isFull (ending o (b .held .away) (oppositeSide buy b)) (ownSide buy b) ≡ true).
-      let k = full n time o b isLawful inRange buy q f in
-      left-full m own opposite out′ p d s a buy (k .0) (k .1))
-      (λ (f : isFull (ending o (b .held .away) (oppositeSide buy b)) (ownSide buy b) ≡ false).
-      let k = room n time o b isLawful inRange buy q f in
-      left-room m own opposite out′ p d s a buy (k .0) (k .1))
-      (holds-or-not (isFull (ending o (b .held .away) (oppositeSide buy b)) (ownSide buy b))))
+    left-full : (buy : Bool) (m : Match) → Shows (m .own) x′ t′ → Shows (m .opposite) y′ u′ → out′ ≡ onto (eventLines (m .events)) out → (a : Answer)
+        → a ≡ refusedWith 11 book → m ≡ record { refusal = 11; events = []; own = ownSide buy book; opposite = oppositeSide buy book }
+        → LeftBy buy (entered h n time buy (matched m)) a
+    left-full buy m own opposite wrote a e q =
+        rw (e, q) (by-side buy (subst (λ (k : Match). Shows (k .own) x′ t′) q own) (subst (λ (k : Match). Shows (k .opposite) y′ u′) q opposite)
+        (wrote ∙ ap (λ (k : Match). onto (eventLines (k .events)) out) q))
+      where
+        by-side : (b : Bool) → Shows (ownSide b book) x′ t′ → Shows (oppositeSide b book) y′ u′ → out′ ≡ onto (eventLines []) out
+            → LeftBy b (entered h n time b (matched (record { refusal = 11; events = []; own = ownSide b book; opposite = oppositeSide b book }))) (refusedWith 11 book)
+        by-side true own′ opposite′ none = (left-refused h x t y u stands 11 out (refusedWith 11 book) refl .0, (own′, (opposite′, none)))
+        by-side false own′ opposite′ none = (left-refused h x t y u stands 11 out (refusedWith 11 book) refl .0, (opposite′, (own′, none)))
+
+    left-room : (buy : Bool) (m : Match) → Shows (m .own) x′ t′ → Shows (m .opposite) y′ u′ → out′ ≡ onto (eventLines (m .events)) out → (a : Answer)
+        → a ≡ doneWith (record {
+          book = record {
+            held = withAccepted n time (h .held);
+            buys = if buy then m .own else m .opposite;
+            sells = if buy then m .opposite else m .own;
+          };
+          events = m .events;
+          moves = 0;
+        })
+        → m .refusal ≡ 0 → LeftBy buy (entered h n time buy (matched m)) a
+    left-room true m own opposite wrote a e z = rw (e, z) (refl, (own, (opposite, wrote)))
+    left-room false m own opposite wrote a e z = rw (e, z) (refl, (opposite, (own, wrote)))
+
+    pub left-entered : (o : Order) → lawful (o .word) ≡ true → orderInRange o ≡ true → (buy : Bool) → buying o ≡ buy → (r : Matched)
+        → Matches r x′ t′ y′ u′ out′ out (matches n time o book buy) → LeftBy buy (entered h n time buy r) (bodyAnswer n time (body.Order o) book)
+    left-entered o isLawful inRange buy q r left =
+        let a = bodyAnswer n time (body.Order o) book in
+        let m = matches n time o book buy in
+        rw (left .0)
+        (⊎-elim
+        (λ (f : isFull (ending o (book .held .away) (oppositeSide buy book)) (ownSide buy book) ≡ true).
+        let k = full n time o book isLawful inRange buy q f in
+        left-full buy m (left .1 .0) (left .1 .1 .0) (left .1 .1 .1) a (k .0) (k .1))
+        (λ (f : isFull (ending o (book .held .away) (oppositeSide buy book)) (ownSide buy book) ≡ false).
+        let k = room n time o book isLawful inRange buy q f in
+        left-room buy m (left .1 .0) (left .1 .1 .0) (left .1 .1 .1) a (k .0) (k .1))
+        (holds-or-not (isFull (ending o (book .held .away) (oppositeSide buy book)) (ownSide buy book))))

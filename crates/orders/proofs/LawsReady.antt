@@ -1,43 +1,51 @@
--- A sound book is fit for matching, from either side of the market. Assumes nothing.
+-- A sound book is ready for an order of the next command, on either side of the market. Assumes nothing.
 use Prim.Native.Nat.{_≤_, _<_}
-use mathlib.Core.Bool.{Bool, true, false, not}
-use mathlib.Core.Path.{_≡_}
+use mathlib.Core.Bool.{Bool, true, false, _&&_}
 use mathlib.Core.Logic.{⊎-elim}
-use lib.Dec.{eqb}
+use mathlib.Core.Path.{_≡_}
+use lib.Dec.{leb}
 use native.Mathlib.Omega.{arith}
 use borrow.Author.Tests.{eqb-true}
+use Rattle.basics.proofs.LawsChoice.{holds-or-not, and-right}
 use Rattle.basics.proofs.LawsLists.{all-alike}
-use Rattle.basics.specs.Lists.{All}
-use Rattle.basics.proofs.LawsChoice.{holds-or-not}
-use Rattle.kinds.specs.declared.Cents.{Cents}
-use Rattle.kinds.specs.Kinds.{largest, highestPrice}
+use Rattle.kinds.specs.declared.Number.{Number}
+use Rattle.kinds.specs.Kinds.{highestPrice, sharesInRange}
 use Rattle.kinds.proofs.LawsRanges.{price-highest}
-use Rattle.rules.specs.Book.{Book, sound, inRankOrder, awayInRange}
-use Rattle.rules.specs.Working.{ownSide, oppositeSide, lockingPrice}
+use Rattle.matching.specs.Matching.{Ready}
+use Rattle.rules.specs.declared.Order.{Order}
+use Rattle.rules.specs.Book.{Book, stamp, sound}
+use Rattle.rules.specs.Instructions.{market, has}
+use Rattle.rules.specs.Refusals.{orderPriceInRange, orderInRange}
+use Rattle.rules.specs.Settling.{ownSide, oppositeSide}
+use Rattle.rules.specs.Working.{buying, lockingPrice}
+use Rattle.side.proofs.LawsOlder.{older-all, away-at-most}
 use Rattle.soundness.proofs.LawsSides.{sides-of}
 use Rattle.soundness.proofs.LawsSound.{Sound, sound-is}
-use Rattle.work.specs.Stopping.{Workable}
-
-away-at-most : (p : Cents) → awayInRange p ≡ true → p .0 ≤ highestPrice
-away-at-most p e =
-    ⊎-elim
-    (λ (t : eqb (p .0) 0 ≡ true). let z : p .0 ≡ 0 = eqb-true (p .0) 0 t in omega arith)
-    (λ (t : eqb (p .0) 0 ≡ false). price-highest p (rw t at e))
-    (holds-or-not (eqb (p .0) 0))
 
 locking-at-most : (buy : Bool) (b : Book) → Sound b → lockingPrice buy (b .held .away) .0 ≤ highestPrice
 locking-at-most true b s = away-at-most (b .held .away .offer) (s .offer)
 locking-at-most false b s = away-at-most (b .held .away .bid) (s .bid)
 
--- what `match_order` asks of both sides and of the Locking Price
-pub ready : (buy : Bool) (b : Book) → sound b ≡ true
-    → All Workable (oppositeSide buy b) × (inRankOrder (not buy) (oppositeSide buy b) ≡ true) × (lockingPrice buy (b .held .away) .0 < largest)
-    × (inRankOrder buy (ownSide buy b) ≡ true)
-ready buy b s =
+-- the limit of an order in range; a market order has none, and price 0
+limit-at-most : (o : Order) → orderInRange o ≡ true → o .price .0 ≤ highestPrice
+limit-at-most o r =
+    let priced = and-right (leb (o .side) 1 && sharesInRange (o .shares)) (orderPriceInRange o) r in
+    ⊎-elim
+    (λ (t : has (o .word) market ≡ true). let z : o .price .0 ≡ 0 = eqb-true (o .price .0) 0 (rw t at priced) in omega arith)
+    (λ (t : has (o .word) market ≡ false). price-highest (o .price) (rw t at priced))
+    (holds-or-not (has (o .word) market))
+
+-- a sound book is ready for an order of the next command
+pub ready : (o : Order) (n : Number) (buy : Bool) (b : Book) → sound b ≡ true → b .held .last .0 < n .0 → orderInRange o ≡ true → buying o ≡ buy
+    → Ready o n (b .held .away) (ownSide buy b) (oppositeSide buy b)
+ready o n buy b s above inRange q =
     let facts = sound-is b s in
-    let sides = sides-of buy b facts in (
-      all-alike (λ h r. record { holds = r .holding; priced = omega (arith, price-highest (h .price) (r .priced)) }) (sides .oppositeInRange),
-      sides .oppositeRanked,
-      omega (arith, locking-at-most buy b facts),
-      sides .ownRanked,
-    )
+    let sides = sides-of buy b facts in
+    record {
+      limited = omega (arith, limit-at-most o inRange);
+      lockingPriced = rw q (omega (arith, locking-at-most buy b facts));
+      ownRanked = rw q (sides .ownRanked);
+      older = older-all (stamp n 0) above (sides .ownInRange);
+      oppositeRanked = rw q (sides .oppositeRanked);
+      workable = all-alike (λ h r. record { holds = r .holding; priced = omega (arith, price-highest (h .price) (r .priced)) }) (sides .oppositeInRange);
+    }

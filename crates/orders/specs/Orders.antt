@@ -5,13 +5,13 @@ use lib.Dec.{eqb}
 use Rattle.basics.specs.Choice.{if_then_else_}
 use Rattle.kinds.specs.declared.Number.{Number}
 use Rattle.matching.specs.declared.Matched.{Matched}
-use Rattle.rules.specs.Working.{withAccepted}
+use Rattle.rules.specs.Commands.{withAccepted}
 use Rattle.tables.specs.declared.Head.{Head}
 use Rattle.tables.specs.declared.Step.{Step}
 
 -- the header after a match: what each side of the market holds, by the side that the order is of
-abbrev pub settled : Head → Number → ℕ → Bool → Matched → Step
-settled h n time buy r =
+abbrev pub entered : Head → Number → ℕ → Bool → Matched → Step
+entered h n time buy r =
     if eqb (r .refusal) 0 then record {
       refusal = 0;
       head = record {

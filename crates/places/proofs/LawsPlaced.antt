@@ -9,7 +9,7 @@ use Rattle.basics.specs.Lists.{firstWhere, insertAt}
 use Rattle.basics.proofs.LawsChoice.{holds-or-not}
 use Rattle.rules.specs.declared.Resting.{Resting}
 use Rattle.rules.specs.Book.{ranksBefore}
-use Rattle.rules.specs.Working.{insert}
+use Rattle.rules.specs.Settling.{insert}
 
 pub insert-at : (buy : Bool) (x : Resting) (s : List Resting) → insertAt (firstWhere (ranksBefore buy x) s) x s ≡ insert buy x s
 unfolding firstWhere insert

@@ -1,19 +1,20 @@
 // An order takes its place on a side of the book, by rank (01, The book).
-use rows::PLACES;
-use rows::WORDS;
+use rows::Index;
+use rows::Rows;
 use rules::Resting;
 ghost use mathlib.Core.Bool.{true};
 ghost use mathlib.Core.Path.{_≡_};
 ghost use Prim.Native.Nat.{_<_};
-ghost use Rattle.rows.specs.Table.{side, tableOf, Holds};
+ghost use Rattle.rows.specs.Table.{side, Holds, Shows};
 ghost use Rattle.rules.specs.Book.{placesASide, inRankOrder};
-ghost use Rattle.rules.specs.Working.{insert};
+ghost use Rattle.rules.specs.Settling.{insert};
+ghost use Rattle.side.specs.Looking.{Newest};
 
-// An order rests on its side, at its rank.
-pub fn rest(t: &mut [[u32; WORDS]; PLACES], n: usize, buy: bool, o: Resting)
-    requires { ⌜ Holds n (now t) × (n < placesASide) × (inRankOrder buy (side n (now t)) ≡ true) ⌝ }
-    ensures { λ _. ⌜ now (t .exit) ≡ tableOf (insert buy o (side n (now (t .entry)))) ⌝ }
+// An order rests on its side, at its rank; it is the newest there.
+pub fn rest(x: &mut Index, t: &mut Rows, n: usize, buy: bool, o: Resting)
+    requires { ⌜ Holds n (now x) (now t) × (n < placesASide) × (inRankOrder buy (side n (now x) (now t)) ≡ true) × Newest o (side n (now x) (now t)) ⌝ }
+    ensures { λ _. ⌜ Shows (insert buy o (side n (now (x .entry)) (now (t .entry)))) (now (x .exit)) (now (t .exit)) ⌝ }
 {
-    let at = side::place(t, n, buy, o);
-    shifts::insert(t, n, at, o);
+    let at = side::place(x, t, n, buy, o);
+    shifts::insert(x, t, n, at, o);
 }

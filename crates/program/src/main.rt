@@ -3,16 +3,15 @@
 use libc::STDIN_FILENO;
 use libc::STDOUT_FILENO;
 use lines::Read;
-use rows::PLACES;
-use rows::WORDS;
+use rows::Index;
+use rows::Rows;
+use walk::Takings;
 ghost use mathlib.Core.Bool.{false};
-ghost use mathlib.Core.List.{[]};
 ghost use mathlib.Core.Path.{_≡_};
 ghost use Prim.Native.Nat.{ℕ, _≤_, _<_};
 ghost use lib.ListN.{length, take};
 ghost use Rattle.lines.specs.Pieces.{partKept};
 ghost use Rattle.lines.specs.declared.Read.the-variants.{Upto};
-ghost use Rattle.rows.specs.Table.{tableOf};
 ghost use Rattle.rules.specs.Refusals.{leastRoom};
 
 // Reads behind the bytes that wait, if a turn asks for it.
@@ -50,17 +49,22 @@ fn end_day(part: &[u8], out: &mut [u8])
 // are counted down from a number that no day uses up.
 fn run(
     input: &mut [u8],
-    buys: &mut [[u32; WORDS]; PLACES],
-    sells: &mut [[u32; WORDS]; PLACES],
+    x: &mut Index,
+    buys: &mut Rows,
+    y: &mut Index,
+    sells: &mut Rows,
+    took: &mut Takings,
     out: &mut [u8],
 )
-    requires { ⌜ (now buys ≡ tableOf []) × (now sells ≡ tableOf []) × (partKept < length (now input)) × (leastRoom ≤ length (now out)) ⌝ }
+    requires { ⌜ (partKept < length (now input)) × (leastRoom ≤ length (now out)) ⌝ }
 {
     let mut head = replay::begin();
+    tables::clear(x, buys);
+    tables::clear(y, sells);
     let mut have = 0;
     let mut turns = u64::MAX;
     while 0 < turns {
-        let turn = night::take_turn(head, input, have, buys, sells, out);
+        let turn = night::take_turn(head, input, have, x, buys, y, sells, took, out);
         if !hand_over(&out[..turn.length]) {
             return;
         }
@@ -85,7 +89,18 @@ fn run(
 fn main() {
     let mut input = [0u8; 65536];
     let mut out = [0u8; 69632];
-    let mut buys = [[0u32; WORDS]; PLACES];
-    let mut sells = [[0u32; WORDS]; PLACES];
-    run(&mut input, &mut buys, &mut sells, &mut out);
+    let mut x: Index = [0; rows::INDEX];
+    let mut buys: Rows = [[0; rows::WORDS]; rows::PLACES];
+    let mut y: Index = [0; rows::INDEX];
+    let mut sells: Rows = [[0; rows::WORDS]; rows::PLACES];
+    let mut took: Takings = [[0; 3]; walk::TAKINGS];
+    run(
+        &mut input,
+        &mut x,
+        &mut buys,
+        &mut y,
+        &mut sells,
+        &mut took,
+        &mut out,
+    );
 }

@@ -19,10 +19,8 @@ use Rattle.basics.specs.Bytes.{onto}
 use Rattle.kinds.specs.declared.Number.{Number}
 use Rattle.lines.specs.declared.Read.{Read}
 use Rattle.lines.specs.Pieces.{readBehind}
-use Rattle.rules.specs.declared.Away.{Away}
 use Rattle.rules.specs.declared.Body.{Body}
 use Rattle.rules.specs.declared.Body.the-variants as body
-use Rattle.rules.specs.declared.Command.{Command}
 use Rattle.rules.specs.declared.EventReading.{EventReading}
 use Rattle.rules.specs.declared.Order.{Order}
 use Rattle.rules.specs.declared.Reading.{Reading}
@@ -34,7 +32,7 @@ use Rattle.rules.specs.Refusals.{leastRoom}
 use Rattle.rules.specs.Step.{step, stepOn}
 use Rattle.tables.specs.declared.Head.{Head}
 use Rattle.tables.specs.Answers.{Stands}
-use Rattle.tables.specs.Tables.{headOf}
+use Rattle.tables.specs.Tables.{bookOn, headOf}
 use Rattle.book.specs.declared.Book.{Book}
 use Rattle.book.specs.declared.Reply.{Reply}
 use Rattle.book.specs.Record.{recordIn, bookWith, replyOf}
@@ -253,29 +251,29 @@ pub begin-says : (κs : _) (a : _) (r : Head) (s : _) → begin.Post κs a r s
     ≡ (r ≡ headOf book.fresh)
 begin-says κs a r s = refl
 
--- `replay::feed(h, input, buys, sells, out)`: on a sound book in its header and tables
+-- `replay::feed(h, input, x, buys, y, sells, took, out)`: on a sound book in its header and two sides that are lent
 pub feed-is-proved : {M : Type 1} → feed-statement.statement M
 feed-is-proved = feed-met.met
 
-pub feed-asks : (κs : _) (a : _) → feed.Pre κs a ≡ Stands (a .0) (now (a .1 .1 .0)) (now (a .1 .1 .1 .0))
+pub feed-asks : (κs : _) (a : _) → feed.Pre κs a ≡ Stands (a .0) (now (a .1 .1 .0)) (now (a .1 .1 .1 .0)) (now (a .1 .1 .1 .1 .0)) (now (a .1 .1 .1 .1 .1 .0))
 feed-asks κs a = refl
 
 pub feed-says : (κs : _) (a : _) (r : Fed) (s : _) → feed.Post κs a r s
-    ≡ Feeds (a .0) (now (a .1 .0)) (now (a .1 .1 .0)) (now (a .1 .1 .1 .0)) (now (a .1 .1 .1 .1 .0)) r
-    (now (s .1 .1 .0)) (now (s .1 .1 .1 .0)) (now (s .1 .1 .1 .1 .0))
+    ≡ Feeds (bookOn (a .0) (now (a .1 .1 .0)) (now (a .1 .1 .1 .0)) (now (a .1 .1 .1 .1 .0)) (now (a .1 .1 .1 .1 .1 .0))) (now (a .1 .0)) (now (a .1 .1 .1 .1 .1 .1 .1 .0)) r
+    (now (s .1 .1 .0)) (now (s .1 .1 .1 .0)) (now (s .1 .1 .1 .1 .0)) (now (s .1 .1 .1 .1 .1 .0)) (now (s .1 .1 .1 .1 .1 .1 .1 .0))
 feed-says κs a r s = refl
 
--- `night::take_turn(h, input, have, buys, sells, out)`: all that the program does between a read and a write
+-- `night::take_turn(h, input, have, x, buys, y, sells, took, out)`: all that the program does between a read and a write
 pub turn-is-proved : {M : Type 1} → turn-statement.statement M
 turn-is-proved = turn-met.met
 
-pub turn-asks : (κs : _) (a : _) → turn.Pre κs a ≡ (Stands (a .0) (now (a .1 .1 .1 .0)) (now (a .1 .1 .1 .1 .0)) × (a .1 .1 .0 ≤ length (now (a .1 .0)))
-    × (leastRoom ≤ length (now (a .1 .1 .1 .1 .1 .0))))
+pub turn-asks : (κs : _) (a : _) → turn.Pre κs a ≡ (Stands (a .0) (now (a .1 .1 .1 .0)) (now (a .1 .1 .1 .1 .0)) (now (a .1 .1 .1 .1 .1 .0)) (now (a .1 .1 .1 .1 .1 .1 .0))
+    × (a .1 .1 .0 ≤ length (now (a .1 .0))) × (leastRoom ≤ length (now (a .1 .1 .1 .1 .1 .1 .1 .1 .0))))
 turn-asks κs a = refl
 
 pub turn-says : (κs : _) (a : _) (r : Turn) (s : _) → turn.Post κs a r s
-    ≡ Takes (a .0) (now (a .1 .0)) (a .1 .1 .0) (now (a .1 .1 .1 .0)) (now (a .1 .1 .1 .1 .0)) (now (a .1 .1 .1 .1 .1 .0)) r
-    (now (s .1 .0)) (now (s .1 .1 .1 .0)) (now (s .1 .1 .1 .1 .0)) (now (s .1 .1 .1 .1 .1 .0))
+    ≡ Takes (bookOn (a .0) (now (a .1 .1 .1 .0)) (now (a .1 .1 .1 .1 .0)) (now (a .1 .1 .1 .1 .1 .0)) (now (a .1 .1 .1 .1 .1 .1 .0))) (now (a .1 .0)) (a .1 .1 .0) (now (a .1 .1 .1 .1 .1 .1 .1 .1 .0)) r
+    (now (s .1 .0)) (now (s .1 .1 .1 .0)) (now (s .1 .1 .1 .1 .0)) (now (s .1 .1 .1 .1 .1 .0)) (now (s .1 .1 .1 .1 .1 .1 .0)) (now (s .1 .1 .1 .1 .1 .1 .1 .1 .0))
 turn-says κs a r s = refl
 
 -- `lines::after_read(got, have, room)`: what a read gave

@@ -24,6 +24,7 @@ use Rattle.rules.specs.declared.Reading.the-variants as reading
 use Rattle.rules.specs.declared.Resting.{Resting}
 use Rattle.rules.specs.Book.{Book, BookRecord, fresh, sound, bookIn, recordOf, recordSound}
 use Rattle.rules.specs.CommandLines.{commandIn, lineOf, Fits}
+use Rattle.rules.specs.Commands.{does}
 use Rattle.rules.specs.Day.{printed, bookAfter, printedOf, output}
 use Rattle.rules.specs.EventLines.{FitsEvent, eventLine, eventLines, refusalLine}
 use Rattle.rules.specs.EventReading.{eventIn}
@@ -31,7 +32,6 @@ use Rattle.rules.specs.Examples.{DeskExamples, QuoteExamples}
 use Rattle.rules.specs.Instructions.{has, postOnly}
 use Rattle.rules.specs.Refusals.{leastRoom}
 use Rattle.rules.specs.Step.{answerTo, step, stepOn}
-use Rattle.rules.specs.Working.{does}
 use Rattle.rules.proofs.Examples.{desk-examples, quote-examples}
 use Rattle.rules.proofs.LawsEventReading.{eventIn-eventLine, eventIn-is}
 use Rattle.rules.proofs.LawsLines.{commandIn-lineOf, commandIn-is, lineOf-once}
@@ -55,7 +55,7 @@ use Rattle.demands.proofs.LawsWritten as written
 use Rattle.lines.specs.Pieces.{allOf}
 use Rattle.night.specs.Turns.{Runs, Ran, Stops, Begins}
 use Rattle.night.proofs.LawsTurns as turns
-use Rattle.rows.specs.Table.{tableOf}
+use Rattle.rows.specs.Table.{Shows}
 use Rattle.tables.specs.Tables.{bookOn, headOf}
 use Rattle.tally.specs.declared.Stop.the-variants.{Going}
 use Rattle.tally.specs.Tally.{tallyOf, tallyOfPieces}
@@ -375,7 +375,8 @@ pub the-program-stops : (room : ℕ) (pieces : List (List ℕ)) (written : List 
     → Begins written (output (allOf pieces))
 the-program-stops = turns.stops-output
 
--- what one turn leaves the next one finds: the book in its header and tables, and the bytes that wait at the front of the input
-pub a-turn-hands-on : (b : Book) (waits input : List ℕ)
-    → (bookOn (headOf b) (tableOf (b .buys)) (tableOf (b .sells)) ≡ b) × (take (length waits) (onto waits input) ≡ waits)
+-- what one turn leaves the next one finds: the book in its header and the two sides that are lent, and the bytes that wait at the front of the
+-- input
+pub a-turn-hands-on : (b : Book) (waits input x : List ℕ) (t : List (List ℕ)) (y : List ℕ) (u : List (List ℕ)) → Shows (b .buys) x t → Shows (b .sells) y u
+    → (bookOn (headOf b) x t y u ≡ b) × (take (length waits) (onto waits input) ≡ waits)
 a-turn-hands-on = turns.hands-on

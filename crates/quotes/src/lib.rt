@@ -1,18 +1,14 @@
-// A quote on a sound book that stands in a header and two lent tables: the away prices are kept, and the orders that would now cross
+// A quote on a sound book that stands in a header and two sides that are lent: the away prices are kept, and the orders that would now cross
 // them are moved or cancelled (02, W2), buys first.
 use kinds::Number;
-use rows::PLACES;
-use rows::WORDS;
+use rows::Index;
+use rows::Rows;
 use rules::Away;
 use rules::Held;
 use tables::Head;
 use tables::Step;
-ghost use mathlib.Core.Path.{_≡_};
 ghost use Prim.Native.Nat.{_≤_, _<_};
 ghost use lib.ListN.{length};
-ghost use Rattle.basics.specs.Bytes.{onto};
-ghost use Rattle.rows.specs.Table.{tableOf};
-ghost use Rattle.rules.specs.EventLines.{eventLines};
 ghost use Rattle.rules.specs.Refusals.{leastRoom};
 ghost use Rattle.rules.specs.declared.Body.the-variants as body;
 ghost use Rattle.tables.specs.Answers.{bodyAnswer, Left, Stands};
@@ -26,22 +22,25 @@ pub fn quote(
     number: Number,
     time: u32,
     away: Away,
-    buys: &mut [[u32; WORDS]; PLACES],
-    sells: &mut [[u32; WORDS]; PLACES],
+    x: &mut Index,
+    buys: &mut Rows,
+    y: &mut Index,
+    sells: &mut Rows,
     out: &mut [u8],
 ) -> Step
-    requires { ⌜ Stands h (now buys) (now sells) × (leastRoom ≤ length (now out)) × (h .held .last .0 < number .0) ⌝ }
-    ensures { λ r. ⌜ Left r (now (buys .exit)) (now (sells .exit)) (now (out .exit)) (now (out .entry))
-        (bodyAnswer number time (body.Quote away) (bookOn h (now (buys .entry)) (now (sells .entry)))) ⌝ }
+    requires { ⌜ Stands h (now x) (now buys) (now y) (now sells) × (leastRoom ≤ length (now out)) × (h .held .last .0 < number .0) ⌝ }
+    ensures { λ r. ⌜ Left r (now (x .exit)) (now (buys .exit)) (now (y .exit)) (now (sells .exit)) (now (out .exit)) (now (out .entry))
+        (bodyAnswer number time (body.Quote away) (bookOn h (now (x .entry)) (now (buys .entry)) (now (y .entry)) (now (sells .entry)))) ⌝ }
 {
     let bid = away.bid;
     let offer = away.offer;
     if !(judge::away_in_range(bid) & judge::away_in_range(offer)) {
         return tables::refuse(h, 9);
     }
-    let bought = moves::move_side(buys, h.buys, true, away, number, FIRST_MOVE, out);
+    let bought = moves::move_side(x, buys, h.buys, true, away, number, FIRST_MOVE, out);
     let len = bought.length;
     let sold = moves::move_side(
+        y,
         sells,
         h.sells,
         false,

@@ -1,7 +1,6 @@
 -- One line after the other: what is worked so far and what is worked of the rest are together what is worked of the whole input.
 -- Assumes nothing.
 use Prim.Native.Nat.{ℕ, suc, _+_, _-_, _≤_, _<_}
-use mathlib.Core.Bool.{true}
 use mathlib.Core.List.{List, [], _∷_, _++_, append-assoc, append-nil}
 use mathlib.Core.Path.{_≡_, refl, sym, ap, _∙_}
 use lib.ListN.{length, take, drop, length-append, length-drop}
@@ -15,34 +14,20 @@ use Rattle.lines.specs.declared.Line.{Line}
 use Rattle.lines.specs.Lines.{isLineFeed, firstLine}
 use Rattle.lines.specs.Pieces.{Cut, cut}
 use Rattle.lines.proofs.LawsCut.{cut-line, cut-none}
-use Rattle.rows.specs.Table.{tableOf}
-use Rattle.rows.proofs.LawsTable.{length-side, side-tableOf, holds-tableOf}
-use Rattle.rules.specs.Book.{Book, sound}
+use Rattle.rows.specs.Table.{Shows}
+use Rattle.rows.proofs.LawsSides.{length-side, holds-shows}
+use Rattle.rules.specs.Book.{Book}
 use Rattle.rules.specs.CommandLines.{commandIn}
 use Rattle.rules.specs.Day.{printed}
 use Rattle.rules.specs.Refusals.{leastRoom}
 use Rattle.rules.specs.Step.{Answer, answerTo}
 use Rattle.soundness.proofs.LawsKept.{answer-sound}
-use Rattle.soundness.proofs.LawsSound.{sound-is}
 use Rattle.tables.specs.declared.Head.{Head}
 use Rattle.tables.specs.Answers.{Stands}
 use Rattle.tables.specs.Tables.{bookOn, headOf}
+use Rattle.tables.proofs.LawsAnswers.{book-back, stands-back}
 use Rattle.replay.specs.declared.Fed.{Fed}
 use Rattle.replay.specs.Feed.{answerFor, Worked, nothingOf, behind, worked, fedBy}
-
--- ── A sound book in its header and tables ──
-
-pub book-back : (b : Book) → bookOn (headOf b) (tableOf (b .buys)) (tableOf (b .sells)) ≡ b
-book-back b = rw (side-tableOf (b .buys), side-tableOf (b .sells))
-
-pub stands-back : (b : Book) → sound b ≡ true → Stands (headOf b) (tableOf (b .buys)) (tableOf (b .sells))
-stands-back b s =
-    let facts = sound-is b s in
-    record {
-      buys = holds-tableOf (b .buys) (facts .buysFit);
-      sells = holds-tableOf (b .sells) (facts .sellsFit);
-      isSound = ap sound (book-back b) ∙ s;
-    }
 
 -- ── The lines worked so far ──
 
@@ -53,16 +38,16 @@ fed h at len = record { head = h; at = at; length = len }
 abbrev pub ahead : List ℕ → ℕ → Worked → Worked
 ahead lines k w = record { book = w .book; length = k + w .length; printed = lines ++ w .printed }
 
-pub record Feeding (input out₀ : List ℕ) (b₀ : Book) (t u : List (List ℕ)) (out : List ℕ) (h : Head) (at len : ℕ) : Type 0 where
-  pub stands : Stands h t u
+pub record Feeding (input out₀ : List ℕ) (b₀ : Book) (x : List ℕ) (t : List (List ℕ)) (y : List ℕ) (u : List (List ℕ)) (out : List ℕ) (h : Head) (at len : ℕ) : Type 0 where
+  pub stands : Stands h x t y u
   pub within : at ≤ length input
   pub fits : len ≤ length out₀
   pub long : length out ≡ length out₀
   pub written : out ≡ onto (take len out) out₀
-  pub goesOn : worked (length out₀) b₀ (cut input .whole) ≡ ahead (take len out) at (worked (length out₀ - len) (bookOn h t u) (cut (drop at input) .whole))
+  pub goesOn : worked (length out₀) b₀ (cut input .whole) ≡ ahead (take len out) at (worked (length out₀ - len) (bookOn h x t y u) (cut (drop at input) .whole))
 
-pub feeding-start : (input out : List ℕ) (h : Head) (t u : List (List ℕ)) → Stands h t u → Feeding input out (bookOn h t u) t u out h 0 0
-feeding-start input out h t u s = record {
+pub feeding-start : (input out : List ℕ) (h : Head) (x : List ℕ) (t : List (List ℕ)) (y : List ℕ) (u : List (List ℕ)) → Stands h x t y u → Feeding input out (bookOn h x t y u) x t y u out h 0 0
+feeding-start input out h x t y u s = record {
   stands = s;
   within = omega arith;
   fits = omega arith;
@@ -70,18 +55,18 @@ feeding-start input out h t u s = record {
   written = onto-none out;
   goesOn =
       let all : length out - 0 ≡ length out = omega arith in
-      let none : 0 + worked (length out) (bookOn h t u) (cut input .whole) .length ≡ worked (length out) (bookOn h t u) (cut input .whole) .length = omega arith in
+      let none : 0 + worked (length out) (bookOn h x t y u) (cut input .whole) .length ≡ worked (length out) (bookOn h x t y u) (cut input .whole) .length = omega arith in
       rw (all, none);
 }
 
 -- ── The end ──
 
-module _ (input out₀ : List ℕ) (b₀ : Book) (t u : List (List ℕ)) (out : List ℕ) (h : Head) (at len : ℕ) (f : Feeding input out₀ b₀ t u out h at len) where
+module _ (input out₀ : List ℕ) (b₀ : Book) (x : List ℕ) (t : List (List ℕ)) (y : List ℕ) (u : List (List ℕ)) (out : List ℕ) (h : Head) (at len : ℕ) (f : Feeding input out₀ b₀ x t y u out h at len) where
   -- nothing more is worked
   abbrev pub Ends : Type 0
-  Ends = worked (length out₀) b₀ (cut input .whole) ≡ record { book = bookOn h t u; length = at; printed = take len out }
+  Ends = worked (length out₀) b₀ (cut input .whole) ≡ record { book = bookOn h x t y u; length = at; printed = take len out }
 
-  ends : worked (length out₀ - len) (bookOn h t u) (cut (drop at input) .whole) ≡ nothingOf (bookOn h t u) → Ends
+  ends : worked (length out₀ - len) (bookOn h x t y u) (cut (drop at input) .whole) ≡ nothingOf (bookOn h x t y u) → Ends
   ends e =
       let z : at + 0 ≡ at = omega arith in
       f .goesOn ∙ ap (ahead (take len out) at) e ∙ rw (z, append-nil (take len out))
@@ -92,7 +77,7 @@ module _ (input out₀ : List ℕ) (b₀ : Book) (t u : List (List ℕ)) (out : 
   no-room (x ∷ s) room b l = rw (lt-ltb room leastRoom l)
 
   pub ends-full : length out - len < leastRoom → Ends
-  ends-full l = ends (no-room (cut (drop at input) .whole) (length out₀ - len) (bookOn h t u) (omega (arith, f .long)))
+  ends-full l = ends (no-room (cut (drop at input) .whole) (length out₀ - len) (bookOn h x t y u) (omega (arith, f .long)))
 
   ends-empty : length input ≤ at + firstWhere isLineFeed (drop at input) → Ends
   unfolding worked
@@ -109,17 +94,17 @@ module _ (input out₀ : List ℕ) (b₀ : Book) (t u : List (List ℕ)) (out : 
       let d : l .digits ≡ firstWhere isLineFeed (drop at input) = ap (λ (x : Line). x .digits) found ∙ rw rest-is in
       ends-empty (omega (arith, d, none, f .within))
 
-  -- so the header, the tables and the output are those of all that is worked
+  -- so the header, the sides and the output are those of all that is worked
   pub left-end : Ends
       → (record { head = h; at = at; length = len } ≡ fedBy (worked (length out₀) b₀ (cut input .whole)))
-      × ((t ≡ tableOf (worked (length out₀) b₀ (cut input .whole) .book .buys))
-      × ((u ≡ tableOf (worked (length out₀) b₀ (cut input .whole) .book .sells))
+      × (Shows (worked (length out₀) b₀ (cut input .whole) .book .buys) x t
+      × (Shows (worked (length out₀) b₀ (cut input .whole) .book .sells) y u
       × (out ≡ onto (worked (length out₀) b₀ (cut input .whole) .printed) out₀)))
   left-end e =
       let s = f .stands in
-      let head : headOf (bookOn h t u) ≡ h = rw (length-side (h .buys) t (s .buys), length-side (h .sells) u (s .sells)) in
+      let head : headOf (bookOn h x t y u) ≡ h = rw (length-side (h .buys) x t, length-side (h .sells) y u) in
       let long : length (take len out) ≡ len = length-take-le len out (omega (arith, f .fits, f .long)) in
-      rw e (fed-is (sym head) (sym long), (s .buys .table, (s .sells .table, f .written)))
+      rw e (fed-is (sym head) (sym long), (holds-shows (h .buys) x t (s .buys), (holds-shows (h .sells) y u (s .sells), f .written)))
     where
       fed-is : {h h′ : Head} {len len′ : ℕ} → h ≡ h′ → len ≡ len′ → fed h at len ≡ fed h′ at len′
       fed-is p q = rw (p, q)
@@ -129,7 +114,7 @@ module _ (input out₀ : List ℕ) (b₀ : Book) (t u : List (List ℕ)) (out : 
   module _ (room : leastRoom ≤ length out - len) (e : ℕ) (found : e ≡ at + firstWhere isLineFeed (drop at input)) (isLine : e < length input)
       (line : List ℕ) (lineIs : line ≡ take (e + 1 - at) (drop at input)) where
     abbrev pub it : Answer
-    it = answerTo (bookOn h t u) line
+    it = answerTo (bookOn h x t y u) line
 
     -- the line, and what is cut behind it
     first-line : cut (drop at input) .whole ≡ line ∷ cut (drop (e + 1) input) .whole
@@ -148,14 +133,15 @@ module _ (input out₀ : List ℕ) (b₀ : Book) (t u : List (List ℕ)) (out : 
         let n : length line ≡ e + 1 - at = ap length lineIs ∙ m in
         omega (arith, found, n)
 
-    worked-line : worked (length out₀ - len) (bookOn h t u) (cut (drop at input) .whole)
+    worked-line : worked (length out₀ - len) (bookOn h x t y u) (cut (drop at input) .whole)
         ≡ behind line (printed it) (worked (length out₀ - len - length (printed it)) (it .book) (cut (drop (e + 1) input) .whole))
     unfolding worked
     worked-line = rw (first-line, le-ltb (length out₀ - len) leastRoom (omega (arith, room, f .long)))
 
-    -- what printing the line leaves: the header, both tables, and the part of the output that was lent
-    module _ (h′ : Head) (t′ u′ : List (List ℕ)) (n : ℕ) (part : List ℕ) (headIs : h′ ≡ headOf (it .book)) (lengthIs : n ≡ length (printed it))
-        (buysIs : t′ ≡ tableOf (it .book .buys)) (sellsIs : u′ ≡ tableOf (it .book .sells))
+    -- what printing the line leaves: the header, both sides, and the part of the output that was lent
+    module _ (h′ : Head) (x′ : List ℕ) (t′ : List (List ℕ)) (y′ : List ℕ) (u′ : List (List ℕ)) (n : ℕ) (part : List ℕ)
+        (headIs : h′ ≡ headOf (it .book)) (lengthIs : n ≡ length (printed it))
+        (buysIs : Shows (it .book .buys) x′ t′) (sellsIs : Shows (it .book .sells) y′ u′)
         (partIs : part ≡ onto (printed it) (take (length out - len) (drop len out))) where
       abbrev pub next : List ℕ
       next = take len out ++ (part ++ drop (length out - len) (drop len out))
@@ -183,21 +169,21 @@ module _ (input out₀ : List ℕ) (b₀ : Book) (t u : List (List ℕ)) (out : 
             ap (take (len + n)) next-is
             ∙ take-at (take len out ++ printed it) (drop (length (take len out ++ printed it)) out₀) (len + n) lines-long
 
-        book-next : bookOn h′ t′ u′ ≡ it .book
-        book-next = rw (headIs, buysIs, sellsIs) (book-back (it .book))
+        book-next : bookOn h′ x′ t′ y′ u′ ≡ it .book
+        book-next = rw headIs (book-back (it .book) x′ t′ y′ u′ buysIs sellsIs)
 
         rest-same : worked (length out₀ - len - length (printed it)) (it .book) (cut (drop (e + 1) input) .whole)
-            ≡ worked (length out₀ - (len + n)) (bookOn h′ t′ u′) (cut (drop (e + 1) input) .whole)
+            ≡ worked (length out₀ - (len + n)) (bookOn h′ x′ t′ y′ u′) (cut (drop (e + 1) input) .whole)
         rest-same =
             let k : length out₀ - len - length (printed it) ≡ length out₀ - (len + n) = omega (arith, lengthIs) in
             rw (k, book-next)
 
-        pub feeding-turn : Feeding input out₀ b₀ t′ u′ next h′ (e + 1) (len + n)
+        pub feeding-turn : Feeding input out₀ b₀ x′ t′ y′ u′ next h′ (e + 1) (len + n)
         feeding-turn =
-            let w = worked (length out₀ - (len + n)) (bookOn h′ t′ u′) (cut (drop (e + 1) input) .whole) in
+            let w = worked (length out₀ - (len + n)) (bookOn h′ x′ t′ y′ u′) (cut (drop (e + 1) input) .whole) in
             let lengths : at + (length line + w .length) ≡ e + 1 + w .length = omega (arith, line-long) in
             record {
-              stands = rw (headIs, buysIs, sellsIs) (stands-back (it .book) (answer-sound (bookOn h t u) line (f .stands .isSound)));
+              stands = rw headIs (stands-back (it .book) x′ t′ y′ u′ buysIs sellsIs (answer-sound (bookOn h x t y u) line (f .stands .isSound)));
               within = omega (arith, isLine);
               fits = lines-fit;
               long = same ∙ f .long;
@@ -217,7 +203,7 @@ module _ (input out₀ : List ℕ) (b₀ : Book) (t u : List (List ℕ)) (out : 
     place-is : at + l .digits ≡ at + firstWhere isLineFeed (drop at input)
     place-is = ap (λ (x : Line). at + x .digits) found ∙ rw rest-is
 
-    line-read : answerFor (bookOn h t u) (l .reading) ≡ answerTo (bookOn h t u) (take (at + l .digits + 1 - at) (drop at input))
+    line-read : answerFor (bookOn h x t y u) (l .reading) ≡ answerTo (bookOn h x t y u) (take (at + l .digits + 1 - at) (drop at input))
     unfolding answerTo
     line-read =
         let k : at + l .digits + 1 - at ≡ suc (l .digits) = omega arith in
@@ -226,14 +212,14 @@ module _ (input out₀ : List ℕ) (b₀ : Book) (t u : List (List ℕ)) (out : 
         ap (λ (x : Line). x .reading) found ∙ rw rest-is in
         rw (k, r, d)
 
-    pub feeding-line : (h′ : Head) (t′ u′ : List (List ℕ)) (n : ℕ) (part : List ℕ)
-        → h′ ≡ headOf (answerFor (bookOn h t u) (l .reading) .book) → n ≡ length (printed (answerFor (bookOn h t u) (l .reading)))
-        → t′ ≡ tableOf (answerFor (bookOn h t u) (l .reading) .book .buys) → u′ ≡ tableOf (answerFor (bookOn h t u) (l .reading) .book .sells)
-        → part ≡ onto (printed (answerFor (bookOn h t u) (l .reading))) (take (length out - len) (drop len out))
+    pub feeding-line : (h′ : Head) (x′ : List ℕ) (t′ : List (List ℕ)) (y′ : List ℕ) (u′ : List (List ℕ)) (n : ℕ) (part : List ℕ)
+        → h′ ≡ headOf (answerFor (bookOn h x t y u) (l .reading) .book) → n ≡ length (printed (answerFor (bookOn h x t y u) (l .reading)))
+        → Shows (answerFor (bookOn h x t y u) (l .reading) .book .buys) x′ t′ → Shows (answerFor (bookOn h x t y u) (l .reading) .book .sells) y′ u′
+        → part ≡ onto (printed (answerFor (bookOn h x t y u) (l .reading))) (take (length out - len) (drop len out))
         → length (take len out ++ (part ++ drop (length out - len) (drop len out))) ≡ length out
-        → Feeding input out₀ b₀ t′ u′ (take len out ++ (part ++ drop (length out - len) (drop len out))) h′ (at + (l .digits + 1)) (len + n)
-    feeding-line h′ t′ u′ n part headIs lengthIs buysIs sellsIs partIs same =
+        → Feeding input out₀ b₀ x′ t′ y′ u′ (take len out ++ (part ++ drop (length out - len) (drop len out))) h′ (at + (l .digits + 1)) (len + n)
+    feeding-line h′ x′ t′ y′ u′ n part headIs lengthIs buysIs sellsIs partIs same =
         let next-at : at + (l .digits + 1) ≡ at + l .digits + 1 = omega arith in
         rw next-at
-        (feeding-turn room (at + l .digits) place-is (omega (arith, isLine)) (take (at + l .digits + 1 - at) (drop at input)) refl h′ t′ u′ n part
+        (feeding-turn room (at + l .digits) place-is (omega (arith, isLine)) (take (at + l .digits + 1 - at) (drop at input)) refl h′ x′ t′ y′ u′ n part
         (rw line-read at headIs) (rw line-read at lengthIs) (rw line-read at buysIs) (rw line-read at sellsIs) (rw line-read at partIs) same)

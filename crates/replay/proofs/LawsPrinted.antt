@@ -3,13 +3,14 @@
 use Prim.Native.Nat.{ℕ}
 use mathlib.Core.List.{List}
 use mathlib.Core.Logic.{_≢_}
-use mathlib.Core.Path.{_≡_, sym, ap, _∙_}
+use mathlib.Core.Path.{_≡_, sym, ap, subst, _∙_}
 use lib.ListN.{length}
 use native.Mathlib.Omega.{arith}
 use borrow.Author.Tests.{ne-eqb}
 use Rattle.basics.specs.Bytes.{onto}
 use Rattle.basics.proofs.LawsBytes.{onto-none}
-use Rattle.rows.specs.Table.{tableOf}
+use Rattle.rows.specs.Table.{Shows}
+use Rattle.rows.proofs.LawsSides.{holds-shows}
 use Rattle.rules.specs.declared.Command.{Command}
 use Rattle.rules.specs.declared.Reading.{Reading}
 use Rattle.rules.specs.declared.Reading.the-variants as reading
@@ -46,54 +47,54 @@ refused-as c b e = rw (ne-eqb _ 0 e)
 -- ── What is printed of it ──
 
 -- an answer stands, and its lines are printed, in what a line leaves
-abbrev pub Shown : Printed → List (List ℕ) → List (List ℕ) → List ℕ → List ℕ → Answer → Type 0
-Shown r t u out′ out a =
-    (r ≡ printedStep a) × ((t ≡ tableOf (a .book .buys)) × ((u ≡ tableOf (a .book .sells)) × (out′ ≡ onto (printed a) out)))
+abbrev pub Shown : Printed → List ℕ → List (List ℕ) → List ℕ → List (List ℕ) → List ℕ → List ℕ → Answer → Type 0
+Shown r x t y u out′ out a =
+    (r ≡ printedStep a) × (Shows (a .book .buys) x t × (Shows (a .book .sells) y u × (out′ ≡ onto (printed a) out)))
 
 abbrev leaving : Head → ℕ → Printed
 leaving h n = record { head = h; length = n }
 
-module _ (h : Head) (t u : List (List ℕ)) (stands : Stands h t u) (r : Reading) (out : List ℕ) where
-  shown-refused : (k n : ℕ) (t′ u′ : List (List ℕ)) (out′ : List ℕ) (a : Answer) → a ≡ refusedWith k (bookOn h t u) → k ≢ 0 → n ≡ 5
-      → t′ ≡ tableOf (bookOn h t u .buys) → u′ ≡ tableOf (bookOn h t u .sells) → out′ ≡ onto (refusalLine k) out
-      → Shown (leaving h n) t′ u′ out′ out a
+module _ (h : Head) (x : List ℕ) (t : List (List ℕ)) (y : List ℕ) (u : List (List ℕ)) (stands : Stands h x t y u) (r : Reading) (out : List ℕ) where
+  shown-refused : (k n : ℕ) (x′ : List ℕ) (t′ : List (List ℕ)) (y′ : List ℕ) (u′ : List (List ℕ)) (out′ : List ℕ) (a : Answer) → a ≡ refusedWith k (bookOn h x t y u) → k ≢ 0 → n ≡ 5
+      → Shows (bookOn h x t y u .buys) x′ t′ → Shows (bookOn h x t y u .sells) y′ u′ → out′ ≡ onto (refusalLine k) out
+      → Shown (leaving h n) x′ t′ y′ u′ out′ out a
   unfolding printed
-  shown-refused k n t′ u′ out′ a e some five buys sells wrote =
+  shown-refused k n x′ t′ y′ u′ out′ a e some five buys sells wrote =
       rw (e, ne-eqb k 0 some, refusal-length k, five)
-      (ap (λ (x : Head). leaving x 5) (head-same h t u stands), (buys, (sells, wrote)))
+      (ap (λ (g : Head). leaving g 5) (head-same h x t y u), (buys, (sells, wrote)))
 
   -- refusal 3
   pub shown-bad : r ≡ reading.Bad → (n : ℕ) (out′ : List ℕ) → n ≡ 5 → out′ ≡ onto (refusalLine 3) out
-      → Shown (leaving h n) t u out′ out (answerFor (bookOn h t u) r)
+      → Shown (leaving h n) x t y u out′ out (answerFor (bookOn h x t y u) r)
   shown-bad bad n out′ five wrote =
-      shown-refused 3 n t u out′ _ (answer-bad (bookOn h t u) r bad) (λ z. omega arith) five (stands .buys .table) (stands .sells .table) wrote
+      shown-refused 3 n x t y u out′ _ (answer-bad (bookOn h x t y u) r bad) (λ z. omega arith) five (holds-shows (h .buys) x t (stands .buys)) (holds-shows (h .sells) y u (stands .sells)) wrote
 
   -- a command, after its step
-  module _ (c : Command) (is : r ≡ reading.Is c) (s : Step) (t′ u′ : List (List ℕ)) (out′ : List ℕ)
-      (stepped : Left s t′ u′ out′ out (answerOf c (bookOn h t u))) where
+  module _ (c : Command) (is : r ≡ reading.Is c) (s : Step) (x′ : List ℕ) (t′ : List (List ℕ)) (y′ : List ℕ) (u′ : List (List ℕ)) (out′ : List ℕ)
+      (stepped : Left s x′ t′ y′ u′ out′ out (answerOf c (bookOn h x t y u))) where
     it : Answer
-    it = answerOf c (bookOn h t u)
+    it = answerOf c (bookOn h x t y u)
 
     refusal-is : s .refusal ≡ it .refusal
     unfolding it
     refusal-is = ap (λ (x : Step). x .refusal) (stepped .0)
 
     pub shown-refusal : s .refusal ≢ 0 → (n : ℕ) (out″ : List ℕ) → n ≡ 5 → out″ ≡ onto (refusalLine (s .refusal)) out′
-        → Shown (leaving h n) t′ u′ out″ out (answerFor (bookOn h t u) r)
+        → Shown (leaving h n) x′ t′ y′ u′ out″ out (answerFor (bookOn h x t y u) r)
     unfolding it eventLines
     shown-refusal some n out″ five wrote =
         let some′ : it .refusal ≢ 0 = λ z. some (refusal-is ∙ z) in
-        let e : it ≡ refusedWith (it .refusal) (bookOn h t u) = refused-as c (bookOn h t u) some′ in
-        let e′ : it ≡ refusedWith (s .refusal) (bookOn h t u) = e ∙ ap (λ (k : ℕ). refusedWith k (bookOn h t u)) (sym refusal-is) in
+        let e : it ≡ refusedWith (it .refusal) (bookOn h x t y u) = refused-as c (bookOn h x t y u) some′ in
+        let e′ : it ≡ refusedWith (s .refusal) (bookOn h x t y u) = e ∙ ap (λ (k : ℕ). refusedWith k (bookOn h x t y u)) (sym refusal-is) in
         let same : out′ ≡ out = stepped .1 .1 .1 ∙ ap (λ (a : Answer). onto (eventLines (a .events)) out) e ∙ sym (onto-none out) in
-        shown-refused (s .refusal) n t′ u′ out″ _ (answer-command (bookOn h t u) r c is ∙ e′) some five
-        (stepped .1 .0 ∙ ap (λ (a : Answer). tableOf (a .book .buys)) e)
-        (stepped .1 .1 .0 ∙ ap (λ (a : Answer). tableOf (a .book .sells)) e)
+        shown-refused (s .refusal) n x′ t′ y′ u′ out″ _ (answer-command (bookOn h x t y u) r c is ∙ e′) some five
+        (subst (λ (a : Answer). Shows (a .book .buys) x′ t′) e (stepped .1 .0))
+        (subst (λ (a : Answer). Shows (a .book .sells) y′ u′) e (stepped .1 .1 .0))
         (wrote ∙ ap (onto (refusalLine (s .refusal))) same)
 
-    pub shown-done : s .refusal ≡ 0 → Shown (leaving (s .head) (s .length)) t′ u′ out′ out (answerFor (bookOn h t u) r)
+    pub shown-done : s .refusal ≡ 0 → Shown (leaving (s .head) (s .length)) x′ t′ y′ u′ out′ out (answerFor (bookOn h x t y u) r)
     unfolding it printed
     shown-done accepted =
         let zero : it .refusal ≡ 0 = sym refusal-is ∙ accepted in
-        rw (answer-command (bookOn h t u) r c is, zero)
+        rw (answer-command (bookOn h x t y u) r c is, zero)
         (ap (λ (x : Step). leaving (x .head) (x .length)) (stepped .0), stepped .1)

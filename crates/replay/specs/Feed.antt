@@ -8,15 +8,14 @@ use lib.ListN.{length}
 use Rattle.basics.specs.Bytes.{onto}
 use Rattle.basics.specs.Choice.{if_then_else_}
 use Rattle.lines.specs.Pieces.{cut}
-use Rattle.rows.specs.Table.{tableOf}
+use Rattle.rows.specs.Table.{Shows}
 use Rattle.rules.specs.declared.Reading.{Reading}
 use Rattle.rules.specs.Book.{Book}
 use Rattle.rules.specs.Day.{printed}
 use Rattle.rules.specs.Refusals.{leastRoom, refusals, firstOf}
 use Rattle.rules.specs.Step.{Answer, answer, answerTo}
-use Rattle.tables.specs.declared.Head.{Head}
 use Rattle.tables.specs.Answers.{Stands}
-use Rattle.tables.specs.Tables.{bookOn, headOf}
+use Rattle.tables.specs.Tables.{headOf}
 use Rattle.replay.specs.declared.Fed.{Fed}
 use Rattle.replay.specs.declared.Printed.{Printed}
 
@@ -50,15 +49,15 @@ printedStep a = record { head = headOf (a .book); length = length (printed a) }
 abbrev pub fedBy : Worked → Fed
 fedBy w = record { head = headOf (w .book); at = w .length; length = length (w .printed) }
 
--- what a line that reads so leaves of a sound book in a header and two tables, and of the output
-abbrev pub Prints : Head → Reading → List (List ℕ) → List (List ℕ) → List ℕ → Printed → List (List ℕ) → List (List ℕ) → List ℕ → Type 0
-Prints h reading buys sells out r buys′ sells′ out′ =
-    let a = answerFor (bookOn h buys sells) reading in
-    (r ≡ printedStep a) × ((buys′ ≡ tableOf (a .book .buys)) × ((sells′ ≡ tableOf (a .book .sells)) × (out′ ≡ onto (printed a) out)))
+-- what a line that reads so leaves of a sound book in a header and two sides that are lent, and of the output
+abbrev pub Prints : Book → Reading → List ℕ → Printed → List ℕ → List (List ℕ) → List ℕ → List (List ℕ) → List ℕ → Type 0
+Prints b reading out r x t y u out′ =
+    let a = answerFor b reading in
+    (r ≡ printedStep a) × (Shows (a .book .buys) x t × (Shows (a .book .sells) y u × (out′ ≡ onto (printed a) out)))
 
 -- what the whole lines of an input leave of it: the book is sound again, and so much of the input and of the output was used
-abbrev pub Feeds : Head → List ℕ → List (List ℕ) → List (List ℕ) → List ℕ → Fed → List (List ℕ) → List (List ℕ) → List ℕ → Type 0
-Feeds h input buys sells out r buys′ sells′ out′ =
-    let w = worked (length out) (bookOn h buys sells) (cut input .whole) in
-    (r ≡ fedBy w) × ((buys′ ≡ tableOf (w .book .buys)) × ((sells′ ≡ tableOf (w .book .sells)) × ((out′ ≡ onto (w .printed) out)
-    × (((r .at ≤ length input) × (r .length ≤ length out)) × Stands (r .head) buys′ sells′))))
+abbrev pub Feeds : Book → List ℕ → List ℕ → Fed → List ℕ → List (List ℕ) → List ℕ → List (List ℕ) → List ℕ → Type 0
+Feeds b input out r x t y u out′ =
+    let w = worked (length out) b (cut input .whole) in
+    (r ≡ fedBy w) × (Shows (w .book .buys) x t × (Shows (w .book .sells) y u × ((out′ ≡ onto (w .printed) out)
+    × (((r .at ≤ length input) × (r .length ≤ length out)) × Stands (r .head) x t y u))))

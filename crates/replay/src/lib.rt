@@ -1,20 +1,21 @@
 // A day's lines through the book, a piece of input at a time (01, Examples from the desk: the program). The book stands in a header
-// and two lent tables from the first line to the last: nothing of it is copied or tested between two lines.
+// and two sides that are lent from the first line to the last: nothing of it is copied or tested between two lines.
 use kinds::Cents;
 use kinds::Number;
-use rows::PLACES;
-use rows::WORDS;
+use rows::Index;
+use rows::Rows;
 use rules::Away;
 use rules::Held;
 use rules::Reading;
 use tables::Head;
+use walk::Takings;
 ghost use mathlib.Core.Path.{_≡_};
 ghost use Prim.Native.Nat.{_≤_};
 ghost use lib.ListN.{length};
 ghost use Rattle.rules.specs.Book.{fresh};
 ghost use Rattle.rules.specs.Refusals.{leastRoom};
 ghost use Rattle.tables.specs.Answers.{Stands};
-ghost use Rattle.tables.specs.Tables.{headOf};
+ghost use Rattle.tables.specs.Tables.{bookOn, headOf};
 ghost use Rattle.replay.specs.Feed.{Prints, Feeds};
 
 // What a line leaves: the header, and the length of what is printed of it.
@@ -57,13 +58,16 @@ pub fn begin() -> Head
 fn print_line(
     h: Head,
     reading: Reading,
-    buys: &mut [[u32; WORDS]; PLACES],
-    sells: &mut [[u32; WORDS]; PLACES],
+    x: &mut Index,
+    buys: &mut Rows,
+    y: &mut Index,
+    sells: &mut Rows,
+    took: &mut Takings,
     out: &mut [u8],
 ) -> Printed
-    requires { ⌜ Stands h (now buys) (now sells) × (leastRoom ≤ length (now out)) ⌝ }
-    ensures { λ r. ⌜ Prints h reading (now (buys .entry)) (now (sells .entry)) (now (out .entry)) r
-        (now (buys .exit)) (now (sells .exit)) (now (out .exit)) ⌝ }
+    requires { ⌜ Stands h (now x) (now buys) (now y) (now sells) × (leastRoom ≤ length (now out)) ⌝ }
+    ensures { λ r. ⌜ Prints (bookOn h (now (x .entry)) (now (buys .entry)) (now (y .entry)) (now (sells .entry))) reading (now (out .entry)) r
+        (now (x .exit)) (now (buys .exit)) (now (y .exit)) (now (sells .exit)) (now (out .exit)) ⌝ }
 {
     let Reading::Is(c) = reading else {
         let length = events::write_refusal(out, 3);
@@ -72,7 +76,7 @@ fn print_line(
             length: length,
         };
     };
-    let step = commands::apply(h, c, buys, sells, out);
+    let step = commands::apply(h, c, x, buys, y, sells, took, out);
     if step.refusal == 0 {
         let head = step.head;
         return Printed {
@@ -93,13 +97,16 @@ fn print_line(
 pub fn feed(
     h: Head,
     input: &[u8],
-    buys: &mut [[u32; WORDS]; PLACES],
-    sells: &mut [[u32; WORDS]; PLACES],
+    x: &mut Index,
+    buys: &mut Rows,
+    y: &mut Index,
+    sells: &mut Rows,
+    took: &mut Takings,
     out: &mut [u8],
 ) -> Fed
-    requires { ⌜ Stands h (now buys) (now sells) ⌝ }
-    ensures { λ r. ⌜ Feeds h (now (input .entry)) (now (buys .entry)) (now (sells .entry)) (now (out .entry)) r
-        (now (buys .exit)) (now (sells .exit)) (now (out .exit)) ⌝ }
+    requires { ⌜ Stands h (now x) (now buys) (now y) (now sells) ⌝ }
+    ensures { λ r. ⌜ Feeds (bookOn h (now (x .entry)) (now (buys .entry)) (now (y .entry)) (now (sells .entry))) (now (input .entry)) (now (out .entry)) r
+        (now (x .exit)) (now (buys .exit)) (now (y .exit)) (now (sells .exit)) (now (out .exit)) ⌝ }
 {
     let mut head = h;
     let mut at = 0;
@@ -113,7 +120,7 @@ pub fn feed(
             break;
         }
         let reading = line.reading;
-        let p = print_line(head, reading, buys, sells, &mut out[length..]);
+        let p = print_line(head, reading, x, buys, y, sells, took, &mut out[length..]);
         head = p.head;
         length += p.length;
         at += line.digits + 1;

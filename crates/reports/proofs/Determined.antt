@@ -3,11 +3,13 @@
 use mathlib.Core.Path.{_≡_, sym, _∙_}
 use denote.Ref.{now}
 use Prim.Native.Nat.{ℕ}
-use Rattle.reports.proofs.report_whole.Reads as report-whole
+use Rattle.reports.proofs.report.Reads as report
 use Rattle.reports.proofs.report_cancelled.Reads as report-cancelled
 
-pub report-whole-determined : (κs : _) (a : _) (r r′ : ℕ) (s s′ : _) → report-whole.Post κs a r s → report-whole.Post κs a r′ s′ → (r ≡ r′) × (now (s .1 .1 .1 .1 .0) ≡ now (s′ .1 .1 .1 .1 .0))
-report-whole-determined κs a r r′ s s′ p q = (p .0 ∙ sym (q .0), p .1 ∙ sym (q .1))
+pub report-determined : (κs : _) (a : _) (r r′ : ℕ) (s s′ : _) → report.Post κs a r s → report.Post κs a r′ s′
+    → (r ≡ r′) × (now (s .1 .1 .1 .1 .1 .1 .0) ≡ now (s′ .1 .1 .1 .1 .1 .1 .0))
+report-determined κs a r r′ s s′ p q = (p .0 ∙ sym (q .0), p .1 ∙ sym (q .1))
 
-pub report-cancelled-determined : (κs : _) (a : _) (r r′ : ℕ) (s s′ : _) → report-cancelled.Post κs a r s → report-cancelled.Post κs a r′ s′ → (r ≡ r′) × (now (s .1 .1 .1 .0) ≡ now (s′ .1 .1 .1 .0))
+pub report-cancelled-determined : (κs : _) (a : _) (r r′ : ℕ) (s s′ : _) → report-cancelled.Post κs a r s → report-cancelled.Post κs a r′ s′
+    → (r ≡ r′) × (now (s .1 .1 .1 .1 .0) ≡ now (s′ .1 .1 .1 .1 .0))
 report-cancelled-determined κs a r r′ s s′ p q = (p .0 ∙ sym (q .0), p .1 ∙ sym (q .1))

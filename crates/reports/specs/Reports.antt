@@ -1,12 +1,17 @@
--- The events of orders of a side that give all their shares to an incoming order, or are cancelled for one reason.
+-- The events of the takings of a walk, and of orders that are cancelled for one reason.
 use Prim.Native.Nat.{ℕ}
+use mathlib.Core.List.{List}
+use lib.ListN.{getD}
 use Rattle.kinds.specs.declared.Number.{Number}
 use Rattle.rules.specs.declared.Event.{Event}
 use Rattle.rules.specs.declared.Event.the-variants.{Executed, Cancelled}
 use Rattle.rules.specs.declared.Resting.{Resting}
+use Rattle.rules.specs.Book.{unused}
+use Rattle.walk.specs.declared.Taking.{Taking}
 
-abbrev pub takenWhole : Number → Resting → Event
-takenWhole n h = Executed n (h .number) (h .price) (h .shares)
+-- an execution against the order at the taking's rank, at the taking's price
+abbrev pub executedBy : Number → List Resting → Taking → Event
+executedBy n s k = Executed n (getD s (k .place) unused .number) (k .price) (k .shares)
 
 abbrev pub cancelledFor : ℕ → Resting → Event
 cancelledFor reason h = Cancelled (h .number) (h .shares) reason

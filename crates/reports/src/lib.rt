@@ -1,54 +1,55 @@
-// Event lines for orders of a side, one after the other into the rest of the output.
+// Event lines of a side, one after the other into the rest of the output: of the takings of a walk, and of orders that are cancelled.
 use kinds::Number;
-use rows::PLACES;
-use rows::WORDS;
+use rows::Index;
+use rows::Rows;
+use walk::Takings;
 ghost use mathlib.Core.List.{map};
 ghost use mathlib.Core.Path.{_≡_};
 ghost use Prim.Native.Nat.{_*_, _≤_};
-ghost use lib.ListN.{length, take};
+ghost use lib.ListN.{length};
 ghost use Rattle.basics.specs.Bytes.{onto};
+ghost use Rattle.basics.specs.Lists.{All};
 ghost use Rattle.rows.specs.Table.{side, Holds};
 ghost use Rattle.rules.specs.EventLines.{eventLines};
-ghost use Rattle.reports.specs.Reports.{takenWhole, cancelledFor};
+ghost use Rattle.walk.specs.Walk.{mostTakings, isBelow, takingsIn};
+ghost use Rattle.reports.specs.Reports.{executedBy, cancelledFor};
 
-// Line 11 for each of the first `at` orders, which give all their shares; the length of the lines.
-pub fn report_whole(
-    t: &[[u32; WORDS]; PLACES],
+// Line 11 for each taking, in the order of the walk; the length of the lines. The side is still as the walk found it.
+pub fn report(
+    x: &Index,
+    t: &Rows,
     n: usize,
-    at: usize,
+    took: &Takings,
+    count: usize,
     number: Number,
     out: &mut [u8],
 ) -> usize
-    requires { ⌜ Holds n (now t) × (at ≤ n) × (35 * at ≤ length (now out)) ⌝ }
-    ensures { λ r. ⌜ r ≡ 35 * at ⌝ }
-    ensures { λ _. ⌜ now (out .exit) ≡ onto (eventLines (map (takenWhole number) (take at (side n (now (t .entry)))))) (now (out .entry)) ⌝ }
+    requires { ⌜ Holds n (now x) (now t) × (count ≤ mostTakings) × All (isBelow n) (takingsIn count (now took)) × (35 * count ≤ length (now out)) ⌝ }
+    ensures { λ r. ⌜ r ≡ 35 * count ⌝ }
+    ensures { λ _. ⌜ now (out .exit) ≡ onto (eventLines (map (executedBy number (side n (now (x .entry)) (now (t .entry)))) (takingsIn count (now (took .entry))))) (now (out .entry)) ⌝ }
 {
+    walk::whole(took);
     let mut len = 0;
     let mut i = 0;
-    while i < at {
-        let resting = rows::row(t, i);
-        len += events::write_executed(
-            &mut out[len..],
-            number,
-            resting.number,
-            resting.price,
-            resting.shares,
-        );
+    while i < count {
+        let k = walk::taking_at(took, i);
+        let resting = rows::at(x, t, n, k.place);
+        len += events::write_executed(&mut out[len..], number, resting.number, k.price, k.shares);
         i += 1;
     }
     len
 }
 
 // Line 13 for each order of the side, in rank order; the length of the lines.
-pub fn report_cancelled(t: &[[u32; WORDS]; PLACES], n: usize, reason: u8, out: &mut [u8]) -> usize
-    requires { ⌜ Holds n (now t) × (21 * n ≤ length (now out)) ⌝ }
+pub fn report_cancelled(x: &Index, t: &Rows, n: usize, reason: u8, out: &mut [u8]) -> usize
+    requires { ⌜ Holds n (now x) (now t) × (21 * n ≤ length (now out)) ⌝ }
     ensures { λ r. ⌜ r ≡ 21 * n ⌝ }
-    ensures { λ _. ⌜ now (out .exit) ≡ onto (eventLines (map (cancelledFor reason) (side n (now (t .entry))))) (now (out .entry)) ⌝ }
+    ensures { λ _. ⌜ now (out .exit) ≡ onto (eventLines (map (cancelledFor reason) (side n (now (x .entry)) (now (t .entry))))) (now (out .entry)) ⌝ }
 {
     let mut len = 0;
     let mut i = 0;
     while i < n {
-        let o = rows::row(t, i);
+        let o = rows::at(x, t, n, i);
         len += events::write_cancelled(&mut out[len..], o.number, o.shares, reason);
         i += 1;
     }

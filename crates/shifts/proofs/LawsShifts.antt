@@ -1,82 +1,104 @@
--- Laws of moves of rows: what they make of the table of a side. Assumes nothing.
-use Prim.Native.Nat.{ℕ, suc, _+_, _-_, _≤_, _<_}
-use mathlib.Core.List.{List, _∷_, _++_, map}
+-- Laws of an index that is turned: the rows that it names in rank order, and so the side that it shows. Assumes nothing.
+use Prim.Native.Nat.{ℕ, zero, suc, _+_, _-_, _≤_, _<_}
+use mathlib.Core.List.{List}
 use mathlib.Core.Path.{_≡_, sym, ap, _∙_}
-use lib.ListN.{length, set, take, drop, replicate, length-append, length-take, length-drop, length-map, length-set, replicate-append-replicate}
-use lib.Seq.{take-at, drop-append-add, set-append-left}
+use lib.Dec.{eqb}
+use lib.ListN.{length, getD, set, length-set}
+use lib.Seq.{getD-set-other}
+use native.Mathlib.Numerals.{add-one}
 use native.Mathlib.Omega.{arith}
-use Rattle.basics.proofs.LawsLists.{map-drop, map-set, map-insertAt, map-removeAt}
-use Rattle.basics.specs.Lists.{insertAt, removeAt}
+use Rattle.basics.specs.Choice.{if_then_else_}
+use Rattle.basics.specs.Lists.{times, insertAt, removeAt}
+use Rattle.basics.proofs.LawsLists.{length-removeAt}
 use Rattle.rules.specs.declared.Resting.{Resting}
 use Rattle.rules.specs.Book.{placesASide}
-use Rattle.rows.specs.Table.{rowOf, noRow, side, tableOf, Holds}
-use Rattle.rows.proofs.LawsTable.{length-side}
+use Rattle.rows.specs.Table.{rowOf, ranked, side, Names, Holds, Shows}
+use Rattle.rows.proofs.LawsIndex.{length-ranked, ranked-alike, times-insertAt, names-same}
+use Rattle.rows.proofs.LawsSides.{side-inserted, side-removed}
+use Rattle.shifts.proofs.LawsTurns.{inserted-before, inserted-there, inserted-behind, removed-before, insertAt-removeAt, removeAt-insertAt, turned, length-turned}
 
--- ── The table of a side ──
+-- ── The rows in rank order ──
 
-module _ (n : ℕ) (t : List (List ℕ)) (s : List Resting) (long : length s ≡ n) (most : n ≤ placesASide) (all : t ≡ tableOf s) where
-  rows-long : length (map rowOf s) ≡ n
-  rows-long = length-map s rowOf ∙ long
+-- a byte put in comes behind those that stand past it
+module _ (at v : ℕ) (s : List ℕ) (p : at ≤ length s) where
+  ranked-past : (k : ℕ) → ranked (suc (at + k)) (insertAt at v s) ≡ insertAt k v (ranked (at + k) s)
+  unfolding ranked
+  ranked-past zero =
+      let z : at + 0 ≡ at = omega arith in
+      let h = inserted-there 0 at v s p in
+      let r = ranked-alike at (insertAt at v s) s (inserted-before 0 at v s p) in
+      rw z (cc)
+  ranked-past (suc k) =
+      let e : at + suc k ≡ suc (at + k) = omega arith in
+      let h = inserted-behind 0 at v s p (at + k) (omega arith) in
+      let r = ranked-past k in
+      rw e (cc)
 
-  rows-all : t ≡ map rowOf s ++ replicate (placesASide - n) noRow
-  unfolding tableOf
-  rows-all = all ∙ ap (λ (k : ℕ). map rowOf s ++ replicate (placesASide - k) noRow) long
+  ranked-inserted : (m : ℕ) → at ≤ m → ranked (suc m) (insertAt at v s) ≡ insertAt (m - at) v (ranked m s)
+  ranked-inserted m l = let e : at + (m - at) ≡ m = omega arith in rw e at (ranked-past (m - at))
 
-  rows-used : take n t ≡ map rowOf s
-  rows-used = ap (take n) rows-all ∙ take-at (map rowOf s) (replicate (placesASide - n) noRow) n rows-long
+module _ (x : List ℕ) (from to : ℕ) (f : from < length x) where
+  ranked-raised : to ≤ from → ranked (from + 1) (turned from to x) ≡ insertAt (from - to) (getD x from 0) (ranked from x)
+  ranked-raised h =
+      let m : to ≤ length (removeAt from x) = omega (arith, length-removeAt from x f) in
+      ap (λ (n : ℕ). ranked n (turned from to x)) (add-one from)
+      ∙ ranked-inserted to (getD x from 0) (removeAt from x) m from h
+      ∙ ap (λ (js : List ℕ). insertAt (from - to) (getD x from 0) js) (ranked-alike from (removeAt from x) x (removed-before 0 from x))
 
-  rows-unused : (k : ℕ) → drop (n + k) t ≡ drop k (replicate (placesASide - n) noRow)
-  rows-unused k =
-      ap (drop (n + k)) rows-all
-      ∙ ap (λ (j : ℕ). drop (j + k) (map rowOf s ++ replicate (placesASide - n) noRow)) (sym rows-long)
-      ∙ drop-append-add (map rowOf s) (replicate (placesASide - n) noRow) k
+  ranked-lowered : from ≤ to → to < length x → ranked to (turned from to x) ≡ removeAt (to - from) (ranked (suc to) x)
+  ranked-lowered h t =
+      let long : length (removeAt from x) ≡ length x - 1 = length-removeAt from x f in
+      let s = ranked to (removeAt from x) in
+      let m : to - from ≤ length s = omega (arith, length-ranked to (removeAt from x)) in
+      let e : ranked (suc to) x ≡ insertAt (to - from) (getD x from 0) s =
+      ap (ranked (suc to)) (sym (insertAt-removeAt 0 from x f)) ∙ ranked-inserted from (getD x from 0) (removeAt from x) (omega arith) to h in
+      ranked-alike to (turned from to x) (removeAt from x) (inserted-before 0 to (getD x from 0) (removeAt from x) (omega arith))
+      ∙ rw e (sym (removeAt-insertAt 0 (to - from) (getD x from 0) s m))
 
-  drop-unused : drop n t ≡ replicate (placesASide - n) noRow
-  drop-unused = let e : n + 0 ≡ n = omega arith in ap (λ (j : ℕ). drop j t) (sym e) ∙ rows-unused 0
+-- a hint is none of them
+ranked-hinted : (x : List ℕ) (n hint v : ℕ) → n ≤ hint → ranked n (set x hint v) ≡ ranked n x
+ranked-hinted x n hint v l = ranked-alike n (set x hint v) x (λ i p. getD-set-other x hint i v 0 (λ z. omega (arith, z, p)))
 
-  row-inserted : (at : ℕ) (o : Resting) → at ≤ n → n < placesASide → insertAt at (rowOf o) (take n t) ++ drop (n + 1) t ≡ tableOf (insertAt at o s)
-  unfolding tableOf
-  row-inserted at o l p =
-      let k : placesASide - n ≡ suc (placesASide - (n + 1)) = omega arith in
-      let e : drop (n + 1) t ≡ replicate (placesASide - (n + 1)) noRow = rows-unused 1 ∙ rw k in
-      let g : length (insertAt at o s) ≡ n + 1 = simp (length-append, length-take, length-drop) (omega arith) in
-      rw (rows-used, e, map-insertAt rowOf at o s, g)
+-- ── What it names ──
 
-  row-removed : (at : ℕ) → at < n → removeAt at (take n t) ++ (noRow ∷ drop n t) ≡ tableOf (removeAt at s)
-  unfolding tableOf
-  row-removed at l =
-      let g : length (removeAt at s) ≡ n - 1 = simp (length-append, length-take, length-drop) (omega arith) in
-      let k : placesASide - (n - 1) ≡ suc (placesASide - n) = omega arith in
-      rw (rows-used, drop-unused, map-removeAt rowOf at s, g, k)
+module _ (x : List ℕ) (names : Names x) where
+  -- whichever byte moved, and wherever to: in and out of a place a byte counts the same
+  names-turned : (from to : ℕ) → from < placesASide → to < placesASide → Names (turned from to x)
+  names-turned from to f t =
+      let all = names .long in
+      let in-x : from < length x = omega arith in
+      let long : length (removeAt from x) ≡ length x - 1 = length-removeAt from x in-x in
+      names-same x (turned from to x) names (length-turned x from to (omega arith) (omega arith))
+      (λ j. times-with j to (omega arith) t ∙ sym (rw (insertAt-removeAt 0 from x) at (times-with j from (omega arith) f)))
+    where
+      times-with : (j at : ℕ) → at ≤ length (removeAt from x) → at < placesASide
+          → times j (ranked placesASide (insertAt at (getD x from 0) (removeAt from x)))
+          ≡ (if eqb (getD x from 0) j then 1 else 0) + times j (ranked (placesASide - 1) (removeAt from x))
+      times-with j at p l =
+          ap (times j) (ranked-inserted at (getD x from 0) (removeAt from x) p (placesASide - 1) (omega arith))
+          ∙ times-insertAt j (placesASide - 1 - at) (getD x from 0) (ranked (placesASide - 1) (removeAt from x))
 
-  rows-dropped : (k : ℕ) → k ≤ n → drop k (take n t) ++ (replicate k noRow ++ drop n t) ≡ tableOf (drop k s)
-  unfolding tableOf
-  rows-dropped k l =
-      let g : length (drop k s) ≡ n - k = simp length-drop (omega arith) in
-      let j : k + (placesASide - n) ≡ placesASide - (n - k) = omega arith in
-      rw (rows-used, drop-unused, replicate-append-replicate k (placesASide - n) noRow, map-drop rowOf k s, g, j)
+  names-hinted : (hint v : ℕ) → placesASide ≤ hint → Names (set x hint v)
+  names-hinted hint v l = names-same x (set x hint v) names (length-set x hint v) (λ j. ap (times j) (ranked-hinted x placesASide hint v l))
 
-  row-set : (at : ℕ) (o : Resting) → at < n → set t at (rowOf o) ≡ tableOf (set s at o)
-  unfolding tableOf
-  row-set at o l =
-      let p : at < length (map rowOf s) = omega (arith, rows-long) in
-      let g : length (set s at o) ≡ n = simp length-set long in
-      ap (λ (x : List (List ℕ)). set x at (rowOf o)) rows-all
-      ∙ set-append-left (map rowOf s) (replicate (placesASide - n) noRow) at (rowOf o) p
-      ∙ rw (map-set rowOf s at o, g)
+-- ── The side that it shows ──
 
--- ── A table that holds a side ──
+module _ (n : ℕ) (x : List ℕ) (t : List (List ℕ)) (h : Holds n x t) where
+  pub shows-inserted : (at hint : ℕ) (o : Resting) → at ≤ n → n < placesASide → placesASide ≤ hint
+      → Shows (insertAt at o (side n x t)) (set (turned n (n - at) x) hint (getD x n 0)) (set t (getD x n 0) (rowOf o))
+  shows-inserted at hint o l p far =
+      let x₁ = turned n (n - at) x in
+      let v = getD x n 0 in
+      let all = h .names .long in
+      let e : n - (n - at) ≡ at = omega arith in
+      side-inserted n x t h (set x₁ hint v) at o l p (names-hinted x₁ (names-turned x (h .names) n (n - at) p (omega arith)) hint v far)
+      (ranked-hinted x₁ (n + 1) hint v (omega arith) ∙ rw e at (ranked-raised x n (n - at) (omega arith) (omega arith)))
 
-module _ (n : ℕ) (t : List (List ℕ)) (h : Holds n t) where
-  pub insert-table : (at : ℕ) (o : Resting) → at ≤ n → n < placesASide
-      → insertAt at (rowOf o) (take n t) ++ drop (n + 1) t ≡ tableOf (insertAt at o (side n t))
-  insert-table = row-inserted n t (side n t) (length-side n t h) (h .fits) (h .table)
-
-  pub remove-table : (at : ℕ) → at < n → removeAt at (take n t) ++ (noRow ∷ drop n t) ≡ tableOf (removeAt at (side n t))
-  remove-table = row-removed n t (side n t) (length-side n t h) (h .fits) (h .table)
-
-  pub drop-table : (k : ℕ) → k ≤ n → drop k (take n t) ++ (replicate k noRow ++ drop n t) ≡ tableOf (drop k (side n t))
-  drop-table = rows-dropped n t (side n t) (length-side n t h) (h .fits) (h .table)
-
-  pub set-table : (at : ℕ) (o : Resting) → at < n → set t at (rowOf o) ≡ tableOf (set (side n t) at o)
-  set-table = row-set n t (side n t) (length-side n t h) (h .fits) (h .table)
+  pub shows-removed : (at : ℕ) → at < n → Shows (removeAt at (side n x t)) (turned (n - 1 - at) (n - 1) x) t
+  shows-removed at l =
+      let all = h .names .long in
+      let fits = h .fits in
+      let e : n - 1 - (n - 1 - at) ≡ at = omega arith in
+      let m : suc (n - 1) ≡ n = omega arith in
+      side-removed n x t h (turned (n - 1 - at) (n - 1) x) at l (names-turned x (h .names) (n - 1 - at) (n - 1) (omega arith) (omega arith))
+      (rw (e, m) at (ranked-lowered x (n - 1 - at) (n - 1) (omega arith) (omega arith) (omega arith)))

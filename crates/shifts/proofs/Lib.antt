@@ -1,2 +1,3 @@
+pub mod LawsTurns
 pub mod LawsShifts
 pub mod Determined

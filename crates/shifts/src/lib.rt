@@ -1,95 +1,110 @@
-// Orders moved in, out and along the table of one side, in place.
+// Orders moved in and out of one side, in place: the index is turned, and the rows stay where they are.
 use kinds::Shares;
+use rows::Index;
 use rows::PLACES;
-use rows::UNUSED;
-use rows::WORDS;
+use rows::Rows;
 use rules::Resting;
+ghost use mathlib.Core.Bool.{_&&_};
+ghost use mathlib.Core.List.{_∷_, _++_};
 ghost use mathlib.Core.Path.{_≡_};
-ghost use Prim.Native.Nat.{_≤_, _<_};
-ghost use lib.ListN.{getD, set, drop};
-ghost use mathlib.Core.List.{[]};
-ghost use Rattle.basics.specs.Lists.{insertAt, removeAt, moved, zeroed};
-ghost use Rattle.rows.specs.Table.{noRow, side, tableOf, Holds};
+ghost use Prim.Native.Nat.{_+_, _-_, _≤_, _<_};
+ghost use lib.Dec.{ltb, leb};
+ghost use lib.ListN.{getD, set, take, drop};
+ghost use Rattle.basics.specs.Choice.{if_then_else_};
+ghost use Rattle.basics.specs.Lists.{insertAt, removeAt};
+ghost use Rattle.rows.specs.Table.{side, Holds, Shows};
 ghost use Rattle.rules.specs.Book.{placesASide, unused};
 ghost use Rattle.rules.specs.Working.{reducedBy};
 
-fn move_row(t: &mut [[u32; WORDS]; PLACES], to: usize, from: usize)
-    requires { ⌜ (to < placesASide) × (from < placesASide) ⌝ }
-    ensures { λ _. ⌜ now (t .exit) ≡ set (now (t .entry)) to (getD (now (t .entry)) from []) ⌝ }
+// ── The index turned, with no branch on what it holds: the loops have one length, so the compiler makes vectors of them ──
+
+// What stands at place `j` once the bytes behind `lo` up to `hi` have each moved one up: the byte before it, or its own.
+fn raised(lo: u8, hi: u8, j: u8, before: u8, own: u8) -> u8
+    ensures { λ r. ⌜ r ≡ (if ltb lo j && leb j hi then before else own) ⌝ }
 {
-    let r = t[from];
-    t[to] = r;
+    if (lo < j) & (j <= hi) { before } else { own }
 }
 
-// The side with one more order, at place `at`.
-pub fn insert(t: &mut [[u32; WORDS]; PLACES], n: usize, at: usize, o: Resting)
-    requires { ⌜ Holds n (now t) × (at ≤ n) × (n < placesASide) ⌝ }
-    ensures { λ _. ⌜ now (t .exit) ≡ tableOf (insertAt at o (side n (now (t .entry)))) ⌝ }
+// The byte at place `n` comes to stand at place `at`, and those between move one up.
+fn raise(x: &mut Index, n: usize, at: usize)
+    requires { ⌜ (at ≤ n) × (n < placesASide) ⌝ }
+    ensures { λ _. ⌜ now (x .exit) ≡ insertAt at (getD (now (x .entry)) n 0) (take n (now (x .entry))) ++ drop (n + 1) (now (x .entry)) ⌝ }
 {
-    rows::whole(t);
-    let mut i = n;
-    while at < i {
-        move_row(t, i, i - 1);
-        i -= 1;
+    rows::whole_index(x);
+    let v = x[n];
+    let steps = rows::STEPS;
+    let lo = at as u8;
+    let hi = n as u8;
+    let mut last: u8 = 0;
+    for i in 0..PLACES {
+        let b = x[i];
+        let j = steps[i];
+        x[i] = raised(lo, hi, j, last, b);
+        last = b;
     }
-    rows::put_row(t, at, o);
+    x[at] = v;
 }
 
-// The side without the order at place `at`.
-pub fn remove(t: &mut [[u32; WORDS]; PLACES], n: usize, at: usize)
-    requires { ⌜ Holds n (now t) × (at < n) ⌝ }
-    ensures { λ _. ⌜ now (t .exit) ≡ tableOf (removeAt at (side n (now (t .entry)))) ⌝ }
+// What stands at place `j` once the bytes behind `lo` up to `hi` have each moved one down: the byte behind it, or its own.
+fn lowered(lo: u8, hi: u8, j: u8, behind: u8, own: u8) -> u8
+    ensures { λ r. ⌜ r ≡ (if leb lo j && ltb j hi then behind else own) ⌝ }
 {
-    rows::whole(t);
-    let mut i = at + 1;
-    while i < n {
-        move_row(t, i - 1, i);
-        i += 1;
+    if (lo <= j) & (j < hi) { behind } else { own }
+}
+
+// The byte at place `at` comes to stand at place `n - 1`, and those between move one down.
+fn lower(x: &mut Index, n: usize, at: usize)
+    requires { ⌜ (at < n) × (n ≤ placesASide) ⌝ }
+    ensures { λ _. ⌜ now (x .exit) ≡ removeAt at (take n (now (x .entry))) ++ (getD (now (x .entry)) at 0 ∷ drop n (now (x .entry))) ⌝ }
+{
+    rows::whole_index(x);
+    let v = x[at];
+    let steps = rows::STEPS;
+    let lo = at as u8;
+    let hi = (n - 1) as u8;
+    let mut b = x[0];
+    for i in 0..PLACES {
+        let next = x[i + 1];
+        let j = steps[i];
+        x[i] = lowered(lo, hi, j, next, b);
+        b = next;
     }
-    rows::put_row(t, n - 1, UNUSED);
+    x[n - 1] = v;
 }
 
-// The rows from `k` to `n` moved to the front.
-fn move_down(t: &mut [[u32; WORDS]; PLACES], n: usize, k: usize)
-    requires { ⌜ (k ≤ n) × (n ≤ placesASide) ⌝ }
-    ensures { λ _. ⌜ now (t .exit) ≡ moved (now (t .entry)) k n ⌝ }
+// ── Orders ──
+
+// The side with one more order, at rank `at`: it takes the first free row.
+pub fn insert(x: &mut Index, t: &mut Rows, n: usize, at: usize, o: Resting)
+    requires { ⌜ Holds n (now x) (now t) × (at ≤ n) × (n < placesASide) ⌝ }
+    ensures { λ _. ⌜ Shows (insertAt at o (side n (now (x .entry)) (now (t .entry)))) (now (x .exit)) (now (t .exit)) ⌝ }
 {
-    rows::whole(t);
-    for i in k..n {
-        move_row(t, i - k, i);
-    }
+    rows::whole_index(x);
+    let slot = x[n];
+    raise(x, n, n - at);
+    let hint = rows::hint_of(o.number);
+    x[hint] = slot;
+    rows::put_row(t, rows::wide(slot), o);
 }
 
-// The rows from `m` to `n` made zero.
-fn zero_rows(t: &mut [[u32; WORDS]; PLACES], m: usize, n: usize)
-    requires { ⌜ (m ≤ n) × (n ≤ placesASide) ⌝ }
-    ensures { λ _. ⌜ now (t .exit) ≡ zeroed noRow (now (t .entry)) m n ⌝ }
+// The side without the order at rank `at`: its row is free.
+pub fn remove(x: &mut Index, t: &Rows, n: usize, at: usize)
+    requires { ⌜ Holds n (now x) (now t) × (at < n) ⌝ }
+    ensures { λ _. ⌜ Shows (removeAt at (side n (now (x .entry)) (now (t .entry)))) (now (x .exit)) (now (t .entry)) ⌝ }
 {
-    rows::whole(t);
-    for i in m..n {
-        rows::put_row(t, i, UNUSED);
-    }
+    lower(x, n, n - 1 - at);
 }
 
-// The side without its first `k` orders.
-pub fn drop_first(t: &mut [[u32; WORDS]; PLACES], n: usize, k: usize)
-    requires { ⌜ Holds n (now t) × (k ≤ n) ⌝ }
-    ensures { λ _. ⌜ now (t .exit) ≡ tableOf (drop k (side n (now (t .entry)))) ⌝ }
+// The side with `part` shares fewer in the order at rank `at`.
+pub fn reduce(x: &Index, t: &mut Rows, n: usize, at: usize, part: Shares)
+    requires { ⌜ Holds n (now x) (now t) × (at < n) ⌝ }
+    ensures { λ _. ⌜ Shows (set (side n (now (x .entry)) (now (t .entry))) at (reducedBy (part .0) (getD (side n (now (x .entry)) (now (t .entry))) at unused)))
+        (now (x .entry)) (now (t .exit)) ⌝ }
 {
-    if k == 0 {
-        return;
-    }
-    rows::whole(t);
-    move_down(t, n, k);
-    zero_rows(t, n - k, n);
-}
-
-// The side with `part` shares fewer in the order at place `at`, which keeps some.
-pub fn reduce(t: &mut [[u32; WORDS]; PLACES], n: usize, at: usize, part: Shares)
-    requires { ⌜ Holds n (now t) × (at < n) × (part .0 ≤ getD (side n (now t)) at unused .shares .0) ⌝ }
-    ensures { λ _. ⌜ now (t .exit) ≡ tableOf (set (side n (now (t .entry))) at (reducedBy (part .0) (getD (side n (now (t .entry))) at unused))) ⌝ }
-{
-    let o = rows::row(t, at);
-    let left = Shares(o.shares.0 - part.0);
-    rows::put_row(t, at, Resting { shares: left, ..o });
+    let slot = rows::slot_at(x, n, at);
+    let o = rows::row(t, slot);
+    let shares = o.shares;
+    let gone = part.smaller(shares);
+    let left = Shares(shares.0 - gone.0);
+    rows::put_row(t, slot, Resting { shares: left, ..o });
 }

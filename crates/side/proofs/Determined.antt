@@ -1,5 +1,6 @@
--- Each public contract determines its result and its bytes: any two outcomes that meet it are equal. A contract is read here
--- as the checker reads it from the source (`Post`), not from a copy. Assumes nothing.
+-- Each public contract determines its result: any two outcomes that meet it are equal. A contract is read here as the checker reads it
+-- from the source (`Post`), not from a copy. Left out is `follow_hint`, of which the contract says only where a hint leads if it leads
+-- somewhere. Assumes nothing.
 use mathlib.Core.Path.{_≡_, sym, _∙_}
 use Prim.Native.Nat.{ℕ}
 use mathlib.Core.Bool.{Bool}

@@ -1,67 +1,43 @@
--- Laws of a loop that looks for an order of a side, and of rank by values. Assumes nothing.
-use Prim.Native.Nat.{ℕ, _+_, _≤_, _<_}
+-- Laws of the first element of a list that passes a test, and of rank by values. Assumes nothing.
+use Prim.Native.Nat.{ℕ, zero, suc, _≤_, _<_}
 use mathlib.Core.Bool.{Bool, true, false, not, _&&_, _||_, Bool·beq}
 use mathlib.Core.List.{List, [], _∷_}
 use mathlib.Core.Logic.{⊎-elim}
-use mathlib.Core.Path.{_≡_, refl, ap, _∙_}
+use mathlib.Core.Path.{_≡_, refl}
 use lib.Dec.{eqb, ltb}
 use lib.ListN.{length, getD}
 use native.Mathlib.Omega.{arith}
 use borrow.Author.Tests.{eqb-true, le-ltb}
 use Rattle.basics.specs.Choice.{if_then_else_}
 use Rattle.basics.specs.Lists.{firstWhere}
-use Rattle.basics.proofs.LawsChoice.{holds-or-not, or-neither}
-use Rattle.rows.specs.Table.{orderOf}
-use Rattle.rows.proofs.LawsTable.{ahead, ahead-end, ahead-next}
+use Rattle.basics.proofs.LawsChoice.{holds-or-not}
 use Rattle.rules.specs.declared.Resting.{Resting}
 use Rattle.rules.specs.declared.Stamp.{Stamp}
 use Rattle.rules.specs.Book.{earlier, ranksBefore}
 
--- ── A loop that looks for the first order that passes a test ──
+-- ── The first that passes a test ──
 
--- one turn of it
-module _ (n : ℕ) (t : List (List ℕ)) (i : ℕ) (whole : n ≤ length t) (test : Resting → Bool) where
-  pub where-end : n ≤ i → i + firstWhere test (ahead n t i) ≡ i
+module _ {A : Type 0} (test : A → Bool) where
+  -- its place is one of the list's, or the one behind its last
+  pub first-within : (s : List A) → firstWhere test s ≤ length s
   unfolding firstWhere
-  where-end l = rw (ahead-end n t i whole l) (omega arith)
+  first-within [] = omega arith
+  first-within (h ∷ s) =
+      ⊎-elim
+      (λ (t : test h ≡ true). rw t (omega arith))
+      (λ (t : test h ≡ false). rw t (omega (arith, first-within s)))
+      (holds-or-not (test h))
 
-  pub where-found : i < n → (o : Resting) → o ≡ orderOf (getD t i []) → test o ≡ true → i + firstWhere test (ahead n t i) ≡ i
+  -- whatever passes the test stands there or behind it
+  pub first-before : (d : A) (s : List A) (i : ℕ) → i < length s → test (getD s i d) ≡ true → firstWhere test s ≤ i
   unfolding firstWhere
-  where-found l o e p = rw (ahead-next n t i whole l o e, p) (omega arith)
-
-  pub where-next : i < n → (o : Resting) → o ≡ orderOf (getD t i []) → test o ≡ false
-      → i + firstWhere test (ahead n t i) ≡ i + 1 + firstWhere test (ahead n t (i + 1))
-  unfolding firstWhere
-  where-next l o e p = rw (ahead-next n t i whole l o e, p) (omega arith)
-
--- the place is one of the side's, or the one behind its last
-pub firstWhere-within : (test : Resting → Bool) (s : List Resting) → firstWhere test s ≤ length s
-unfolding firstWhere
-firstWhere-within test [] = omega arith
-firstWhere-within test (h ∷ s) =
-    ⊎-elim
-    (λ (t : test h ≡ true). rw t (omega arith))
-    (λ (t : test h ≡ false). rw t (omega (arith, firstWhere-within test s)))
-    (holds-or-not (test h))
-
--- a turn that passes four orders
-pub where-four : (n : ℕ) (t : List (List ℕ)) (i : ℕ) → n ≤ length t → i + 4 ≤ n → (test : Resting → Bool)
-    → (((test (orderOf (getD t i [])) || test (orderOf (getD t (i + 1) []))) || test (orderOf (getD t (i + 2) []))) || test (orderOf (getD t (i + 3) []))) ≡ false
-    → i + firstWhere test (ahead n t i) ≡ i + 4 + firstWhere test (ahead n t (i + 4))
-where-four n t i whole l test none =
-    let abc = or-neither _ _ none in
-    let ab = or-neither _ _ (abc .0) in
-    let a = or-neither _ _ (ab .0) in
-    let two : i + 1 + 1 ≡ i + 2 = omega arith in
-    let three : i + 2 + 1 ≡ i + 3 = omega arith in
-    let four : i + 3 + 1 ≡ i + 4 = omega arith in
-    where-next n t i whole test (omega arith) _ refl (a .0)
-    ∙ where-next n t (i + 1) whole test (omega arith) _ refl (a .1)
-    ∙ ap (λ (j : ℕ). j + firstWhere test (ahead n t j)) two
-    ∙ where-next n t (i + 2) whole test (omega arith) _ refl (ab .1)
-    ∙ ap (λ (j : ℕ). j + firstWhere test (ahead n t j)) three
-    ∙ where-next n t (i + 3) whole test (omega arith) _ refl (abc .1)
-    ∙ ap (λ (j : ℕ). j + firstWhere test (ahead n t j)) four
+  first-before d [] i l p = let z : ⊥ = omega arith in absurd z
+  first-before d (x ∷ s) zero l p = rw p (omega arith)
+  first-before d (x ∷ s) (suc i) l p =
+      ⊎-elim
+      (λ (t : test x ≡ true). rw t (omega arith))
+      (λ (t : test x ≡ false). rw t (omega (arith, first-before d s i (omega arith) p)))
+      (holds-or-not (test x))
 
 -- ── Rank by values ──
 

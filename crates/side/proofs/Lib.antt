@@ -1,3 +1,6 @@
+pub mod LawsOlder
 pub mod LawsPlaces
 pub mod LawsHalves
+pub mod LawsLevels
+pub mod LawsHints
 pub mod Determined

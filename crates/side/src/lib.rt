@@ -1,63 +1,101 @@
 // What is looked for on one side of the book: the order of a number, and the place of a new order.
 use kinds::Number;
+use rows::Index;
 use rows::PLACES;
-use rows::WORDS;
+use rows::Rows;
 use rules::Resting;
 use rules::Stamp;
 ghost use mathlib.Core.Bool.{true};
 ghost use mathlib.Core.List.{[]};
 ghost use mathlib.Core.Path.{_≡_};
-ghost use Prim.Native.Nat.{_+_, _≤_, _<_};
-ghost use lib.ListN.{getD, drop};
-ghost use Rattle.basics.specs.Lists.{firstWhere};
-ghost use Rattle.rows.specs.Table.{side, orderOf, Holds};
-ghost use Rattle.rules.specs.Book.{placesASide, earlier as earlierStamp, ranksBefore, inRankOrder};
-ghost use Rattle.rules.specs.Working.{isNumber};
+ghost use Prim.Native.Nat.{_<_, max};
+ghost use lib.Dec.{eqb, ltb};
+ghost use lib.ListN.{getD};
+ghost use Rattle.basics.specs.Choice.{if_then_else_};
+ghost use Rattle.basics.specs.Lists.{firstWhere, distinct};
+ghost use Rattle.rows.specs.Table.{levelIn, side, Names, Holds};
+ghost use Rattle.rules.specs.Book.{placesASide, unused, numbers, earlier as earlierStamp, ranksBefore, inRankOrder};
+ghost use Rattle.rules.specs.Commands.{isNumber};
+ghost use Rattle.side.specs.Looking.{Newest, Hinted};
 
-// Whether the order at a place has a number.
-fn is_at(t: &[[u32; WORDS]; PLACES], i: usize, number: Number) -> bool
-    requires { ⌜ i < placesASide ⌝ }
-    ensures { λ r. ⌜ r ≡ isNumber number (orderOf (getD (now (t .entry)) i [])) ⌝ }
+// ── The order of a number ──
+
+// Whether the order at a rank has a number.
+fn is_at(x: &Index, t: &Rows, n: usize, i: usize, number: Number) -> bool
+    requires { ⌜ Holds n (now x) (now t) × (i < n) ⌝ }
+    ensures { λ r. ⌜ r ≡ isNumber number (getD (side n (now (x .entry)) (now (t .entry))) i unused) ⌝ }
 {
-    let o = rows::row(t, i);
+    let o = rows::at(x, t, n, i);
     o.number.0 == number.0
 }
 
-// A place before which no order has a number. Four orders are passed at a time, since most are others.
-fn pass_others(t: &[[u32; WORDS]; PLACES], n: usize, number: Number) -> usize
-    requires { ⌜ Holds n (now t) ⌝ }
-    ensures { λ r. ⌜ (r ≤ n) × (r + firstWhere (isNumber number) (drop r (side n (now (t .entry)))) ≡ firstWhere (isNumber number) (side n (now (t .entry)))) ⌝ }
+// The rank of the order of a number, or `n` where none has it.
+pub fn find(x: &Index, t: &Rows, n: usize, number: Number) -> usize
+    requires { ⌜ Holds n (now x) (now t) ⌝ }
+    ensures { λ r. ⌜ r ≡ firstWhere (isNumber number) (side n (now (x .entry)) (now (t .entry))) ⌝ }
 {
-    rows::whole(t);
     let mut i = 0;
-    while i + 4 <= n {
-        if is_at(t, i, number)
-            | is_at(t, i + 1, number)
-            | is_at(t, i + 2, number)
-            | is_at(t, i + 3, number)
-        {
-            return i;
-        }
-        i += 4;
-    }
-    i
-}
-
-// The place of the order of a number, or `n` where none has it.
-pub fn find(t: &[[u32; WORDS]; PLACES], n: usize, number: Number) -> usize
-    requires { ⌜ Holds n (now t) ⌝ }
-    ensures { λ r. ⌜ r ≡ firstWhere (isNumber number) (side n (now (t .entry))) ⌝ }
-{
-    rows::whole(t);
-    let mut i = pass_others(t, n, number);
     while i < n {
-        if is_at(t, i, number) {
+        if is_at(x, t, n, i, number) {
             return i;
         }
         i += 1;
     }
     i
 }
+
+// Place `j` where the byte there names the row, else 0.
+fn here(b: u8, slot: u8, j: u8) -> u8
+    ensures { λ r. ⌜ r ≡ (if eqb b slot then j else 0) ⌝ }
+{
+    if b == slot { j } else { 0 }
+}
+
+fn greater(a: u8, b: u8) -> u8
+    ensures { λ r. ⌜ r ≡ max a b ⌝ }
+{
+    if a < b { b } else { a }
+}
+
+// The place in an index of the byte that names a row, if one does: whoever asks looks there. The loop has one length and no branch.
+fn place_of(x: &Index, slot: u8) -> usize
+    ensures { λ r. ⌜ r < placesASide ⌝ }
+{
+    rows::whole_index(x);
+    let steps = rows::STEPS;
+    let mut found: u8 = 0;
+    for i in 0..PLACES {
+        let b = x[i];
+        let j = steps[i];
+        found = greater(here(b, slot, j), found);
+    }
+    rows::wide(found)
+}
+
+// The rank of the order to which the hint of a number leads, or `n`: the hint may be of another number, and then says nothing.
+pub fn follow_hint(x: &Index, t: &Rows, n: usize, number: Number) -> usize
+    requires { ⌜ Holds n (now x) (now t) × (distinct (numbers (side n (now x) (now t))) ≡ true) ⌝ }
+    ensures { λ r. ⌜ Hinted number (side n (now (x .entry)) (now (t .entry))) r ⌝ }
+{
+    rows::whole_index(x);
+    let hint = x[rows::hint_of(number)];
+    let slot = rows::wide(hint) % PLACES;
+    let o = rows::row(t, slot);
+    if o.number.0 != number.0 {
+        return n;
+    }
+    let i = place_of(x, hint);
+    if n <= i {
+        return n;
+    }
+    let named = x[i];
+    if rows::wide(named) != slot {
+        return n;
+    }
+    n - 1 - i
+}
+
+// ── Rank ──
 
 // Whether a stamp is earlier than another: an earlier command set it, or the same one at an earlier place. By values, as below.
 fn earlier(s: Stamp, t: Stamp) -> bool
@@ -76,22 +114,40 @@ pub fn ranks_before(buying: bool, x: Resting, y: Resting) -> bool
     nearer | ((x.price.0 == y.price.0) & first)
 }
 
-// The place that a new order takes: before the first that it ranks before. The side is in rank order, so each order looked at halves
-// the range in which that place lies.
-pub fn place(t: &[[u32; WORDS]; PLACES], n: usize, buying: bool, o: Resting) -> usize
-    requires { ⌜ Holds n (now t) × (inRankOrder buying (side n (now t)) ≡ true) ⌝ }
-    ensures { λ r. ⌜ r ≡ firstWhere (ranksBefore buying o) (side n (now (t .entry))) ⌝ }
+// ── A new order's place ──
+
+// 1 where the new order, whose level is `mine`, ranks before the one in the row that place `i` of the index names, else 0. A number and not a
+// choice: the sum of three of them is no branch.
+fn is_passed(x: &Index, t: &Rows, i: usize, buying: bool, mine: u32) -> usize
+    requires { ⌜ Names (now x) × (i < placesASide) ⌝ }
+    ensures { λ r. ⌜ r ≡ (if ltb mine (levelIn buying (getD (now (t .entry)) (getD (now (x .entry)) i 0) [])) then 1 else 0) ⌝ }
 {
-    rows::whole(t);
+    rows::whole_index(x);
+    let level = rows::level_at(t, rows::wide(x[i]), buying);
+    if mine < level { 1 } else { 0 }
+}
+
+// The place that a new order takes: before the first that it ranks before. The side is in rank order, so each turn halves the range in
+// which that place lies twice, by three orders that it looks at together; how many turns there are depends on `n` alone. Of the newest
+// order price and display decide the rank.
+pub fn place(x: &Index, t: &Rows, n: usize, buying: bool, o: Resting) -> usize
+    requires { ⌜ Holds n (now x) (now t) × (inRankOrder buying (side n (now x) (now t)) ≡ true) × Newest o (side n (now x) (now t)) ⌝ }
+    ensures { λ r. ⌜ r ≡ firstWhere (ranksBefore buying o) (side n (now (x .entry)) (now (t .entry))) ⌝ }
+{
+    let mine = rows::level_of(o, buying);
     let mut low = 0;
-    let mut high = n;
-    while low < high {
-        let middle = low + (high - low) / 2;
-        if ranks_before(buying, o, rows::row(t, middle)) {
-            high = middle;
-        } else {
-            low = middle + 1;
-        }
+    let mut range = n;
+    while 3 <= range {
+        let quarter = (range + 1) / 4;
+        let a = is_passed(x, t, low + quarter - 1, buying, mine);
+        let b = is_passed(x, t, low + 2 * quarter - 1, buying, mine);
+        let c = is_passed(x, t, low + 3 * quarter - 1, buying, mine);
+        low = low + quarter * (a + b + c);
+        range = range - 3 * quarter;
     }
-    low
+    while 0 < range {
+        low = low + is_passed(x, t, low, buying, mine);
+        range -= 1;
+    }
+    n - low
 }

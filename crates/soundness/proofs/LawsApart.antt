@@ -5,13 +5,14 @@ use mathlib.Core.Bool.{Bool, true, false, not}
 use mathlib.Core.List.{List, [], _∷_}
 use mathlib.Core.Path.{_≡_, refl, sym, _∙_}
 use native.Mathlib.Omega.{arith}
-use borrow.Author.Tests.{lt-ltb, le-ltb, ltb-true, ltb-false}
+use borrow.Author.Tests.{lt-ltb, ltb-true, ltb-false}
 use Rattle.basics.proofs.LawsLists.{all-alike}
 use Rattle.basics.specs.Lists.{All, none, also}
 use Rattle.kinds.specs.declared.Cents.{Cents}
 use Rattle.rules.specs.declared.Resting.{Resting}
 use Rattle.rules.specs.Book.{inRankOrder, apart}
 use Rattle.rules.specs.Working.{beyond}
+use Rattle.rules.proofs.LawsCommands.{not-beyond-itself}
 use Rattle.soundness.proofs.LawsRank.{ranked-first, rank-price}
 use Rattle.soundness.proofs.LawsThinned.{Thinned, thinned-all}
 
@@ -25,11 +26,7 @@ Apart buy own opposite = All (λ (o : Resting). Beyond buy (o .price) opposite) 
 -- ── From the best orders to all ──
 
 no-worse : (buy : Bool) (x : Resting) (s : List Resting) → inRankOrder buy (x ∷ s) ≡ true → All (λ (y : Resting). beyond buy (x .price) (y .price) ≡ false) (x ∷ s)
-no-worse buy x s o = also (itself buy) (all-alike (λ y r. rank-price buy x y r) (ranked-first buy x s o))
-  where
-    itself : (buy : Bool) → beyond buy (x .price) (x .price) ≡ false
-    itself true = le-ltb (x .price .0) (x .price .0) (omega arith)
-    itself false = le-ltb (x .price .0) (x .price .0) (omega arith)
+no-worse buy x s o = also (not-beyond-itself buy (x .price)) (all-alike (λ y r. rank-price buy x y r) (ranked-first buy x s o))
 
 empty-apart : (buys : List Resting) → Apart true buys []
 empty-apart [] = none

@@ -1,18 +1,19 @@
 -- A new order that takes its place by rank keeps what a sound book says of the resting orders. Assumes nothing.
-use Prim.Native.Nat.{ℕ, suc, _+_}
-use mathlib.Core.Bool.{Bool, true, false, not}
+use Prim.Native.Nat.{ℕ, suc, _+_, _≤_}
+use mathlib.Core.Bool.{Bool, true, false}
 use mathlib.Core.List.{List, [], _∷_, _++_}
 use mathlib.Core.Logic.{⊎-elim}
-use mathlib.Core.Path.{_≡_, refl, sym, ap}
+use mathlib.Core.Path.{_≡_, refl, ap}
 use lib.Dec.{eqb}
 use lib.ListN.{length}
 use native.Mathlib.Omega.{arith}
-use borrow.Author.Tests.{ne-eqb, eqb-false, not-true}
-use Rattle.basics.specs.Lists.{any, distinct, sumOf, All, also}
-use Rattle.basics.proofs.LawsChoice.{holds-or-not, and-left, and-right, or-neither}
+use borrow.Author.Tests.{eqb-true}
+use Rattle.basics.specs.Lists.{any, distinct, sumOf, All, also, OneOf, first}
+use Rattle.basics.proofs.LawsChoice.{holds-or-not}
 use Rattle.rules.specs.declared.Resting.{Resting}
 use Rattle.rules.specs.Book.{numbers, earlier, ranksBefore, inRankOrder}
-use Rattle.rules.specs.Working.{insert}
+use Rattle.rules.specs.Settling.{insert}
+use Rattle.soundness.proofs.LawsNumbers.{oneIf, timesIn, not-among-times, times-at-most, at-most-times}
 use Rattle.soundness.proofs.LawsRank.{ranks-total, ranked-first, ranked-rest, ranked-more}
 
 -- one order more, somewhere among the others
@@ -52,28 +53,29 @@ pub added-all : {P : Resting → Type 0} {x : Resting} → P x → {s r : List R
 added-all p here a = also p a
 added-all p (later d) (also q a) = also q (added-all p d a)
 
--- a number that no order has is not that of the new one either
-not-among-added : (n : ℕ) {x : Resting} → eqb n (x .number .0) ≡ false → {s r : List Resting} → Added x s r
-    → any (eqb n) (numbers s) ≡ false → any (eqb n) (numbers r) ≡ false
-unfolding any
-not-among-added n p here e = rw p e
-not-among-added n p (later {y = y} {s = s} d) e =
-    let both = or-neither (eqb n (y .number .0)) (any (eqb n) (numbers s)) e in
-    rw (both .0) (not-among-added n p d (both .1))
+-- the new order is there, and so are all others
+pub added-new : {x : Resting} {s r : List Resting} → Added x s r → OneOf x r
+added-new here = first
+added-new (later a) = OneOf.later (added-new a)
 
-eqb-flip : (a b : ℕ) → eqb a b ≡ false → eqb b a ≡ false
-eqb-flip a b e = ne-eqb b a (λ s. eqb-false a b e (sym s))
+pub added-old : {x h : Resting} {s r : List Resting} → Added x s r → OneOf h s → OneOf h r
+added-old here p = OneOf.later p
+added-old (later a) first = first
+added-old (later a) (OneOf.later p) = OneOf.later (added-old a p)
 
+-- a number that no other order has stands once more, and every other number as often as before
 pub added-distinct : {x : Resting} {s r : List Resting} → Added x s r → any (eqb (x .number .0)) (numbers s) ≡ false
     → distinct (numbers s) ≡ true → distinct (numbers r) ≡ true
-unfolding any distinct
-added-distinct here n d = rw n d
-added-distinct {x = x} (later {y = y} {s = s} a) n d =
-    let theirs = numbers s in
-    let both = or-neither (eqb (x .number .0) (y .number .0)) (any (eqb (x .number .0)) theirs) n in
-    let others = not-true (any (eqb (y .number .0)) theirs) (and-left (not (any (eqb (y .number .0)) theirs)) (distinct theirs) d) in
-    rw (not-among-added (y .number .0) (eqb-flip (x .number .0) (y .number .0) (both .0)) a others)
-    (added-distinct a (both .1) (and-right (not (any (eqb (y .number .0)) theirs)) (distinct theirs) d))
+added-distinct {x = x} {s = s} {r = r} a new d = at-most-times r by-number
+  where
+    by-number : (n : ℕ) → timesIn n r ≤ 1
+    by-number n =
+        ⊎-elim
+        (λ (t : eqb n (x .number .0) ≡ true).
+        let itself : n ≡ x .number .0 = eqb-true n (x .number .0) t in
+        omega (arith, rw t at (added-sum (oneIf n) a), not-among-times n s (rw itself new)))
+        (λ (t : eqb n (x .number .0) ≡ false). omega (arith, rw t at (added-sum (oneIf n) a), times-at-most s d n))
+        (holds-or-not (eqb n (x .number .0)))
 
 -- a new order is the one with the latest stamp of its side
 pub ranked-insert : (buy : Bool) (x : Resting) (s : List Resting) → All (λ (y : Resting). earlier (y .stamp) (x .stamp) ≡ true) s → inRankOrder buy s ≡ true → inRankOrder buy (insert buy x s) ≡ true

@@ -3,7 +3,7 @@ use Prim.Native.Nat.{ℕ, zero, suc, _+_, _-_, _≤_, _<_}
 use mathlib.Core.Bool.{Bool, true, false, _&&_}
 use mathlib.Core.List.{List, [], _∷_, _++_}
 use mathlib.Core.Logic.{⊎-elim}
-use mathlib.Core.Path.{_≡_, refl}
+use mathlib.Core.Path.{_≡_, refl, subst}
 use lib.Dec.{eqb, leb}
 use lib.ListN.{length, replicate, length-append, length-replicate}
 use lib.Seq.{take-append-seam, drop-append-seam}
@@ -12,7 +12,10 @@ use borrow.Author.Tests.{le-leb, eq-eqb, eqb-true}
 use Rattle.basics.specs.Choice.{if_then_else_}
 use Rattle.basics.specs.Lists.{every, distinct}
 use Rattle.basics.proofs.LawsChoice.{holds-or-not, and-left, and-right}
+use Rattle.basics.proofs.LawsLists.{all-alike}
+use Rattle.kinds.specs.declared.Cents.{Cents}
 use Rattle.kinds.specs.declared.Number.{Number}
+use Rattle.kinds.specs.Kinds.{priceInRange}
 use Rattle.rules.specs.declared.Away.{Away}
 use Rattle.rules.specs.declared.Body.{Body}
 use Rattle.rules.specs.declared.Body.the-variants as body
@@ -23,69 +26,86 @@ use Rattle.rules.specs.declared.Reading.the-variants as reading
 use Rattle.rules.specs.declared.Resting.{Resting}
 use Rattle.rules.specs.Book.{Book, BookRecord, fresh, opening, closing, placesASide, stamp, inRankOrder, apart, awayInRange, sound, unused, isUnused, ordersIn, placesOf, bookIn, recordOf, placesSound, recordSound}
 use Rattle.rules.specs.CommandLines.{commandIn}
+use Rattle.rules.specs.Commands.{withAccepted, withAway, shut, cancel, quote, carriedOut, does}
 use Rattle.rules.specs.Day.{bookAfter}
 use Rattle.rules.specs.Refusals.{leastRoom, firstOf, restsOnFullSide, bodyRefusals, lineRefusals, refusals}
+use Rattle.rules.specs.Settling.{settledSide, oppositeSide, firstMove, settled, bothSettled}
 use Rattle.rules.specs.Step.{doneBy, answer, answerTo, step, stepOn}
-use Rattle.rules.specs.Working.{withAccepted, withAway, buying, oppositeSide, ending, isNumber, accept, cancel, setAnew, firstMove, quote, close, does}
+use Rattle.rules.specs.Working.{lockingPrice, absent, buying, ending, accept}
+use Rattle.rules.proofs.LawsCommands.{fateBy, if-set, set-same, crosses-present, crosses-beyond, close-does}
 use Rattle.rules.proofs.LawsRefusals.{fit-facts}
 use Rattle.soundness.proofs.LawsAccepted.{accepted, AcceptedOrder, accepted-order, accepted-quote}
-use Rattle.soundness.proofs.LawsMoves.{sides-moved}
 use Rattle.soundness.proofs.LawsOrder.{accept-sides}
-use Rattle.soundness.proofs.LawsSides.{sides-flip, sides-of, sides-sound, all-holding, later-stamp, sides-thinned, sides-later}
+use Rattle.soundness.proofs.LawsRank.{better-transitive}
+use Rattle.soundness.proofs.LawsSettled.{SoundPrice, SoundPrices, sides-settled}
+use Rattle.soundness.proofs.LawsSides.{Sides, sides-flip, sides-of, buys-sound, sides-sound, later-stamp, sides-thinned, sides-later}
 use Rattle.soundness.proofs.LawsSound.{Sound, sound-is, is-sound}
-use Rattle.soundness.proofs.LawsThinned.{thinned-kept}
+use Rattle.soundness.proofs.LawsThinned.{thinned-none}
+
+-- ── The prices of those that are set anew ──
+
+-- both away prices of an accepted quote are in range, and the Locking Price is, where it is there
+pub locking-ranged : (buy : Bool) (away : Away) → (awayInRange (away .bid) && awayInRange (away .offer)) ≡ true → awayInRange (lockingPrice buy away) ≡ true
+locking-ranged true away a = and-right (awayInRange (away .bid)) (awayInRange (away .offer)) a
+locking-ranged false away a = and-left (awayInRange (away .bid)) (awayInRange (away .offer)) a
+
+present-ranged : (p : Cents) → awayInRange p ≡ true → absent p ≡ false → priceInRange p ≡ true
+present-ranged p a e = rw e at a
+
+-- so is that of whoever is set at it, which is still apart from the opposite side, for it is less aggressive than before
+sound-prices : (b : Book) (c : Body) → firstOf (bodyRefusals b c) ≡ 0 → (buy : Bool) → SoundPrices buy (fateBy c buy)
+sound-prices b c accepted buy opposite h apart =
+    if-set (SoundPrice buy opposite) c buy h
+    (λ away is t.
+    let ranged = accepted-quote b away (subst (λ (x : Body). firstOf (bodyRefusals b x) ≡ 0) is accepted) in
+    record {
+      priced = present-ranged (lockingPrice buy away) (locking-ranged buy away ranged) (crosses-present buy away h t);
+      isApart = all-alike (λ o p. better-transitive buy (o .price) (h .price) (lockingPrice buy away) p (crosses-beyond buy away h t)) apart;
+    })
 
 -- ── An accepted command ──
 
 module _ (b : Book) (s : Sound b) (n : Number) (time : ℕ) (next : n .0 ≡ b .held .last .0 + 1) (isOpen : b .held .closed ≡ false)
     (opened : leb opening time ≡ true) (inTime : leb time closing ≡ true) where
-  accept-sound : (o : Order) → AcceptedOrder b o → Sound (accept n time o b .book)
-  unfolding accept restsOnFullSide
+  accept-sound : (o : Order) → AcceptedOrder b o → Sound (does n time (body.Order o) b .book)
+  unfolding does carriedOut accept restsOnFullSide
   accept-sound o a =
-      sides-sound (withAccepted n time (b .held)) isOpen opened inTime (s .bid) (s .offer) (buying o)
+      sides-sound (withAccepted n time (b .held)) opened inTime (s .bid) (s .offer) isOpen (buying o)
       (accept-sides n o (b .held .away) (sides-of (buying o) b s) next (a .isLawful) (a .inRange) (a .room) (ending o (b .held .away) (oppositeSide (buying o) b)) refl)
 
-  cancel-sound : (of : Number) → Sound (cancel n time of b .book)
-  unfolding cancel
-  cancel-sound of =
-      let sides = sides-of true b s in
-      let less = sides-thinned sides (thinned-kept (isNumber of) (all-holding (b .held .last) (sides .ownInRange))) (thinned-kept (isNumber of) (all-holding (b .held .last) (sides .oppositeInRange))) in
-      sides-sound (withAccepted n time (b .held)) isOpen opened inTime (s .bid) (s .offer) true (sides-later less (omega (arith, next)))
-
-  quote-sound : (away : Away) → (awayInRange (away .bid) && awayInRange (away .offer)) ≡ true → Sound (quote n time away b .book)
-  unfolding quote
-  quote-sound away a =
-      let bid = and-left (awayInRange (away .bid)) (awayInRange (away .offer)) a in
-      let offer = and-right (awayInRange (away .bid)) (awayInRange (away .offer)) a in
+  -- both sides, settled by the fates of a command
+  both-sides : (c : Body) → firstOf (bodyRefusals b c) ≡ 0 → (k : ℕ)
+      → Sides false n (settledSide n k false (fateBy c false) (b .sells)) (settledSide n firstMove true (fateBy c true) (b .buys))
+  both-sides c accepted k =
       let sides = sides-of true b s in
       let above : b .held .last .0 < n .0 = omega (arith, next) in
-      let after = firstMove + length (setAnew n firstMove true away (b .buys)) in
-      let buys = sides-moved n firstMove away offer (later-stamp (stamp n firstMove) above (sides .ownInRange)) (sides-later sides (omega (arith, above))) in
-      let both = sides-moved n after away bid (later-stamp (stamp n after) above (sides .oppositeInRange)) (sides-flip true buys) in
-      sides-sound (withAway away (withAccepted n time (b .held))) isOpen opened inTime bid offer false both
+      let prices = sound-prices b c accepted in
+      let new = later-stamp (stamp n firstMove) above (sides .ownInRange) in
+      let buys = sides-settled n firstMove (fateBy c true) (set-same c true) (prices true) new (sides-later sides (omega (arith, above))) in
+      sides-settled n k (fateBy c false) (set-same c false) (prices false) (later-stamp (stamp n k) above (sides .oppositeInRange)) (sides-flip true buys)
 
-  close-sound : Sound (close n time b .book)
-  unfolding close every distinct inRankOrder apart
-  close-sound = record {
-    buysFit = omega arith;
-    sellsFit = omega arith;
-    buysRanked = refl;
-    sellsRanked = refl;
-    inRange = refl;
-    once = refl;
-    isApart = refl;
-    opened = opened;
-    inTime = inTime;
-    bid = s .bid;
-    offer = s .offer;
-    closedEmpty = refl;
-  }
+  cancel-sound : (of : Number) → firstOf (bodyRefusals b (body.Cancel of)) ≡ 0 → Sound (does n time (body.Cancel of) b .book)
+  unfolding does carriedOut cancel bothSettled settled
+  cancel-sound of accepted =
+      sides-sound (withAccepted n time (b .held)) opened inTime (s .bid) (s .offer) isOpen false (both-sides (body.Cancel of) accepted _)
+
+  quote-sound : (away : Away) → firstOf (bodyRefusals b (body.Quote away)) ≡ 0 → Sound (does n time (body.Quote away) b .book)
+  unfolding does carriedOut quote bothSettled settled
+  quote-sound away accepted =
+      let ranged = accepted-quote b away accepted in
+      let held = withAway away (withAccepted n time (b .held)) in
+      sides-sound held opened inTime (locking-ranged false away ranged) (locking-ranged true away ranged) isOpen false (both-sides (body.Quote away) accepted _)
+
+  close-sound : Sound (does n time body.Close b .book)
+  close-sound =
+      let none = sides-thinned (sides-of true b s) (thinned-none (b .buys)) (thinned-none (b .sells)) in
+      rw (close-does n time b .0)
+      (buys-sound (shut (withAccepted n time (b .held))) opened inTime (s .bid) (s .offer) refl (sides-later none (omega (arith, next))))
 
   body-sound : (c : Body) → firstOf (bodyRefusals b c) ≡ 0 → Sound (does n time c b .book)
-  unfolding does
   body-sound (body.Order o) e = accept-sound o (accepted-order b o e)
-  body-sound (body.Cancel of) e = cancel-sound of
-  body-sound (body.Quote away) e = quote-sound away (accepted-quote b away e)
+  body-sound (body.Cancel of) e = cancel-sound of e
+  body-sound (body.Quote away) e = quote-sound away e
   body-sound body.Close e = close-sound
 
 pub does-sound : (b : Book) (c : Command) → sound b ≡ true → firstOf (lineRefusals b (reading.Is c)) ≡ 0 → sound (does (c .number) (c .time) (c .body) b .book) ≡ true

@@ -21,7 +21,7 @@ oneIf n h = if eqb n (h .number .0) then 1 else 0
 abbrev pub timesIn : ℕ → List Resting → ℕ
 timesIn n s = sumOf (oneIf n) s
 
-not-among-times : (n : ℕ) (s : List Resting) → any (eqb n) (numbers s) ≡ false → timesIn n s ≡ 0
+pub not-among-times : (n : ℕ) (s : List Resting) → any (eqb n) (numbers s) ≡ false → timesIn n s ≡ 0
 unfolding any sumOf
 not-among-times n [] e = refl
 not-among-times n (h ∷ s) e =
@@ -37,7 +37,7 @@ times-not-among n (h ∷ s) e =
     (λ (t : eqb n (h .number .0) ≡ false). rw t (times-not-among n s (omega (arith, rw t at e))))
     (holds-or-not (eqb n (h .number .0)))
 
-times-at-most : (s : List Resting) → distinct (numbers s) ≡ true → (n : ℕ) → timesIn n s ≤ 1
+pub times-at-most : (s : List Resting) → distinct (numbers s) ≡ true → (n : ℕ) → timesIn n s ≤ 1
 unfolding distinct sumOf
 times-at-most [] d n = omega arith
 times-at-most (h ∷ s) d n =
@@ -50,7 +50,7 @@ times-at-most (h ∷ s) d n =
     rw t (omega (arith, times-at-most s (and-right (not (any (eqb (h .number .0)) (numbers s))) (distinct (numbers s)) d) n)))
     (holds-or-not (eqb n (h .number .0)))
 
-at-most-times : (s : List Resting) → ((n : ℕ) → timesIn n s ≤ 1) → distinct (numbers s) ≡ true
+pub at-most-times : (s : List Resting) → ((n : ℕ) → timesIn n s ≤ 1) → distinct (numbers s) ≡ true
 unfolding distinct sumOf
 at-most-times [] once = refl
 at-most-times (h ∷ s) once =

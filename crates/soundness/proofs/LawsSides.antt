@@ -1,16 +1,16 @@
 -- The resting orders of a sound book, seen from the side of an order: its own side and the opposite one. What is thinned, and what
 -- gets one order more, stays sound. Assumes nothing.
-use Prim.Native.Nat.{ℕ, _≤_, _<_}
-use mathlib.Core.Bool.{Bool, true, false, not, _&&_}
+use Prim.Native.Nat.{ℕ, _+_, _≤_, _<_}
+use mathlib.Core.Bool.{Bool, true, false, not, _&&_, _||_}
 use mathlib.Core.List.{List, [], _∷_, _++_}
 use mathlib.Core.Path.{_≡_, refl}
 use lib.Dec.{eqb, leb}
 use lib.ListN.{length}
 use native.Mathlib.Omega.{arith}
 use borrow.Author.Tests.{le-leb, leb-true, ne-eqb}
-use Rattle.basics.proofs.LawsLists.{all-alike, all-both}
+use Rattle.basics.proofs.LawsLists.{all-alike, all-both, sumOf-append}
 use Rattle.basics.specs.Choice.{if_then_else_}
-use Rattle.basics.specs.Lists.{every, any, distinct, All, none, also}
+use Rattle.basics.specs.Lists.{every, any, distinct, sumOf, All, none, also}
 use Rattle.basics.proofs.LawsChoice.{and-left, and-right}
 use Rattle.kinds.specs.declared.Number.{Number}
 use Rattle.kinds.specs.Kinds.{mostShares, priceInRange, sharesInRange}
@@ -19,7 +19,8 @@ use Rattle.rules.specs.declared.Held.{Held}
 use Rattle.rules.specs.declared.Resting.{Resting}
 use Rattle.rules.specs.declared.Stamp.{Stamp}
 use Rattle.rules.specs.Book.{numbers, Book, placesASide, opening, closing, earlier, inRankOrder, stampInRange, restingInRange, awayInRange}
-use Rattle.rules.specs.Working.{withShares, ownSide, oppositeSide, insert}
+use Rattle.rules.specs.Settling.{ownSide, oppositeSide, insert}
+use Rattle.rules.specs.Working.{withShares}
 use Rattle.soundness.proofs.LawsApart.{Beyond, Apart, apart-all, apart-best, apart-flip, apart-thinned}
 use Rattle.soundness.proofs.LawsInsert.{Added, added-insert, added-before, added-behind, added-length, added-all, added-distinct, ranked-insert}
 use Rattle.soundness.proofs.LawsRank.{earlier-command}
@@ -91,6 +92,11 @@ ranges-every last (also {x = h} r a) = rw (is-range last h r) (ranges-every last
 abbrev pub bothSides : Bool → List Resting → List Resting → List Resting
 bothSides buy own opposite = if buy then own ++ opposite else opposite ++ own
 
+pub sides-sum : (count : Resting → ℕ) (buy : Bool) (own opposite : List Resting)
+    → sumOf count (bothSides buy own opposite) ≡ sumOf count own + sumOf count opposite
+sides-sum count true own opposite = sumOf-append count own opposite
+sides-sum count false own opposite = omega (arith, sumOf-append count opposite own)
+
 pub record Sides (buy : Bool) (last : Number) (own opposite : List Resting) : Type 0 where
   pub ownFits : length own ≤ placesASide
   pub oppositeFits : length opposite ≤ placesASide
@@ -140,11 +146,12 @@ pub sides-of : (buy : Bool) (b : Book) → Sound b → Sides buy (b .held .last)
 sides-of true b s = sides-of-buys b s
 sides-of false b s = sides-flip true (sides-of-buys b s)
 
--- an open book of such sides, in the session, is sound
-module _ (h : Held) (isOpen : h .closed ≡ false) (opened : leb opening (h .time) ≡ true) (inTime : leb (h .time) closing ≡ true)
+-- a book of such sides, in the session, is sound, if it has no order where it is closed
+module _ (h : Held) (opened : leb opening (h .time) ≡ true) (inTime : leb (h .time) closing ≡ true)
     (bid : awayInRange (h .away .bid) ≡ true) (offer : awayInRange (h .away .offer) ≡ true) where
-  buys-sound : {buys sells : List Resting} → Sides true (h .last) buys sells → Sound (record { held = h; buys = buys; sells = sells })
-  buys-sound {buys = buys} {sells = sells} s = record {
+  pub buys-sound : {buys sells : List Resting} → (not (h .closed) || eqb (length (buys ++ sells)) 0) ≡ true → Sides true (h .last) buys sells
+      → Sound (record { held = h; buys = buys; sells = sells })
+  buys-sound {buys = buys} {sells = sells} closedEmpty s = record {
     buysFit = s .ownFits;
     sellsFit = s .oppositeFits;
     buysRanked = s .ownRanked;
@@ -156,13 +163,13 @@ module _ (h : Held) (isOpen : h .closed ≡ false) (opened : leb opening (h .tim
     inTime = inTime;
     bid = bid;
     offer = offer;
-    closedEmpty = rw isOpen refl;
+    closedEmpty = closedEmpty;
   }
 
-  pub sides-sound : (buy : Bool) {own opposite : List Resting} → Sides buy (h .last) own opposite
+  pub sides-sound : h .closed ≡ false → (buy : Bool) {own opposite : List Resting} → Sides buy (h .last) own opposite
       → Sound (record { held = h; buys = if buy then own else opposite; sells = if buy then opposite else own })
-  sides-sound true s = buys-sound s
-  sides-sound false s = buys-sound (sides-flip false s)
+  sides-sound isOpen true s = buys-sound (rw isOpen refl) s
+  sides-sound isOpen false s = buys-sound (rw isOpen refl) (sides-flip false s)
 
 -- ── What keeps them ──
 

@@ -1,21 +1,22 @@
--- Executions, cancels and a close do nothing to resting orders but take some away and lower the shares of others. Whatever does
--- no more keeps what a sound book says of them: rank, ranges, numbers, the distance between the sides. Assumes nothing.
+-- Executions do nothing to resting orders but take some away and lower the shares of others. Whatever does no more keeps what a
+-- sound book says of them: rank, ranges, numbers, the distance between the sides. Assumes nothing.
 use Prim.Native.Nat.{ℕ, _-_, _≤_}
-use mathlib.Core.Bool.{Bool, true, false, not}
-use mathlib.Core.List.{List, [], _∷_, _++_, map}
+use mathlib.Core.Bool.{Bool, true, false}
+use mathlib.Core.List.{List, [], _∷_, _++_}
 use mathlib.Core.Logic.{⊎-elim}
 use mathlib.Core.Path.{_≡_, refl, sym, _∙_}
 use lib.Dec.{eqb}
 use lib.ListN.{length}
 use native.Mathlib.Omega.{arith}
-use borrow.Author.Tests.{eqb-false, not-true}
+use borrow.Author.Tests.{eqb-false}
 use Rattle.basics.proofs.LawsLists.{all-alike}
-use Rattle.basics.specs.Lists.{any, distinct, All, none, also}
-use Rattle.basics.proofs.LawsChoice.{holds-or-not, and-left, and-right, or-neither}
+use Rattle.basics.specs.Lists.{distinct, sumOf, All, none, also}
+use Rattle.basics.proofs.LawsChoice.{holds-or-not}
 use Rattle.kinds.specs.Kinds.{shares}
 use Rattle.rules.specs.declared.Resting.{Resting}
 use Rattle.rules.specs.Book.{numbers, ranksBefore, inRankOrder}
-use Rattle.rules.specs.Working.{withShares, after, kept}
+use Rattle.rules.specs.Working.{withShares, after}
+use Rattle.soundness.proofs.LawsNumbers.{timesIn, fewer-distinct}
 use Rattle.soundness.proofs.LawsRank.{ranked-first, ranked-rest, ranked-more}
 
 -- orders of which some are taken away and others keep some of their shares
@@ -45,15 +46,6 @@ thinned-after (t ∷ ts) (also {x = h} {s = s} p a) =
     let n = eqb-false (h .shares .0 - t) 0 e in
     rw e (keeps {h = h} (h .shares .0 - t) (omega (arith, n)) (omega arith) (thinned-after ts a)))
     (holds-or-not (eqb (h .shares .0 - t) 0))
-
-pub thinned-kept : (gone : Resting → Bool) {s : List Resting} → All (λ (h : Resting). 1 ≤ h .shares .0) s → Thinned s (kept gone s)
-unfolding kept
-thinned-kept gone none = empty
-thinned-kept gone (also {x = h} {s = s} p a) =
-    ⊎-elim
-    (λ (e : gone h ≡ true). rw e (away (thinned-kept gone a)))
-    (λ (e : gone h ≡ false). rw e (keeps {h = h} (h .shares .0) p (omega arith) (thinned-kept gone a)))
-    (holds-or-not (gone h))
 
 pub thinned-both : {s r u v : List Resting} → Thinned s r → Thinned u v → Thinned (s ++ u) (r ++ v)
 thinned-both empty b = b
@@ -92,22 +84,12 @@ thinned-ranked buy (keeps {h = h} {s = s} {r = r} left l m a) o =
     (thinned-all {P = λ (y : Resting). ranksBefore buy h y ≡ true} (λ y k lo hi p. sym (same-rank buy h y k) ∙ p) a (ranked-first buy h s o)))
     (thinned-ranked buy a (ranked-rest buy h s o))
 
--- numbers that stand once stand at most once after
-abbrev numberOf : Resting → ℕ
-numberOf h = h .number .0
-
-not-among : (n : ℕ) {s r : List Resting} → Thinned s r → any (eqb n) (map numberOf s) ≡ false → any (eqb n) (map numberOf r) ≡ false
-unfolding any
-not-among n empty e = e
-not-among n (away {h = h} {s = s} a) e = not-among n a (or-neither (eqb n (h .number .0)) (any (eqb n) (map numberOf s)) e .1)
-not-among n (keeps {h = h} {s = s} left l m a) e =
-    let both = or-neither (eqb n (h .number .0)) (any (eqb n) (map numberOf s)) e in
-    rw (both .0) (not-among n a (both .1))
+-- no number stands more often
+thinned-times : (n : ℕ) {s r : List Resting} → Thinned s r → timesIn n r ≤ timesIn n s
+unfolding sumOf
+thinned-times n empty = omega arith
+thinned-times n (away a) = omega (arith, thinned-times n a)
+thinned-times n (keeps left l m a) = omega (arith, thinned-times n a)
 
 pub thinned-distinct : {s r : List Resting} → Thinned s r → distinct (numbers s) ≡ true → distinct (numbers r) ≡ true
-unfolding distinct
-thinned-distinct empty d = d
-thinned-distinct (away {h = h} {s = s} a) d = thinned-distinct a (and-right (not (any (eqb (h .number .0)) (map numberOf s))) (distinct (map numberOf s)) d)
-thinned-distinct (keeps {h = h} {s = s} left l m a) d =
-    let others = not-true (any (eqb (h .number .0)) (map numberOf s)) (and-left (not (any (eqb (h .number .0)) (map numberOf s))) (distinct (map numberOf s)) d) in
-    rw (not-among (h .number .0) a others) (thinned-distinct a (and-right (not (any (eqb (h .number .0)) (map numberOf s))) (distinct (map numberOf s)) d))
+thinned-distinct {s = s} {r = r} a d = fewer-distinct s r (λ n. thinned-times n a) d

@@ -1,4 +1,5 @@
 pub mod LawsRank
+pub mod LawsNumbers
 pub mod LawsThinned
 pub mod LawsApart
 pub mod LawsInsert
@@ -8,8 +9,7 @@ pub mod LawsRests
 pub mod LawsSound
 pub mod LawsAccepted
 pub mod LawsSides
-pub mod LawsNumbers
-pub mod LawsMoves
+pub mod LawsSettled
 pub mod LawsEndings
 pub mod LawsOrder
 pub mod LawsKept

@@ -1,5 +1,6 @@
 -- The two kinds of answer: a refusal leaves all as it was, and an accepted command does what 01 says. Assumes nothing.
 use Prim.Native.Nat.{ℕ, _<_}
+use mathlib.Core.Bool.{true}
 use mathlib.Core.List.{List, []}
 use mathlib.Core.Path.{_≡_, sym, ap, _∙_}
 use lib.ListN.{length}
@@ -8,14 +9,15 @@ use borrow.Author.Tests.{ne-eqb}
 use Rattle.basics.specs.Bytes.{onto}
 use Rattle.basics.proofs.LawsBytes.{onto-none}
 use Rattle.kinds.specs.declared.Number.{Number}
-use Rattle.rows.specs.Table.{tableOf}
-use Rattle.rows.proofs.LawsTable.{length-side}
+use Rattle.rows.specs.Table.{side, Shows}
+use Rattle.rows.proofs.LawsSides.{length-side, holds-shows, shown-same}
 use Rattle.rules.specs.declared.Body.{Body}
-use Rattle.rules.specs.Book.{Book}
+use Rattle.rules.specs.Book.{Book, sound}
 use Rattle.rules.specs.EventLines.{eventLines}
 use Rattle.rules.specs.Refusals.{firstOf, bodyRefusals}
 use Rattle.rules.specs.Step.{Answer, answer, doneBy}
-use Rattle.rules.specs.Working.{Done, does}
+use Rattle.rules.specs.Commands.{does}
+use Rattle.rules.specs.Settling.{Done}
 use Rattle.tables.specs.declared.Head.{Head}
 use Rattle.tables.specs.Tables.{bookOn, headOf}
 use Rattle.tables.specs.declared.Step.{Step}
@@ -38,38 +40,51 @@ module _ (n : Number) (time : ℕ) (body : Body) (b : Book) where
   unfolding bodyAnswer answer doneBy
   body-done e = rw e
 
--- ── In a header and two tables ──
+-- ── In a header and two sides that are lent ──
 
--- what is left of an answer is fixed by it: the step, both tables and the bytes
-pub left-determined : (out : List ℕ) (a : Answer) {r r′ : Step} {t t′ u u′ : List (List ℕ)} {o o′ : List ℕ} → Left r t u o out a → Left r′ t′ u′ o′ out a
-    → (r ≡ r′) × (t ≡ t′) × (u ≡ u′) × (o ≡ o′)
-left-determined out a p q = (p .0 ∙ sym (q .0), p .1 .0 ∙ sym (q .1 .0), p .1 .1 .0 ∙ sym (q .1 .1 .0), p .1 .1 .1 ∙ sym (q .1 .1 .1))
+-- what is left of an answer is fixed by it: the step, both sides and the bytes
+pub left-determined : (out : List ℕ) (a : Answer) {r r′ : Step} {x x′ y y′ : List ℕ} {t t′ u u′ : List (List ℕ)} {o o′ : List ℕ}
+    → Left r x t y u o out a → Left r′ x′ t′ y′ u′ o′ out a
+    → (r ≡ r′) × (side (r .head .buys) x t ≡ side (r .head .buys) x′ t′) × (side (r .head .sells) y u ≡ side (r .head .sells) y′ u′) × (o ≡ o′)
+left-determined out a p q =
+    (p .0 ∙ sym (q .0), rw (p .0) (shown-same (p .1 .0) (q .1 .0)), rw (p .0) (shown-same (p .1 .1 .0) (q .1 .1 .0)), p .1 .1 .1 ∙ sym (q .1 .1 .1))
 
-module _ (h : Head) (t u : List (List ℕ)) (stands : Stands h t u) where
+module _ (h : Head) (x : List ℕ) (t : List (List ℕ)) (y : List ℕ) (u : List (List ℕ)) where
   -- the header of the book that stands there
-  pub head-same : h ≡ headOf (bookOn h t u)
-  head-same = rw (length-side (h .buys) t (stands .buys), length-side (h .sells) u (stands .sells))
+  pub head-same : h ≡ headOf (bookOn h x t y u)
+  head-same = rw (length-side (h .buys) x t, length-side (h .sells) y u)
 
   -- "A refusal returns its number and length 0; book and output bytes are untouched."
-  pub left-refused : (k : ℕ) (out : List ℕ) (a : Answer) → a ≡ refusedWith k (bookOn h t u) → Left (record { refusal = k; head = h; length = 0 }) t u out out a
+  pub left-refused : Stands h x t y u → (k : ℕ) (out : List ℕ) (a : Answer) → a ≡ refusedWith k (bookOn h x t y u)
+      → Left (record { refusal = k; head = h; length = 0 }) x t y u out out a
   unfolding eventLines
-  left-refused k out a e =
-      rw e
-      (ap (λ (x : Head). the-step k x) head-same, (stands .buys .table, (stands .sells .table, onto-none out)))
+  left-refused stands k out a e =
+      rw e (
+        ap (λ (g : Head). the-step k g) head-same,
+        (holds-shows (h .buys) x t (stands .buys), (holds-shows (h .sells) y u (stands .sells), onto-none out)),
+      )
     where
       the-step : ℕ → Head → Step
-      the-step k x = record { refusal = k; head = x; length = 0 }
+      the-step k g = record { refusal = k; head = g; length = 0 }
 
--- ── An accepted command, in a header and two tables ──
+-- a book that two sides show, with its header, stands there again
+module _ (b : Book) (x : List ℕ) (t : List (List ℕ)) (y : List ℕ) (u : List (List ℕ)) (buys : Shows (b .buys) x t) (sells : Shows (b .sells) y u) where
+  pub book-back : bookOn (headOf b) x t y u ≡ b
+  book-back = rw (buys .is, sells .is)
+
+  pub stands-back : sound b ≡ true → Stands (headOf b) x t y u
+  stands-back s = record { buys = buys .holds; sells = sells .holds; isSound = ap sound book-back ∙ s }
+
+-- ── An accepted command, in a header and two sides that are lent ──
 
 pub step-done : (d : Done) (h : Head) (len : ℕ) (a : Answer) → a ≡ doneWith d → h ≡ headOf (d .book) → len ≡ length (eventLines (d .events))
     → record { refusal = 0; head = h; length = len } ≡ stepOf a
 step-done d h len a e head long = rw (e, head, long)
 
-pub left-done : (d : Done) (h : Head) (len : ℕ) (t u : List (List ℕ)) (out′ out : List ℕ) (a : Answer) → a ≡ doneWith d
-    → h ≡ headOf (d .book) → len ≡ length (eventLines (d .events)) → t ≡ tableOf (d .book .buys) → u ≡ tableOf (d .book .sells)
-    → out′ ≡ onto (eventLines (d .events)) out → Left (record { refusal = 0; head = h; length = len }) t u out′ out a
-left-done d h len t u out′ out a e head long buys sells written =
+pub left-done : (d : Done) (h : Head) (len : ℕ) (x : List ℕ) (t : List (List ℕ)) (y : List ℕ) (u : List (List ℕ)) (out′ out : List ℕ) (a : Answer)
+    → a ≡ doneWith d → h ≡ headOf (d .book) → len ≡ length (eventLines (d .events)) → Shows (d .book .buys) x t → Shows (d .book .sells) y u
+    → out′ ≡ onto (eventLines (d .events)) out → Left (record { refusal = 0; head = h; length = len }) x t y u out′ out a
+left-done d h len x t y u out′ out a e head long buys sells written =
     let step = step-done d h len a e head long in
     (step, rw e (buys, (sells, written)))
 

@@ -1,4 +1,4 @@
--- A command to a sound book that stands in a header and two tables, with room for its lines: the answer of 01, and the same in a
+-- A command to a sound book that stands in a header and two sides that are lent, with room for its lines: the answer of 01, and the same in a
 -- header and numbers.
 use Prim.Native.Nat.{ℕ}
 use mathlib.Core.Bool.{true}
@@ -7,7 +7,7 @@ use mathlib.Core.Path.{_≡_}
 use lib.ListN.{length}
 use Rattle.basics.specs.Bytes.{onto}
 use Rattle.kinds.specs.declared.Number.{Number}
-use Rattle.rows.specs.Table.{tableOf, Holds}
+use Rattle.rows.specs.Table.{Shows, Holds}
 use Rattle.rules.specs.declared.Body.{Body}
 use Rattle.rules.specs.declared.Command.{Command}
 use Rattle.rules.specs.declared.Reading.the-variants as reading
@@ -30,14 +30,14 @@ bodyAnswer n time body b = answer (firstOf (bodyRefusals b body)) (reading.Is (r
 abbrev pub stepOf : Answer → Step
 stepOf a = record { refusal = a .refusal; head = headOf (a .book); length = length (eventLines (a .events)) }
 
--- what a command leaves of a book in a header and two tables: `a` is 01's answer, `t` and `u` are the tables afterwards, and `out′` is what is
--- then in the output, where `out` was
-abbrev pub Left : Step → List (List ℕ) → List (List ℕ) → List ℕ → List ℕ → Answer → Type 0
-Left r t u out′ out a =
-    (r ≡ stepOf a) × ((t ≡ tableOf (a .book .buys)) × ((u ≡ tableOf (a .book .sells)) × (out′ ≡ onto (eventLines (a .events)) out)))
+-- what a command leaves of a book in a header and two sides that are lent: `a` is 01's answer, `x` and `t` then hold the buys, `y` and `u` the
+-- sells, and `out′` is what is then in the output, where `out` was
+abbrev pub Left : Step → List ℕ → List (List ℕ) → List ℕ → List (List ℕ) → List ℕ → List ℕ → Answer → Type 0
+Left r x t y u out′ out a =
+    (r ≡ stepOf a) × (Shows (a .book .buys) x t × (Shows (a .book .sells) y u × (out′ ≡ onto (eventLines (a .events)) out)))
 
--- a sound book stands in a header and two tables
-pub record Stands (h : Head) (t u : List (List ℕ)) : Type 0 where
-  pub buys : Holds (h .buys) t
-  pub sells : Holds (h .sells) u
-  pub isSound : sound (bookOn h t u) ≡ true
+-- a sound book stands in a header and two sides that are lent
+pub record Stands (h : Head) (x : List ℕ) (t : List (List ℕ)) (y : List ℕ) (u : List (List ℕ)) : Type 0 where
+  pub buys : Holds (h .buys) x t
+  pub sells : Holds (h .sells) y u
+  pub isSound : sound (bookOn h x t y u) ≡ true

@@ -1,6 +1,6 @@
 -- The tally agrees with demand 3: of a day's own lines it gives, for each accepted order, the executed and the cancelled shares of the
 -- conserved sums, and nothing stops it. Assumes nothing.
-use Prim.Native.Nat.{ℕ, _+_, _^_, _≤_, _<_}
+use Prim.Native.Nat.{ℕ, _+_, _≤_}
 use mathlib.Core.Bool.{true, false}
 use mathlib.Core.List.{List, [], _∷_, _++_, append-assoc}
 use mathlib.Core.Logic.{⊎-elim}

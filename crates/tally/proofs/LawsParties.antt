@@ -1,7 +1,7 @@
 -- The two orders of an execution are two: on a day of our own no line names one number twice, so counting a line once or once for each
 -- role comes to the same. Assumes nothing.
 use Prim.Native.Nat.{ℕ, _+_}
-use mathlib.Core.Bool.{Bool, true, false}
+use mathlib.Core.Bool.{true, false}
 use mathlib.Core.List.{List, [], _∷_}
 use mathlib.Core.Logic.{_≢_, ⊎-elim}
 use mathlib.Core.Path.{_≡_, refl, sym, _∙_}
@@ -12,25 +12,26 @@ use Rattle.basics.specs.Lists.{sumOf, All, none, also}
 use Rattle.basics.proofs.LawsChoice.{holds-or-not}
 use Rattle.basics.proofs.LawsLists.{all-alike, all-both}
 use Rattle.kinds.specs.declared.Number.{Number}
-use Rattle.rules.specs.declared.Away.{Away}
 use Rattle.rules.specs.declared.Body.{Body}
 use Rattle.rules.specs.declared.Body.the-variants as body
-use Rattle.rules.specs.declared.Ending.{Ending}
-use Rattle.rules.specs.declared.Ending.the-variants.{Filled, Rests, Cancels}
 use Rattle.rules.specs.declared.Event.{Event}
 use Rattle.rules.specs.declared.Event.the-variants.{Executed, Rested, Cancelled, Moved}
+use Rattle.rules.specs.declared.Order.{Order}
 use Rattle.rules.specs.declared.Reading.{Reading}
 use Rattle.rules.specs.declared.Reading.the-variants as reading
 use Rattle.rules.specs.declared.Resting.{Resting}
 use Rattle.rules.specs.Book.{Book, sound}
 use Rattle.rules.specs.CommandLines.{commandIn}
-use Rattle.rules.specs.EventLines.{byCommand, atClose}
+use Rattle.rules.specs.Commands.{carriedOut, does}
+use Rattle.rules.specs.Settling.{oppositeSide}
 use Rattle.rules.specs.Step.{doneBy, answer, answerTo}
-use Rattle.rules.specs.Working.{buying, oppositeSide, executions, lastLine, takings, remainder, ending, cancels, isNumber, wouldNowCross, moveLines, accept, cancel, quote, close, does}
+use Rattle.rules.specs.Working.{buying, executions, takings, remainder, ending, accept}
+use Rattle.rules.proofs.LawsCommands.{does-tells}
 use Rattle.soundness.proofs.LawsSides.{sides-of}
 use Rattle.soundness.proofs.LawsSound.{sound-is}
 use Rattle.demands.specs.Once.{commandNumber, acts}
 use Rattle.demands.specs.Told.{executedBy}
+use Rattle.demands.proofs.LawsFairly.{every-told, every-last}
 use Rattle.demands.proofs.LawsOnce.{next-acts}
 use Rattle.tally.specs.Tally.{executedShares}
 
@@ -71,49 +72,25 @@ executions-two m (t ∷ ts) (also d a) =
     (λ (z : eqb t 0 ≡ false). rw z (also d (executions-two m ts a)))
     (holds-or-not (eqb t 0))
 
-cancels-two : (reason : ℕ) (gone : Resting → Bool) (s : List Resting) → All TwoParties (cancels reason gone s)
-unfolding cancels
-cancels-two reason gone [] = none
-cancels-two reason gone (h ∷ s) =
-    ⊎-elim
-    (λ (t : gone h ≡ true). rw t (also tt (cancels-two reason gone s)))
-    (λ (t : gone h ≡ false). rw t (cancels-two reason gone s))
-    (holds-or-not (gone h))
-
-moves-two : (buy : Bool) (away : Away) (s : List Resting) → All TwoParties (moveLines buy away s)
-unfolding moveLines
-moves-two buy away [] = none
-moves-two buy away (h ∷ s) =
-    ⊎-elim
-    (λ (t : wouldNowCross buy away h ≡ true).
-    ⊎-elim
-    (λ (c : h .back ≡ true). rw (t, c) (also tt (moves-two buy away s)))
-    (λ (c : h .back ≡ false). rw (t, c) (also tt (moves-two buy away s)))
-    (holds-or-not (h .back)))
-    (λ (t : wouldNowCross buy away h ≡ false). rw t (moves-two buy away s))
-    (holds-or-not (wouldNowCross buy away h))
-
-last-two : (n : Number) (left : ℕ) (e : Ending) → All TwoParties (lastLine n left e)
-last-two n left Filled = none
-last-two n left (Rests price) = also tt none
-last-two n left (Cancels reason) = also tt none
-
 -- the number of an accepted command is above that of every resting order
-does-two : (b : Book) (n : Number) (time : ℕ) (c : Body) → sound b ≡ true → n .0 ≡ b .held .last .0 + 1 → All TwoParties (does n time c b .events)
-unfolding does accept cancel quote close
-does-two b n time (body.Order o) s next =
-    let opposite = oppositeSide (buying o) b in
-    let sides = sides-of (buying o) b (sound-is b s) in
-    let new : All (λ (h : Resting). n .0 ≢ h .number .0) opposite = all-alike (λ h r. λ (z : n .0 ≡ h .number .0). omega (arith, z, r .upToLast, next)) (sides .oppositeInRange) in
-    all-both (executions-two n (takings o (b .held .away) opposite) new) (last-two n (remainder o (b .held .away) opposite) (ending o (b .held .away) opposite))
-does-two b n time (body.Cancel of) s next = all-both (cancels-two byCommand (isNumber of) (b .buys)) (cancels-two byCommand (isNumber of) (b .sells))
-does-two b n time (body.Quote away) s next = all-both (moves-two true away (b .buys)) (moves-two false away (b .sells))
-does-two b n time body.Close s next = all-both (cancels-two atClose (λ h. true) (b .buys)) (cancels-two atClose (λ h. true) (b .sells))
+does-two : (b : Book) (n : Number) (time : ℕ) → sound b ≡ true → n .0 ≡ b .held .last .0 + 1 → (c : Body) → All TwoParties (does n time c b .events)
+unfolding does carriedOut accept
+does-two b n time s next =
+    does-tells n time b (λ (c : Body) (es : List Event). All TwoParties es) order-two (λ c. every-told (λ m k reason. tt) (λ m price k. tt) c b)
+  where
+    order-two : (o : Order) → All TwoParties (does n time (body.Order o) b .events)
+    order-two o =
+        let opposite = oppositeSide (buying o) b in
+        let range = sides-of (buying o) b (sound-is b s) .oppositeInRange in
+        let new : All (λ (h : Resting). n .0 ≢ h .number .0) opposite =
+        all-alike (λ h r. λ (z : n .0 ≡ h .number .0). omega (arith, z, r .upToLast, next)) range in
+        all-both (executions-two n (takings o (b .held .away) opposite) new)
+        (every-last n (λ price k. tt) (λ k reason. tt) (remainder o (b .held .away) opposite) (ending o (b .held .away) opposite))
 
 done-two : (b : Book) (r : Reading) → sound b ≡ true → commandNumber r ≡ b .held .last .0 + 1 → All TwoParties (doneBy r b .events)
 unfolding doneBy
 done-two b reading.Bad s next = none
-done-two b (reading.Is c) s next = does-two b (c .number) (c .time) (c .body) s next
+done-two b (reading.Is c) s next = does-two b (c .number) (c .time) s next (c .body)
 
 pub line-two : (b : Book) (line : List ℕ) → sound b ≡ true → acts b line ≡ true → All TwoParties (answerTo b line .events)
 unfolding answerTo answer

@@ -1,158 +1,148 @@
--- Laws of where a walk stops: its turns over a table, and that it stands for the walk of 01. Assumes nothing.
-use Prim.Native.Nat.{ℕ, suc, _+_, _-_, _≤_, _<_, min}
+-- Laws of a walk over a side: its turns, what holds whenever the loop begins one, and its takings in the table. Assumes nothing.
+use Prim.Native.Nat.{ℕ, suc, _+_, _-_, _≤_, _<_}
 use mathlib.Core.Bool.{Bool, true, false}
-use mathlib.Core.List.{List, [], _∷_}
-use mathlib.Core.Logic.{⊎-elim}
-use mathlib.Core.Path.{_≡_, refl, ap}
-use lib.Dec.{ltb}
-use lib.ListN.{length, getD}
+use mathlib.Core.List.{List, [], _∷_, _++_, map, append-assoc, append-nil}
+use mathlib.Core.Path.{_≡_, refl, sym, ap, _∙_}
+use lib.Dec.{eqb}
+use lib.ListN.{length, getD, set, drop, length-append, length-map, drop-of-length-le}
+use lib.Seq.{drop-cons, drop-drop, take-at, drop-at, set-split}
+use native.Mathlib.Numerals.{add-one}
 use native.Mathlib.Omega.{arith}
-use borrow.Author.Tests.{lt-ltb, le-ltb, ltb-true}
+use borrow.Author.Tests.{ne-eqb}
 use Rattle.basics.specs.Choice.{if_then_else_}
 use Rattle.basics.specs.Lists.{total, All, none, also}
-use Rattle.basics.proofs.LawsChoice.{holds-or-not, lt-or-le}
+use Rattle.basics.proofs.LawsLists.{map-append}
+use Rattle.kinds.specs.Kinds.{shares}
 use Rattle.rules.specs.declared.Resting.{Resting}
 use Rattle.rules.specs.Book.{unused}
 use Rattle.rules.specs.Working.{nothing, walk, smaller}
 use Rattle.rules.proofs.LawsTakings.{nothing-total}
-use Rattle.rows.specs.Table.{orderOf}
-use Rattle.rows.proofs.LawsTable.{ahead, ahead-end, ahead-next}
-use Rattle.walk.specs.Walk.{stop, stopOf, tookTo}
+use Rattle.walk.specs.declared.Taking.{Taking}
+use Rattle.walk.specs.Walk.{taking, takingsFrom, reached, takingsOf, walkedOf, takingRow, laid, laidAt}
+use Rattle.walk.proofs.LawsTakings.{length-taking, takings-nothing, walk-nothing}
 
--- ── One turn of the loop that walks the first n rows of a table ──
+-- ── The turns of a walk ──
 
-module _ (may : Resting → Bool) (n : ℕ) (t : List (List ℕ)) (at want : ℕ) (whole : n ≤ length t) where
-  pub stop-end : n ≤ at → stopOf may at want (ahead n t at) ≡ stop at 0 want
-  unfolding stopOf
-  stop-end l = rw (ahead-end n t at whole l)
+pub record Outcome : Type 0 where
+  pub took : List Taking
+  pub left : ℕ
+  pub at : ℕ
 
-  module _ (l : at < n) (o : Resting) (e : o ≡ orderOf (getD t at [])) where
-    pub stop-beyond : may o ≡ false → stopOf may at want (ahead n t at) ≡ stop at 0 want
-    unfolding stopOf
-    stop-beyond m = rw (ahead-next n t at whole l o e, m)
+-- what a walk comes to that has the takings ks, from rank `at` on
+unfoldable pub outcome : (Resting → Bool) → List Taking → ℕ → ℕ → List Resting → Outcome
+outcome may ks at left s =
+    let gs = walk may smaller left s in
+    record { took = ks ++ takingsFrom at s gs; left = left - total gs; at = at + reached may left s }
 
-    pub stop-part : may o ≡ true → want < o .shares .0 → stopOf may at want (ahead n t at) ≡ stop at want 0
-    unfolding stopOf
-    stop-part m k = rw (ahead-next n t at whole l o e, m, lt-ltb want (o .shares .0) k)
+module _ (may : Resting → Bool) (ks : List Taking) (at left : ℕ) where
+  -- the walk is over
+  abbrev Over : List Resting → Type 0
+  Over s = outcome may ks at left s ≡ record { took = ks; left = left; at = at }
 
-    pub stop-whole : may o ≡ true → o .shares .0 ≤ want
-        → stopOf may at want (ahead n t at) ≡ stopOf may (at + 1) (want - o .shares .0) (ahead n t (at + 1))
-    unfolding stopOf
-    stop-whole m k = rw (ahead-next n t at whole l o e, m, le-ltb want (o .shares .0) k)
+  over : (s : List Resting) → walk may smaller left s ≡ nothing s → reached may left s ≡ 0 → Over s
+  unfolding outcome
+  over s e r =
+      let l : left - 0 ≡ left = omega arith in
+      let i : at + 0 ≡ at = omega arith in
+      rw (e, r, takings-nothing at s, nothing-total s, append-nil ks, l, i)
 
--- ── The walk that a stop stands for ──
+  over-end : Over []
+  unfolding walk nothing reached
+  over-end = over [] refl refl
 
-module _ (may : Resting → Bool) where
-  -- with nothing left nobody gives
-  walk-nothing : (s : List Resting) → walk may smaller 0 s ≡ nothing s
-  unfolding walk nothing
-  walk-nothing [] = refl
-  walk-nothing (h ∷ s) =
-      let e : min 0 (h .shares .0) ≡ 0 = omega arith in
-      ⊎-elim
-      (λ (t : may h ≡ true). rw (t, e) (ap (λ (l : List ℕ). 0 ∷ l) (walk-nothing s)))
-      (λ (t : may h ≡ false). rw t)
-      (holds-or-not (may h))
+  over-none : left ≡ 0 → (s : List Resting) → Over s
+  unfolding reached
+  over-none z s = over s (rw z (walk-nothing may s)) (rw z (none-reached s))
+    where
+      none-reached : (s : List Resting) → reached may 0 s ≡ 0
+      none-reached [] = refl
+      none-reached (h ∷ s) = refl
 
-  stop-later : (i want : ℕ) (s : List Resting) → i ≤ stopOf may i want s .at
-  unfolding stopOf
-  stop-later i want [] = omega arith
-  stop-later i want (h ∷ s) =
-      ⊎-elim
-      (λ (t : may h ≡ true).
-      ⊎-elim
-      (λ (u : ltb want (h .shares .0) ≡ true). rw (t, u) (omega arith))
-      (λ (u : ltb want (h .shares .0) ≡ false). rw (t, u) (omega (arith, stop-later (i + 1) (want - h .shares .0) s)))
-      (holds-or-not (ltb want (h .shares .0))))
-      (λ (t : may h ≡ false). rw t (omega arith))
-      (holds-or-not (may h))
+  module _ (h : Resting) (s : List Resting) (p : 0 < left) where
+    some : eqb left 0 ≡ false
+    some = ne-eqb left 0 (λ z. omega arith)
 
-  -- what the loop leaves stands for the walk's takings
-  stop-walk-from : (i want : ℕ) (s : List Resting)
-      → tookTo (stopOf may i want s .at - i) (stopOf may i want s .part .0) s ≡ walk may smaller want s
-  unfolding stopOf tookTo walk nothing
-  stop-walk-from i want [] = refl
-  stop-walk-from i want (h ∷ s) =
-      let z : i - i ≡ 0 = omega arith in
-      ⊎-elim
-      (λ (t : may h ≡ true).
-      ⊎-elim
-      (λ (l : want < h .shares .0).
-      let m : min want (h .shares .0) ≡ want = omega arith in
-      let n : want - want ≡ 0 = omega arith in
-      rw (t, lt-ltb want (h .shares .0) l, z, m, n, walk-nothing s))
-      (λ (l : h .shares .0 ≤ want).
-      let m : min want (h .shares .0) ≡ h .shares .0 = omega arith in
-      let k : stopOf may (i + 1) (want - h .shares .0) s .at - i ≡ suc (stopOf may (i + 1) (want - h .shares .0) s .at - (i + 1)) =
-      omega (arith, stop-later (i + 1) (want - h .shares .0) s) in
-      rw (t, le-ltb want (h .shares .0) l, k, m) (ap (λ (x : List ℕ). h .shares .0 ∷ x) (stop-walk-from (i + 1) (want - h .shares .0) s)))
-      (lt-or-le want (h .shares .0)))
-      (λ (t : may h ≡ false). rw (t, z))
-      (holds-or-not (may h))
+    over-beyond : may h ≡ false → Over (h ∷ s)
+    unfolding walk reached
+    over-beyond t = over (h ∷ s) (rw t) (rw (some, t))
 
-  pub stop-walk : (want : ℕ) (s : List Resting) → tookTo (stopOf may 0 want s .at) (stopOf may 0 want s .part .0) s ≡ walk may smaller want s
-  stop-walk want s =
-      let z : stopOf may 0 want s .at - 0 ≡ stopOf may 0 want s .at = omega arith in
-      rw z at (stop-walk-from 0 want s)
+    turn : may h ≡ true → outcome may ks at left (h ∷ s) ≡ outcome may (ks ++ taking at h (smaller left h)) (at + 1) (left - smaller left h) s
+    unfolding outcome takingsFrom walk reached total
+    turn t =
+        let g = smaller left h in
+        let rest = walk may smaller (left - g) s in
+        let l : left - (g + total rest) ≡ left - g - total rest = omega arith in
+        let i : at + suc (reached may (left - g) s) ≡ at + 1 + reached may (left - g) s = omega arith in
+        rw (t, some, l, i, append-assoc ks (taking at h g) (takingsFrom (at + 1) s rest))
 
-  -- and the shares remaining are those that the walk did not take
-  pub stop-left : (i want : ℕ) (s : List Resting) → stopOf may i want s .left .0 ≡ want - total (walk may smaller want s)
-  unfolding stopOf walk total
-  stop-left i want [] = omega arith
-  stop-left i want (h ∷ s) =
-      ⊎-elim
-      (λ (t : may h ≡ true).
-      ⊎-elim
-      (λ (l : want < h .shares .0). rw (t, lt-ltb want (h .shares .0) l) (omega arith))
-      (λ (l : h .shares .0 ≤ want).
-      let m : min want (h .shares .0) ≡ h .shares .0 = omega arith in
-      rw (t, le-ltb want (h .shares .0) l, m) (omega (arith, stop-left (i + 1) (want - h .shares .0) s)))
-      (lt-or-le want (h .shares .0)))
-      (λ (t : may h ≡ false). rw t (omega (arith, nothing-total (h ∷ s))))
-      (holds-or-not (may h))
+-- ── The loop ──
 
-  -- it stops within the side, and where it takes a part, that order keeps some
-  pub stop-within : (i want : ℕ) (s : List Resting) → stopOf may i want s .at ≤ i + length s
-  unfolding stopOf
-  stop-within i want [] = omega arith
-  stop-within i want (h ∷ s) =
-      ⊎-elim
-      (λ (t : may h ≡ true).
-      ⊎-elim
-      (λ (u : ltb want (h .shares .0) ≡ true). rw (t, u) (omega arith))
-      (λ (u : ltb want (h .shares .0) ≡ false). rw (t, u) (omega (arith, stop-within (i + 1) (want - h .shares .0) s)))
-      (holds-or-not (ltb want (h .shares .0))))
-      (λ (t : may h ≡ false). rw t (omega arith))
-      (holds-or-not (may h))
+pub laid-one : (k : ℕ) (r : List ℕ) (took : List (List ℕ)) → k < length took → set took k r ≡ laidAt k (r ∷ []) took
+laid-one k r took l = set-split took k r l ∙ rw (drop-drop 1 k took, add-one k)
 
-  -- where it takes a part, there is an order at the place, and that order keeps some
-  stop-keeps-from : (i want : ℕ) (s : List Resting) → 0 < stopOf may i want s .part .0
-      → (stopOf may i want s .at - i < length s) × (stopOf may i want s .part .0 < getD s (stopOf may i want s .at - i) unused .shares .0)
-  unfolding stopOf
-  stop-keeps-from i want [] p = let z : ⊥ = omega arith in absurd z
-  stop-keeps-from i want (h ∷ s) p =
-      let z : i - i ≡ 0 = omega arith in
-      let rest = stopOf may (i + 1) (want - h .shares .0) s in
-      let k : rest .at - i ≡ suc (rest .at - (i + 1)) = omega (arith, stop-later (i + 1) (want - h .shares .0) s) in
-      ⊎-elim
-      (λ (t : may h ≡ true).
-      ⊎-elim
-      (λ (u : ltb want (h .shares .0) ≡ true). rw (t, u, z) (omega arith, ltb-true want (h .shares .0) u))
-      (λ (u : ltb want (h .shares .0) ≡ false).
-      let q : 0 < rest .part .0 = rw (t, u) at p in
-      let r = stop-keeps-from (i + 1) (want - h .shares .0) s q in
-      rw (t, u, k) (omega (arith, r .0), r .1))
-      (holds-or-not (ltb want (h .shares .0))))
-      (λ (t : may h ≡ false). let q : 0 < 0 = rw t at p in let y : ⊥ = omega arith in absurd y)
-      (holds-or-not (may h))
+laid-more : (ks x : List Taking) (took : List (List ℕ))
+    → laidAt (length ks) (map takingRow x) (laid (map takingRow ks) took) ≡ laid (map takingRow (ks ++ x)) took
+laid-more ks x took =
+    let p = map takingRow ks in
+    let q = map takingRow x in
+    let n : length p ≡ length ks = length-map ks takingRow in
+    rw (take-at p (drop (length p) took) (length ks) n, drop-at p (drop (length p) took) (length ks) n, drop-drop (length q) (length p) took)
+    (sym (rw (map-append takingRow ks x, length-append p q) (append-assoc p q (drop (length p + length q) took))))
 
-  pub stop-keeps : (want : ℕ) (s : List Resting) → 0 < stopOf may 0 want s .part .0
-      → (stopOf may 0 want s .at < length s) × (stopOf may 0 want s .part .0 < getD s (stopOf may 0 want s .at) unused .shares .0)
-  stop-keeps want s p =
-      let z : stopOf may 0 want s .at - 0 ≡ stopOf may 0 want s .at = omega arith in
-      rw z at (stop-keeps-from 0 want s p)
+-- the takings of the orders before rank `at` are laid, and the walk goes on from there with the shares left
+pub record Underway (may : Resting → Bool) (want : ℕ) (s : List Resting) (took₀ took : List (List ℕ)) (at count left : ℕ) : Type 0 where
+  pub ks : List Taking
+  pub counted : length ks ≡ count
+  pub fewer : count ≤ at
+  pub inside : at ≤ length s
+  pub rows : took ≡ laid (map takingRow ks) took₀
+  pub rest : outcome may ks at left (drop at s) ≡ outcome may [] 0 want s
 
--- ── Two tests that agree on a side stop a walk alike ──
+-- the walk has ended so
+abbrev pub Ended : (Resting → Bool) → ℕ → List Resting → List (List ℕ) → List (List ℕ) → ℕ → ℕ → ℕ → Type 0
+Ended may want s took₀ took at count left =
+    (record { count = count; left = shares left; at = at } ≡ walkedOf may want s) × (took ≡ laid (map takingRow (takingsOf may want s)) took₀)
+
+pub underway-start : (may : Resting → Bool) (want : ℕ) (s : List Resting) (took : List (List ℕ)) → Underway may want s took took 0 0 want
+underway-start may want s took = record { ks = []; counted = refl; fewer = omega arith; inside = omega arith; rows = refl; rest = refl }
+
+module _ {may : Resting → Bool} {want : ℕ} {s : List Resting} {took₀ took : List (List ℕ)} {at count left : ℕ} (w : Underway may want s took₀ took at count left) where
+  ended : Over may (w .ks) at left (drop at s) → Ended may want s took₀ took at count left
+  unfolding outcome
+  ended e =
+      let f = sym e ∙ w .rest in
+      let k : w .ks ≡ takingsOf may want s = ap (λ (o : Outcome). o .took) f in
+      let l : left ≡ want - total (walk may smaller want s) = ap (λ (o : Outcome). o .left) f in
+      let i : at ≡ reached may want s = omega (arith, ap (λ (o : Outcome). o .at) f) in
+      (rw (← k, ← l, ← i, w .counted), rw (← k) (w .rows))
+
+  pub ended-side : length s ≤ at → Ended may want s took₀ took at count left
+  ended-side l = ended (rw (drop-of-length-le s l) (over-end may (w .ks) at left))
+
+  pub ended-none : left ≡ 0 → Ended may want s took₀ took at count left
+  ended-none z = ended (over-none may (w .ks) at left z (drop at s))
+
+  module _ (p : 0 < left) (l : at < length s) (h : Resting) (e : h ≡ getD s at unused) where
+    next : drop at s ≡ h ∷ drop (at + 1) s
+    next = rw (e, add-one at) (drop-cons s at unused l)
+
+    pub ended-beyond : may h ≡ false → Ended may want s took₀ took at count left
+    ended-beyond t = ended (rw next (over-beyond may (w .ks) at left h (drop (at + 1) s) p t))
+
+    pub underway-on : may h ≡ true → (let x = taking at h (smaller left h) in
+        Underway may want s took₀ (laidAt count (map takingRow x) took) (at + 1) (count + length x) (left - smaller left h))
+    underway-on t =
+        let x = taking at h (smaller left h) in
+        record {
+          ks = w .ks ++ x;
+          counted = length-append (w .ks) x ∙ rw (w .counted);
+          fewer = omega (arith, length-taking at h (smaller left h), w .fewer);
+          inside = omega arith;
+          rows = rw (← w .counted, w .rows) (laid-more (w .ks) x took₀);
+          rest = sym (turn may (w .ks) at left h (drop (at + 1) s) p t) ∙ (rw (← next) (w .rest));
+        }
+
+-- ── Two tests that agree on a side let a walk take the same ──
 
 pub walk-alike : (may also-may : Resting → Bool) (left : ℕ) {s : List Resting} → All (λ (h : Resting). may h ≡ also-may h) s
     → walk may smaller left s ≡ walk also-may smaller left s
@@ -161,8 +151,3 @@ walk-alike may also-may left none = refl
 walk-alike may also-may left (also {x = h} {s = s} e a) =
     rw e
     (ap (λ (l : List ℕ). if also-may h then smaller left h ∷ l else nothing (h ∷ s)) (walk-alike may also-may (left - smaller left h) a))
-
-pub took-nothing : (s : List Resting) → tookTo 0 0 s ≡ nothing s
-unfolding tookTo nothing
-took-nothing [] = refl
-took-nothing (h ∷ s) = refl

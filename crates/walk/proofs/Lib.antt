@@ -1,2 +1,3 @@
+pub mod LawsTakings
 pub mod LawsWalk
 pub mod Determined

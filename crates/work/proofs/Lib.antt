@@ -1,3 +1,3 @@
 pub mod LawsMeeting
-pub mod LawsStopping
+pub mod LawsWalking
 pub mod Determined

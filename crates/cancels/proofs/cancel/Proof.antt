@@ -1,205 +1,176 @@
 -- `cancels::cancel` meets its contract: the number is of a buy, of a sell or of no order. Assumes nothing.
-use Prim.Native.Nat.{ℕ, _-_}
-use mathlib.Core.Bool.{Bool, true, false}
+use Prim.Native.Nat.{ℕ, _-_, _<_}
+use mathlib.Core.List.{List}
 use mathlib.Core.Path.{_≡_, sym, ap, _∙_}
 use lib.ListN.{length}
 use native.Mathlib.Omega.{arith}
 use borrow.Author.Needs.{needs}
 use denote.Ref.{now}
 use Rattle.basics.specs.Bytes.{onto}
-use Rattle.basics.specs.Lists.{any}
-use Rattle.rows.specs.Table.{tableOf}
-use Rattle.rows.proofs.LawsTable.{length-side}
+use Rattle.basics.specs.Lists.{firstWhere, removeAt}
+use Rattle.basics.proofs.LawsLists.{length-removeAt}
+use Rattle.rows.proofs.LawsSides.{length-side, holds-shows}
 use Rattle.rules.specs.declared.Body.the-variants as body
 use Rattle.rules.specs.declared.Resting.{Resting}
 use Rattle.rules.specs.Book.{Book}
-use Rattle.rules.specs.EventLines.{eventLines, byCommand}
+use Rattle.rules.specs.Commands.{withAccepted, isNumber}
 use Rattle.rules.specs.Step.{Answer}
-use Rattle.rules.specs.Working.{withAccepted, Done, isNumber, kept, cancels, withSides}
+use Rattle.rules.proofs.LawsEvents.{eventLines-one}
 use Rattle.soundness.proofs.LawsSound.{Sound, sound-is}
 use Rattle.tables.specs.declared.Head.{Head}
 use Rattle.tables.specs.Answers.{bodyAnswer}
 use Rattle.tables.specs.Tables.{bookOn}
-use Rattle.tables.proofs.LawsAnswers.{left-refused, left-done, head-is}
-use Rattle.cancels.proofs.LawsCancelled.{stops, lines-named, lines-none, length-kept, table-same, out-same}
-use Rattle.cancels.proofs.LawsDone.{buys-once, sells-once, cancelled-buy, cancelled-sell, cancel-refused}
+use Rattle.tables.proofs.LawsAnswers.{left-refused, left-done, doneWith, head-is}
+use Rattle.cancels.specs.Cancels.{offLine}
+use Rattle.cancels.proofs.LawsCancelled.{found-buy, found-sell, found-none}
+use Rattle.cancels.proofs.LawsDone.{withoutBuy, withoutSell, cancelled-buy, cancelled-sell, cancel-refused}
 use Rattle.cancels.proofs.cancel.Statement.{statement}
 use Rattle.cancels.proofs.cancel.Tie as tie
 
 -- the book, and how many orders its sides hold
 module _ (c : tie.Start) where
-  book : Book
-  book = bookOn (c .args .h) (now (c .args .buys)) (now (c .args .sells))
+  abbrev book : Book
+  book = let a = c .args in bookOn (a .h) (now (a .x)) (now (a .buys)) (now (a .y)) (now (a .sells))
 
   facts : Sound book
-  unfolding book
   facts = sound-is book (c .pre .0 .isSound)
 
   buys-long : length (book .buys) ≡ c .args .h .buys
-  unfolding book
-  buys-long = length-side (c .args .h .buys) (now (c .args .buys)) (c .pre .0 .buys)
+  buys-long = length-side (c .args .h .buys) (now (c .args .x)) (now (c .args .buys))
 
   sells-long : length (book .sells) ≡ c .args .h .sells
-  unfolding book
-  sells-long = length-side (c .args .h .sells) (now (c .args .sells)) (c .pre .0 .sells)
+  sells-long = length-side (c .args .h .sells) (now (c .args .y)) (now (c .args .sells))
 
-  gone : Resting → Bool
-  gone = isNumber (c .args .of)
-
-  the-answer : Answer
+  abbrev the-answer : Answer
   the-answer = bodyAnswer (c .args .number) (c .args .time) (body.Cancel (c .args .of)) book
 
-take-off-requires : tie.Need-take-off-requires
-unfolding book
-take-off-requires c κs =
-    let start = c .before .before .before in
-    (start .pre .0 .buys, buys-once (book start) (facts start), start .pre .1)
+  -- where it is of a buy, or of a sell
+  abbrev AtBuy : ℕ → Type 0
+  AtBuy at = (at ≡ firstWhere (isNumber (c .args .of)) (book .buys)) × (at < length (book .buys))
 
-start : tie.After-slice-known2 → tie.Start
-start c = c .before .before .before .before .before .before
+  abbrev AtSell : ℕ → Type 0
+  AtSell at = (at ≡ firstWhere (isNumber (c .args .of)) (book .sells)) × (at < length (book .sells))
+
+fewer : (at n : ℕ) (s : List Resting) → length s ≡ n → at < length s → length (removeAt at s) ≡ n - 1
+fewer at n s e l = length-removeAt at s l ∙ ap (λ (k : ℕ). k - 1) e
+
+seek-requires : tie.Need-seek-requires
+seek-requires c κs = let start = c .before .before .before in (start .pre .0 .buys, start .pre .0 .sells, facts start .once)
+
+enum-known-found : tie.Need-enum-known-found
+enum-known-found c = search needs
 
 -- ── The number is of a buy ──
 
-buy-named : (c : tie.Then1) → any (gone (start (c .before))) (book (start (c .before)) .buys) ≡ true
-unfolding start book gone
-buy-named c =
-    let s = start (c .before) in
-    lines-named (gone s) byCommand (book s .buys) (omega (arith, c .if1 .taken, c .before .before .before .take-off .ensures .0))
+at-buy : (c : tie.After-known-told) → AtBuy (c .before .before .before .before .before .before .before) (c .before .found .given .0 .0)
+at-buy c = let start = c .before .before .before .before .before .before .before in found-buy (start .args .of) (book start .buys) (book start .sells) (c .before .before .before .seek .result) (c .before .before .before .seek .ensures) (c .before .found .given .0 .0) (c .before .found .given .1)
+
+take-off-requires : tie.Need-take-off-requires
+take-off-requires c κs = let start = c .before .before .before .before .before .before .before .before .before in (start .pre .0 .buys, omega (arith, at-buy (c .before .before) .1, buys-long start), start .pre .1)
 
 sub-leave : tie.Need-sub-leave
-unfolding start book
-sub-leave c = let s = start (c .before) in omega (arith, stops (gone s) (book s .buys) (buy-named c), buys-long s)
+sub-leave c = omega (arith, at-buy (c .before .before .before .before .before) .1, buys-long (c .before .before .before .before .before .before .before .before .before .before .before .before))
 
 leave-requires : tie.Need-leave-requires
 leave-requires c κs = search needs
+
+enum-known-found-2 : tie.Need-enum-known-found-2
+enum-known-found-2 c = search needs
+
+-- ── The number is of a sell ──
+
+at-sell : (c : tie.After-known-told2) → AtSell (c .before .before .before .before .before .before .before) (c .before .found2 .given .0 .0)
+at-sell c = let start = c .before .before .before .before .before .before .before in found-sell (start .args .of) (book start .buys) (book start .sells) (c .before .before .before .seek .result) (c .before .before .before .seek .ensures) (c .before .found2 .given .0 .0) (c .before .found2 .given .1)
+
+take-off-requires-2 : tie.Need-take-off-requires-2
+take-off-requires-2 c κs = let start = c .before .before .before .before .before .before .before .before .before in (start .pre .0 .sells, omega (arith, at-sell (c .before .before) .1, sells-long start), start .pre .1)
+
+sub-leave-2 : tie.Need-sub-leave-2
+sub-leave-2 c = omega (arith, at-sell (c .before .before .before .before .before) .1, sells-long (c .before .before .before .before .before .before .before .before .before .before .before .before))
+
+leave-requires-2 : tie.Need-leave-requires-2
+leave-requires-2 c κs = search needs
+
+enum-told : tie.Need-enum-told
+enum-told c = search needs
+
+refuse-requires : tie.Need-refuse-requires
+refuse-requires c κs = search needs
 
 same-length : tie.Need-same-length
 same-length c = search needs
 
 returns : tie.Need-returns
-unfolding start book gone the-answer
 returns c =
-    let bought = c .before .before .before .before .take-off in
-    let s = start (c .before .before) in
-    let a = s .args in
-    let b = book s in
-    let d : Done = record { book = withSides (a .number) (a .time) b (kept (gone s) (b .buys)) (b .sells); events = cancels byCommand (gone s) (b .buys) } in
+    let start = c .before .before .before .before .before .before .before .before .before .before .before .before .before in
+    let a = start .args in
+    let b = book start in
+    let f = c .before .before .before .take-off in
+    let at = c .before .before .before .before .before .before .before .found .given .0 .0 in
+    let is = at-buy (c .before .before .before .before .before .before) in
+    let d = withoutBuy (a .number) (a .time) (a .of) b at in
     let head : Head = record { held = withAccepted (a .number) (a .time) (a .h .held); buys = a .h .buys - 1; sells = a .h .sells } in
-    let fewer : length (d .book .buys) ≡ a .h .buys - 1 =
-    length-kept (a .of) (b .buys) (buys-once b (facts s)) (buy-named (c .before)) ∙ ap (λ (n : ℕ). n - 1) (buys-long s) in
+    let e = offLine at (b .buys) in
+    let done = cancelled-buy (a .number) (a .time) (a .of) b (facts start) (omega (arith, is .0, is .1)) ∙ ap (λ (k : ℕ). doneWith (withoutBuy (a .number) (a .time) (a .of) b k)) (sym (is .0)) in
     let left =
-    left-done d head (bought .result) (bought .last .0) (now (a .sells)) (bought .last .1 .1 .1 .0) (now (a .out)) (the-answer s)
-    (cancelled-buy (a .number) (a .time) (a .of) b (facts s) (buy-named (c .before)))
-    (head-is (d .book) (a .h .buys - 1) (a .h .sells) fewer (sells-long s))
-    (bought .ensures .0) (bought .ensures .1 .0) (s .pre .0 .sells .table) (bought .ensures .1 .1) in
+    left-done d head (f .result) (f .last .0) (now (a .buys)) (now (a .y)) (now (a .sells)) (f .last .1 .1 .1 .1 .0) (now (a .out)) (the-answer start) done
+    (head-is (d .book) (a .h .buys - 1) (a .h .sells) (fewer at (a .h .buys) (b .buys) (buys-long start) (is .1)) (sells-long start))
+    (f .ensures .0 ∙ sym (ap length (eventLines-one e))) (f .ensures .1 .0) (holds-shows (a .h .sells) (now (a .y)) (now (a .sells)) (start .pre .0 .sells))
+    (f .ensures .1 .1 ∙ ap (λ (l : List ℕ). onto l (now (a .out))) (sym (eventLines-one e))) in
     (c .leave .ensures ∙ left .0, left .1)
-
--- ── The number is of no buy ──
-
--- the search among the buys left all as it was
-module _ (c : tie.Else1) where
-  no-buy : any (gone (start (c .before))) (book (start (c .before)) .buys) ≡ false
-  unfolding start book gone
-  no-buy =
-      let s = start (c .before) in
-      lines-none (gone s) byCommand (book s .buys) (omega (arith, c .if1 .left, c .before .before .before .take-off .ensures .0))
-
-  buys-same : c .before .before .before .take-off .last .0 ≡ tableOf (book (start (c .before)) .buys)
-  unfolding start book gone
-  buys-same =
-      let x = c .before .before .before .take-off in
-      let s = start (c .before) in
-      table-same (gone s) (book s .buys) (x .last .0) no-buy (x .ensures .1 .0)
-
-  nothing-written : c .before .before .before .take-off .last .1 .1 .1 .0 ≡ now (start (c .before) .args .out)
-  unfolding start book gone
-  nothing-written =
-      let x = c .before .before .before .take-off in
-      let s = start (c .before) in
-      out-same (gone s) byCommand (book s .buys) (x .last .1 .1 .1 .0) (now (s .args .out)) no-buy (x .ensures .1 .1)
-
-take-off-requires-2 : tie.Need-take-off-requires-2
-unfolding start book
-take-off-requires-2 c κs =
-    let s = start (c .before .before .before) in
-    (s .pre .0 .sells, sells-once (book s) (facts s), omega (arith, s .pre .1, ap length (nothing-written (c .before .before))))
-
-passed : tie.After-slice-known3 → tie.Else1
-passed c = c .before .before .before .before .before
-
-sell-named : (c : tie.Then2) → any (gone (start (passed (c .before) .before))) (book (start (passed (c .before) .before)) .sells) ≡ true
-unfolding start passed book gone
-sell-named c =
-    let s = start (passed (c .before) .before) in
-    lines-named (gone s) byCommand (book s .sells) (omega (arith, c .if2 .taken, c .before .before .before .take-off2 .ensures .0))
-
-sub-leave-2 : tie.Need-sub-leave-2
-unfolding start passed book
-sub-leave-2 c = let s = start (passed (c .before) .before) in omega (arith, stops (gone s) (book s .sells) (sell-named c), sells-long s)
-
-leave-requires-2 : tie.Need-leave-requires-2
-leave-requires-2 c κs = search needs
 
 same-length-2 : tie.Need-same-length-2
 same-length-2 c = search needs
 
 returns-2 : tie.Need-returns-2
-unfolding start passed book gone the-answer
 returns-2 c =
-    let sold = c .before .before .before .before .take-off2 in
-    let e = passed (c .before .before) in
-    let s = start (e .before) in
-    let a = s .args in
-    let b = book s in
-    let d : Done = record { book = withSides (a .number) (a .time) b (b .buys) (kept (gone s) (b .sells)); events = cancels byCommand (gone s) (b .sells) } in
+    let start = c .before .before .before .before .before .before .before .before .before .before .before .before .before in
+    let a = start .args in
+    let b = book start in
+    let f = c .before .before .before .take-off2 in
+    let at = c .before .before .before .before .before .before .before .found2 .given .0 .0 in
+    let is = at-sell (c .before .before .before .before .before .before) in
+    let d = withoutSell (a .number) (a .time) (a .of) b at in
     let head : Head = record { held = withAccepted (a .number) (a .time) (a .h .held); buys = a .h .buys; sells = a .h .sells - 1 } in
-    let fewer : length (d .book .sells) ≡ a .h .sells - 1 =
-    length-kept (a .of) (b .sells) (sells-once b (facts s)) (sell-named (c .before)) ∙ ap (λ (n : ℕ). n - 1) (sells-long s) in
+    let e = offLine at (b .sells) in
+    let done = cancelled-sell (a .number) (a .time) (a .of) b (facts start) (omega (arith, is .0, is .1)) ∙ ap (λ (k : ℕ). doneWith (withoutSell (a .number) (a .time) (a .of) b k)) (sym (is .0)) in
     let left =
-    left-done d head (sold .result) (e .before .before .before .take-off .last .0) (sold .last .0) (sold .last .1 .1 .1 .0) (now (a .out)) (the-answer s)
-    (cancelled-sell (a .number) (a .time) (a .of) b (no-buy e) (sell-named (c .before)))
-    (head-is (d .book) (a .h .buys) (a .h .sells - 1) (buys-long s) fewer)
-    (sold .ensures .0) (buys-same e) (sold .ensures .1 .0) (sold .ensures .1 .1 ∙ ap (onto (eventLines (d .events))) (nothing-written e)) in
+    left-done d head (f .result) (now (a .x)) (now (a .buys)) (f .last .0) (now (a .sells)) (f .last .1 .1 .1 .1 .0) (now (a .out)) (the-answer start) done
+    (head-is (d .book) (a .h .buys) (a .h .sells - 1) (buys-long start) (fewer at (a .h .sells) (b .sells) (sells-long start) (is .1)))
+    (f .ensures .0 ∙ sym (ap length (eventLines-one e))) (holds-shows (a .h .buys) (now (a .x)) (now (a .buys)) (start .pre .0 .buys)) (f .ensures .1 .0)
+    (f .ensures .1 .1 ∙ ap (λ (l : List ℕ). onto l (now (a .out))) (sym (eventLines-one e))) in
     (c .leave2 .ensures ∙ left .0, left .1)
 
-refuse-requires : tie.Need-refuse-requires
-refuse-requires c κs = search needs
+-- ── The number is of no order ──
 
-same-length-3 : tie.Need-same-length-3
-same-length-3 c = search needs
-
--- nor of a sell: it is refused
 returns-3 : tie.Need-returns-3
-unfolding start passed book gone the-answer
 returns-3 c =
-    let sold = c .before .before .before .before .take-off2 in
-    let e = passed (c .before .before) in
-    let s = start (e .before) in
-    let a = s .args in
-    let b = book s in
-    let no-sell : any (gone s) (b .sells) ≡ false = lines-none (gone s) byCommand (b .sells) (omega (arith, c .before .if2 .left, sold .ensures .0)) in
+    let start = c .before .before .before .before .before .before .before in
+    let a = start .args in
+    let b = book start in
+    let none = found-none (a .of) (b .buys) (b .sells) (c .before .before .before .seek .result) (c .before .before .before .seek .ensures) (c .before .enum-told .given .1) in
     let left =
-    left-refused (a .h) (now (a .buys)) (now (a .sells)) (s .pre .0) 10 (now (a .out)) (the-answer s)
-    (cancel-refused (a .number) (a .time) (a .of) b (no-buy e) no-sell) in
-    let buys = buys-same e ∙ sym (s .pre .0 .buys .table) in
-    let sells = table-same (gone s) (b .sells) (sold .last .0) no-sell (sold .ensures .1 .0) ∙ sym (s .pre .0 .sells .table) in
-    let out = out-same (gone s) byCommand (b .sells) (sold .last .1 .1 .1 .0) _ no-sell (sold .ensures .1 .1) ∙ nothing-written e in
-    (c .refuse .ensures ∙ left .0, (buys ∙ left .1 .0, (sells ∙ left .1 .1 .0, out ∙ left .1 .1 .1)))
+    left-refused (a .h) (now (a .x)) (now (a .buys)) (now (a .y)) (now (a .sells)) (start .pre .0) 10 (now (a .out)) (the-answer start)
+    (cancel-refused (a .number) (a .time) (a .of) b (none .0) (none .1)) in
+    (c .refuse .ensures ∙ left .0, left .1)
 
 pub cancel-spec : {M : Type 1} → statement M
 cancel-spec =
     tie.close
     (tie.spec
+    seek-requires
+    enum-known-found
     take-off-requires
     sub-leave
     leave-requires
-    same-length
-    returns
+    enum-known-found-2
     take-off-requires-2
     sub-leave-2
     leave-requires-2
+    enum-told
+    refuse-requires
+    same-length
+    returns
     same-length-2
     returns-2
-    refuse-requires
-    same-length-3
     returns-3)

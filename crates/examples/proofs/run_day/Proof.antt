@@ -1,6 +1,4 @@
--- `examples::run_day` is safe: the tables that it lends hold nothing yet. Assumes nothing.
-use mathlib.Core.Path.{refl}
-use Rattle.rows.specs.Table.{tableOf}
+-- `examples::run_day` is safe: the output that it lends is long enough. Assumes nothing.
 use borrow.Author.Needs.{needs}
 use Rattle.examples.proofs.run_day.Statement.{statement}
 use Rattle.examples.proofs.run_day.Tie as tie
@@ -9,8 +7,7 @@ slice-aggregate-take-turns : tie.Need-slice-aggregate-take-turns
 slice-aggregate-take-turns c = search needs
 
 take-turns-requires : tie.Need-take-turns-requires
-unfolding tableOf
-take-turns-requires c κs = (refl, refl, search needs)
+take-turns-requires c κs = search needs
 
 same-length : tie.Need-same-length
 same-length c = search needs

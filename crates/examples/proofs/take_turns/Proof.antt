@@ -6,29 +6,37 @@ use lib.Seq.{length-take-le}
 use native.Mathlib.Omega.{arith}
 use borrow.Author.Needs.{needs}
 use denote.Ref.{now}
-use Rattle.replay.proofs.LawsFeed.{stands-back}
 use Rattle.rules.specs.Book.{fresh}
 use Rattle.rules.specs.Refusals.{leastRoom}
 use Rattle.soundness.proofs.LawsKept.{fresh-sound}
+use Rattle.tables.proofs.LawsAnswers.{stands-back}
 use Rattle.tables.specs.Answers.{Stands}
 use Rattle.examples.proofs.take_turns.Statement.{statement}
 use Rattle.examples.proofs.take_turns.Tie as tie
 
 abbrev Inv-loop : tie.InvT-loop
-Inv-loop day input₀ buys₀ sells₀ out₀ head₀ at₀ have₀ turns₀ input buys sells out head at have turns =
-    Stands head buys sells × (at ≤ length day) × (have ≤ length input₀) × (length input ≡ length input₀) × (length out ≡ length out₀)
+Inv-loop day input₀ x₀ buys₀ y₀ sells₀ took₀ out₀ head₀ at₀ have₀ turns₀ input x buys y sells took out head at have turns =
+    Stands head x buys y sells × (at ≤ length day) × (have ≤ length input₀) × (length input ≡ length input₀) × (length out ≡ length out₀)
 
 abbrev μ-loop : tie.MeasureT-loop
-μ-loop day input₀ buys₀ sells₀ out₀ head₀ at₀ have₀ turns₀ input buys sells out head at have turns = turns
+μ-loop day input₀ x₀ buys₀ y₀ sells₀ took₀ out₀ head₀ at₀ have₀ turns₀ input x buys y sells took out head at have turns = turns
 
 begin-requires : tie.Need-begin-requires Inv-loop μ-loop
 begin-requires c κs = search needs
 
+clear-requires : tie.Need-clear-requires Inv-loop μ-loop
+clear-requires c κs = search needs
+
+clear-requires-2 : tie.Need-clear-requires-2 Inv-loop μ-loop
+clear-requires-2 c κs = search needs
+
 loop-holds : tie.Need-loop-holds Inv-loop μ-loop
 loop-holds c =
-    let s = c .before .before .before .before in
-    let begun : Stands (c .begin .result) (now (s .args .buys)) (now (s .args .sells)) =
-    rw (c .begin .ensures, s .pre .0, s .pre .1) (stands-back fresh fresh-sound) in
+    let buys = c .before .before .before .clear in
+    let sells = c .clear2 in
+    let s = c .before .before .before .before .before .before .before .before .before .before in
+    let begun : Stands (c .before .before .before .before .before .before .begin .result) (buys .last .0) (now (s .args .buys)) (sells .last .0) (now (s .args .sells)) =
+    rw (c .before .before .before .before .before .before .begin .ensures) (stands-back fresh (buys .last .0) (now (s .args .buys)) (sells .last .0) (now (s .args .sells)) (buys .ensures) (sells .ensures) fresh-sound) in
     (begun, omega arith, omega arith, refl, refl)
 
 take-turn-requires : tie.Need-take-turn-requires Inv-loop μ-loop
@@ -37,27 +45,27 @@ take-turn-requires c κs = search needs
 -- what a turn leaves stands within the input and the output, and all lengths are numbers of the machine
 module _ (c : tie.After-take-turn Inv-loop μ-loop) where
   long-input : length (c .take-turn .last .1 .0)
-      ≡ length (now (c .before .before .before .before .before .before .before .before .before .before .before .args .input))
-  long-input = c .take-turn .kept .1 .0 ∙ c .before .before .before .before .before .before .loop .inv .3
+      ≡ length (now (c .before .before .before .before .before .before .before .before .before .before .before .before .before .before .before .before .before .before .before .before .args .input))
+  long-input = c .take-turn .kept .1 .0 ∙ c .before .before .before .before .before .before .before .before .before .loop .inv .3
 
-  long-out : length (c .take-turn .last .1 .1 .1 .1 .1 .0)
-      ≡ length (now (c .before .before .before .before .before .before .before .before .before .before .before .args .out))
-  long-out = c .take-turn .kept .1 .1 .1 .1 .1 .0 ∙ c .before .before .before .before .before .before .loop .inv .4
+  long-out : length (c .take-turn .last .1 .1 .1 .1 .1 .1 .1 .1 .0)
+      ≡ length (now (c .before .before .before .before .before .before .before .before .before .before .before .before .before .before .before .before .before .before .before .before .args .out))
+  long-out = c .take-turn .kept .1 .1 .1 .1 .1 .1 .1 .1 .0 ∙ c .before .before .before .before .before .before .before .before .before .loop .inv .4
 
-  day-short : length (now (c .before .before .before .before .before .before .before .before .before .before .before .args .day)) < 18446744073709551616
-  day-short = c .before .before .before .before .before .before .before .before .before .before .before .good .0 .0
+  day-short : length (now (c .before .before .before .before .before .before .before .before .before .before .before .before .before .before .before .before .before .before .before .before .args .day)) < 18446744073709551616
+  day-short = c .before .before .before .before .before .before .before .before .before .before .before .before .before .before .before .before .before .before .before .before .good .0 .0
 
   input-short : length (c .take-turn .last .1 .0) < 18446744073709551616
-  input-short = omega (arith, long-input, c .before .before .before .before .before .before .before .before .before .before .before .good .1 .0 .0)
+  input-short = omega (arith, long-input, c .before .before .before .before .before .before .before .before .before .before .before .before .before .before .before .before .before .before .before .before .good .1 .0 .0)
 
-  room-stays : leastRoom ≤ length (c .take-turn .last .1 .1 .1 .1 .1 .0)
-  room-stays = omega (arith, long-out, c .before .before .before .before .before .before .before .before .before .before .before .pre .2)
+  room-stays : leastRoom ≤ length (c .take-turn .last .1 .1 .1 .1 .1 .1 .1 .1 .0)
+  room-stays = omega (arith, long-out, c .before .before .before .before .before .before .before .before .before .before .before .before .before .before .before .before .before .before .before .before .pre)
 
   waits-fit : c .take-turn .result .have ≤ length (c .take-turn .last .1 .0)
-  waits-fit = omega (arith, long-input, c .take-turn .ensures .1 .1 .1 .1 .1 .1, c .before .before .before .before .before .before .loop .inv .2)
+  waits-fit = omega (arith, long-input, c .take-turn .ensures .1 .1 .1 .1 .1 .1, c .before .before .before .before .before .before .before .before .before .loop .inv .2)
 
-  printed-fits : c .take-turn .result .length ≤ length (c .take-turn .last .1 .1 .1 .1 .1 .0)
-  printed-fits = omega (arith, c .take-turn .kept .1 .1 .1 .1 .1 .0, c .take-turn .ensures .1 .1 .1 .1 .1 .2)
+  printed-fits : c .take-turn .result .length ≤ length (c .take-turn .last .1 .1 .1 .1 .1 .1 .1 .1 .0)
+  printed-fits = omega (arith, c .take-turn .kept .1 .1 .1 .1 .1 .1 .1 .1 .0, c .take-turn .ensures .1 .1 .1 .1 .1 .2)
 
 slice-reshare-prefix-hand-over : tie.Need-slice-reshare-prefix-hand-over Inv-loop μ-loop
 slice-reshare-prefix-hand-over c = search needs
@@ -65,7 +73,7 @@ slice-reshare-prefix-hand-over c = search needs
 slice-aggregate-hand-over : tie.Need-slice-aggregate-hand-over Inv-loop μ-loop
 slice-aggregate-hand-over c =
     let t = c .before .before .before .before .before in
-    sym (length-take-le (t .take-turn .result .length) (t .take-turn .last .1 .1 .1 .1 .1 .0) (printed-fits t))
+    sym (length-take-le (t .take-turn .result .length) (t .take-turn .last .1 .1 .1 .1 .1 .1 .1 .1 .0) (printed-fits t))
 
 hand-over-requires : tie.Need-hand-over-requires Inv-loop μ-loop
 hand-over-requires c κs = search needs
@@ -80,7 +88,7 @@ returns : tie.Need-returns Inv-loop μ-loop
 returns c = search needs
 
 slice-reshare-prefix-end-day : tie.Need-slice-reshare-prefix-end-day Inv-loop μ-loop
-slice-reshare-prefix-end-day c = search needs
+slice-reshare-prefix-end-day c = waits-fit (c .before .before .before .before .before .before .before .before .before .before)
 
 slice-aggregate-end-day : tie.Need-slice-aggregate-end-day Inv-loop μ-loop
 slice-aggregate-end-day c =
@@ -91,16 +99,16 @@ end-day-requires : tie.Need-end-day-requires Inv-loop μ-loop
 end-day-requires c κs = room-stays (c .before .before .before .before .before .before .before .before .before .before .before .before)
 
 same-length-3 : tie.Need-same-length-3 Inv-loop μ-loop
-same-length-3 c = search needs
+same-length-3 c = long-input (c .before .before .before .before .before .before .before .before .before .before .before .before .before .before .before)
 
 same-length-4 : tie.Need-same-length-4 Inv-loop μ-loop
-same-length-4 c = search needs
+same-length-4 c = c .before .before .end-day .kept .1 .0 ∙ long-out (c .before .before .before .before .before .before .before .before .before .before .before .before .before .before .before)
 
 returns-2 : tie.Need-returns-2 Inv-loop μ-loop
 returns-2 c = search needs
 
 copy-on-requires : tie.Need-copy-on-requires Inv-loop μ-loop
-copy-on-requires c κs = search needs
+copy-on-requires c κs = (c .before .before .before .before .before .before .before .before .before .before .before .before .before .before .before .before .before .before .before .before .loop .inv .1, waits-fit (c .before .before .before .before .before .before .before .before .before .before .before))
 
 add-at : tie.Need-add-at Inv-loop μ-loop
 add-at c = omega (arith, c .before .before .copy-on .ensures .0, day-short (c .before .before .before .before .before .before .before .before .before .before .before .before .before .before))
@@ -112,10 +120,10 @@ add-have c =
     omega (arith, k .ensures .1, k .kept .1 .1 .0, input-short t)
 
 sub-turns : tie.Need-sub-turns Inv-loop μ-loop
-sub-turns c = search needs
+sub-turns c = omega (arith, c .before .before .before .before .before .before .before .before .before .before .before .before .before .before .before .before .before .before .before .before .before .before .loop-test .taken)
 
 loop-less : tie.Need-loop-less Inv-loop μ-loop
-loop-less c = search needs
+loop-less c = omega (arith, c .before .before .before .before .before .before .before .before .before .before .before .before .before .before .before .before .before .before .before .before .before .before .loop-test .taken)
 
 loop-again : tie.Need-loop-again Inv-loop μ-loop
 loop-again c =
@@ -144,6 +152,8 @@ take-turns-spec =
     Inv-loop
     μ-loop
     begin-requires
+    clear-requires
+    clear-requires-2
     loop-holds
     take-turn-requires
     slice-reshare-prefix-hand-over

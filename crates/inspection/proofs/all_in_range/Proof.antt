@@ -10,14 +10,14 @@ use borrow.Author.Tests.{not-true, not-false}
 use denote.Ref.{now}
 use Rattle.basics.specs.Lists.{every}
 use Rattle.rules.specs.Book.{placesASide, restingInRange}
-use Rattle.rows.specs.Table.{side}
+use Rattle.rows.specs.Table.{loaded}
 use Rattle.rows.proofs.LawsTable.{ahead, ahead-end, ahead-next}
 use Rattle.inspection.proofs.LawsTurns.{every-end, every-fails, every-next}
 use Rattle.inspection.proofs.all_in_range.Statement.{statement}
 use Rattle.inspection.proofs.all_in_range.Tie as tie
 
 abbrev Inv-loop : tie.InvT-loop
-Inv-loop t n last i₀ i = (i ≤ n) × (every (restingInRange last) (ahead n t i) ≡ every (restingInRange last) (side n t))
+Inv-loop t n last i₀ i = (i ≤ n) × (every (restingInRange last) (ahead n t i) ≡ every (restingInRange last) (loaded n t))
 
 abbrev μ-loop : tie.MeasureT-loop
 μ-loop t n last i₀ i = n - i

@@ -10,14 +10,14 @@ use borrow.Author.Tests.{eq-eqb, ne-eqb}
 use denote.Ref.{now}
 use Rattle.basics.specs.Lists.{any}
 use Rattle.rules.specs.Book.{numbers, placesASide}
-use Rattle.rows.specs.Table.{side}
+use Rattle.rows.specs.Table.{loaded}
 use Rattle.rows.proofs.LawsTable.{ahead, ahead-end, ahead-next}
 use Rattle.inspection.proofs.LawsTurns.{any-end, any-found, any-next, ahead-numbers}
 use Rattle.inspection.proofs.has_number.Statement.{statement}
 use Rattle.inspection.proofs.has_number.Tie as tie
 
 abbrev Inv-loop : tie.InvT-loop
-Inv-loop t n from number i₀ i = (i ≤ n) × (any (eqb (number .0)) (numbers (ahead n t i)) ≡ any (eqb (number .0)) (drop from (numbers (side n t))))
+Inv-loop t n from number i₀ i = (i ≤ n) × (any (eqb (number .0)) (numbers (ahead n t i)) ≡ any (eqb (number .0)) (drop from (numbers (loaded n t))))
 
 abbrev μ-loop : tie.MeasureT-loop
 μ-loop t n from number i₀ i = n - i

@@ -8,14 +8,14 @@ use borrow.Author.Needs.{needs}
 use borrow.Author.Tests.{not-true, not-false}
 use denote.Ref.{now}
 use Rattle.rules.specs.Book.{placesASide, ranksBefore, inRankOrder}
-use Rattle.rows.specs.Table.{side}
+use Rattle.rows.specs.Table.{loaded}
 use Rattle.rows.proofs.LawsTable.{ahead}
 use Rattle.inspection.proofs.LawsTurns.{rank-end, rank-turn}
 use Rattle.inspection.proofs.in_rank_order.Statement.{statement}
 use Rattle.inspection.proofs.in_rank_order.Tie as tie
 
 abbrev Inv-loop : tie.InvT-loop
-Inv-loop t n buying i₀ i = (1 ≤ i) × (inRankOrder buying (ahead n t (i - 1)) ≡ inRankOrder buying (side n t))
+Inv-loop t n buying i₀ i = (1 ≤ i) × (inRankOrder buying (ahead n t (i - 1)) ≡ inRankOrder buying (loaded n t))
 
 abbrev μ-loop : tie.MeasureT-loop
 μ-loop t n buying i₀ i = n - i

@@ -9,14 +9,14 @@ use borrow.Author.Needs.{needs}
 use denote.Ref.{now}
 use Rattle.basics.specs.Lists.{every}
 use Rattle.rules.specs.Book.{numbers, placesASide}
-use Rattle.rows.specs.Table.{side}
+use Rattle.rows.specs.Table.{loaded}
 use Rattle.rows.proofs.LawsTable.{ahead, ahead-end, ahead-next}
 use Rattle.inspection.proofs.LawsTurns.{noneOf, none-fails, none-passes, every-end, every-fails, every-next}
 use Rattle.inspection.proofs.none_on_both.Statement.{statement}
 use Rattle.inspection.proofs.none_on_both.Tie as tie
 
 abbrev Inv-loop : tie.InvT-loop
-Inv-loop t n other m i₀ i = (i ≤ n) × (every (noneOf (numbers (side m other))) (numbers (ahead n t i)) ≡ every (noneOf (numbers (side m other))) (numbers (side n t)))
+Inv-loop t n other m i₀ i = (i ≤ n) × (every (noneOf (numbers (loaded m other))) (numbers (ahead n t i)) ≡ every (noneOf (numbers (loaded m other))) (numbers (loaded n t)))
 
 abbrev μ-loop : tie.MeasureT-loop
 μ-loop t n other m i₀ i = n - i
@@ -42,7 +42,7 @@ returns c =
     let next : ahead (a .n) (now (a .t)) (l .i) ≡ r .result ∷ ahead (a .n) (now (a .t)) (l .i + 1) =
     ahead-next (a .n) (now (a .t)) (l .i) (omega arith) (omega arith) (r .result) (r .ensures) in
     let there = c .before .has-number in
-    let others = numbers (side (a .m) (now (a .other))) in
+    let others = numbers (loaded (a .m) (now (a .other))) in
     let p : noneOf others (r .result .number .0) ≡ false = none-fails others (r .result .number .0) (there .result) (there .ensures) (c .if1 .taken) in
     sym (every-fails (noneOf others) (ap numbers next) p) ∙ l .inv .1
 
@@ -61,7 +61,7 @@ loop-again c =
     let next : ahead (a .n) (now (a .t)) (l .i) ≡ r .result ∷ ahead (a .n) (now (a .t)) (l .i + 1) =
     ahead-next (a .n) (now (a .t)) (l .i) (omega arith) (omega arith) (r .result) (r .ensures) in
     let there = c .before .has-number in
-    let others = numbers (side (a .m) (now (a .other))) in
+    let others = numbers (loaded (a .m) (now (a .other))) in
     let p : noneOf others (r .result .number .0) ≡ true = none-passes others (r .result .number .0) (there .result) (there .ensures) (c .if1 .left) in
     (omega arith, sym (every-next (noneOf others) (ap numbers next) p) ∙ l .inv .1)
 
@@ -71,7 +71,7 @@ returns-2 c =
     let a = c .before .before .before .args in
     let f : length (now (a .t)) ≡ placesASide = c .before .before .whole .ensures in
     let end : ahead (a .n) (now (a .t)) (l .i) ≡ [] = ahead-end (a .n) (now (a .t)) (l .i) (omega arith) (omega arith) in
-    sym (every-end (noneOf (numbers (side (a .m) (now (a .other))))) (ap numbers end)) ∙ l .inv .1
+    sym (every-end (noneOf (numbers (loaded (a .m) (now (a .other))))) (ap numbers end)) ∙ l .inv .1
 
 pub none-on-both-spec : {M : Type 1} → statement M
 none-on-both-spec =

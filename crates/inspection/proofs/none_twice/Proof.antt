@@ -8,14 +8,14 @@ use borrow.Author.Needs.{needs}
 use denote.Ref.{now}
 use Rattle.basics.specs.Lists.{distinct}
 use Rattle.rules.specs.Book.{numbers, placesASide}
-use Rattle.rows.specs.Table.{side}
+use Rattle.rows.specs.Table.{loaded}
 use Rattle.rows.proofs.LawsTable.{ahead, ahead-end, ahead-next}
 use Rattle.inspection.proofs.LawsTurns.{distinct-end, distinct-fails, distinct-next, ahead-numbers}
 use Rattle.inspection.proofs.none_twice.Statement.{statement}
 use Rattle.inspection.proofs.none_twice.Tie as tie
 
 abbrev Inv-loop : tie.InvT-loop
-Inv-loop t n i₀ i = (i ≤ n) × (distinct (numbers (ahead n t i)) ≡ distinct (numbers (side n t)))
+Inv-loop t n i₀ i = (i ≤ n) × (distinct (numbers (ahead n t i)) ≡ distinct (numbers (loaded n t)))
 
 abbrev μ-loop : tie.MeasureT-loop
 μ-loop t n i₀ i = n - i

@@ -6,14 +6,13 @@ use mathlib.Core.Logic.{⊎-elim}
 use mathlib.Core.Path.{_≡_, refl, sym, ap, _∙_}
 use lib.Dec.{leb, ltb}
 use lib.ListN.{length, getD}
-use native.Mathlib.Omega.{arith}
 use borrow.Author.Needs.{needs}
 use borrow.Author.Tests.{leb-true, leb-false, le-ltb, lt-ltb}
 use denote.Ref.{now}
 use Rattle.basics.proofs.LawsChoice.{holds-or-not, or-neither, and-none}
 use Rattle.kinds.specs.declared.Cents.{Cents}
 use Rattle.rows.specs.Table.{side}
-use Rattle.rows.proofs.LawsTable.{length-side, row-side}
+use Rattle.rows.proofs.LawsSides.{length-side}
 use Rattle.rules.specs.declared.Resting.{Resting}
 use Rattle.rules.specs.Book.{unused}
 use Rattle.rules.specs.Working.{beyond, absent}
@@ -39,27 +38,21 @@ module _ (buy : Bool) (locking : Cents) (n at : ℕ) (s : List Resting) (long : 
 
 returns : tie.Need-returns
 returns c =
-    let start = c .before .before in
-    let a = start .args in
-    let long = length-side (a .n) (now (a .t)) (start .pre) in
+    let a = c .before .before .args in
     let ended : (leb (a .n) (a .at) || absent (a .locking)) ≡ true = c .if1 .taken in
-    sym (stops (a .buying) (a .locking) (a .n) (a .at) (side (a .n) (now (a .t))) long ended)
+    sym (stops (a .buying) (a .locking) (a .n) (a .at) (side (a .n) (now (a .x)) (now (a .t))) (length-side (a .n) (now (a .x)) (now (a .t))) ended)
 
 -- the order is there, and its price alone decides
 goes-on-at : (c : tie.Else1) → let a = c .before .before .args in
-    let s = side (a .n) (now (a .t)) in
+    let s = side (a .n) (now (a .x)) (now (a .t)) in
     (a .at < a .n) × (goesOn (a .buying) (a .locking) (a .at) s ≡ beyond (a .buying) (a .locking) (getD s (a .at) unused .price))
 goes-on-at c =
-    let start = c .before .before in
-    let a = start .args in
-    let long = length-side (a .n) (now (a .t)) (start .pre) in
+    let a = c .before .before .args in
     let further : (leb (a .n) (a .at) || absent (a .locking)) ≡ false = c .if1 .left in
-    goes (a .buying) (a .locking) (a .n) (a .at) (side (a .n) (now (a .t))) long further
+    goes (a .buying) (a .locking) (a .n) (a .at) (side (a .n) (now (a .x)) (now (a .t))) (length-side (a .n) (now (a .x)) (now (a .t))) further
 
-row-requires : tie.Need-row-requires
-row-requires c κs =
-    let f = c .before .before .pre .fits in
-    omega (arith, goes-on-at c .0)
+at-requires : tie.Need-at-requires
+at-requires c κs = (c .before .before .pre, goes-on-at c .0)
 
 within-requires : tie.Need-within-requires
 within-requires c κs = search needs
@@ -67,11 +60,9 @@ within-requires c κs = search needs
 returns-2 : tie.Need-returns-2
 returns-2 c =
     let k = c .before .before in
-    let start = k .before .before in
-    let a = start .args in
-    let s = side (a .n) (now (a .t)) in
-    let row = c .before .row in
-    let read : row .result ≡ getD s (a .at) unused = row .ensures ∙ row-side (a .n) (now (a .t)) (start .pre) (a .at) (goes-on-at k .0) in
+    let a = k .before .before .args in
+    let s = side (a .n) (now (a .x)) (now (a .t)) in
+    let read : c .before .at .result ≡ getD s (a .at) unused = c .before .at .ensures in
     let tested : c .within .result ≡ not (beyond (a .buying) (a .locking) (getD s (a .at) unused .price)) =
     c .within .ensures ∙ ap (λ (o : Resting). not (beyond (a .buying) (a .locking) (o .price))) read in
     ap not tested ∙ not-not (beyond (a .buying) (a .locking) (getD s (a .at) unused .price)) ∙ sym (goes-on-at k .1)
@@ -81,4 +72,4 @@ returns-2 c =
     not-not false = refl
 
 pub goes-on-spec : {M : Type 1} → statement M
-goes-on-spec = tie.close (tie.spec returns row-requires within-requires returns-2)
+goes-on-spec = tie.close (tie.spec returns at-requires within-requires returns-2)

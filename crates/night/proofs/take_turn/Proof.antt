@@ -35,7 +35,7 @@ add-most c = search needs
 
 carry-requires : tie.Need-carry-requires
 carry-requires c κs =
-    let s = c .before .before .before .before .before .before .before .before .before .before .before .before in
+    let s = c .before .before .before .before .before .before .before .before .before .before .before .before .before .before .before in
     let long = length-take-le (s .args .have) (now (s .args .input)) (s .pre .1) in
     (omega (arith, long, c .before .before .before .before .before .feed .ensures .1 .1 .1 .1 .0 .0), s .pre .1)
 
@@ -48,13 +48,13 @@ same-length-2 c = search needs
 returns : tie.Need-returns
 unfolding turned
 returns c =
-    let a = c .before .before .before .before .before .before .before .before .before .before .before .before .before .before .before .args in
+    let a = c .before .before .before .before .before .before .before .before .before .before .before .before .before .before .before .before .before .before .args in
     let f = c .before .before .before .before .before .before .before .before .feed in
     let k = c .before .before .carry in
     let j = c .before .before .before .before .if1 in
-    let b = bookOn (a .h) (now (a .buys)) (now (a .sells)) in
+    let b = bookOn (a .h) (now (a .x)) (now (a .buys)) (now (a .y)) (now (a .sells)) in
     let room = length (now (a .out)) in
-    let long : length (f .last .1 .1 .1 .1 .0) ≡ room = f .kept .1 .1 .1 .1 .0 in
+    let long : length (f .last .1 .1 .1 .1 .1 .1 .1 .0) ≡ room = f .kept .1 .1 .1 .1 .1 .1 .1 .0 in
     let isShort : Bool = ltb (room - f .result .length) leastRoom in
     let most : j .most ≡ (if isShort then a .have else partKept) =
     ⊎-elim

@@ -1,6 +1,4 @@
--- `program::main` is safe: the tables that it lends hold nothing yet. Assumes nothing.
-use mathlib.Core.Path.{refl}
-use Rattle.rows.specs.Table.{tableOf}
+-- `program::main` is safe: the input and the output that it lends are long enough. Assumes nothing.
 use borrow.Author.Needs.{needs}
 use Rattle.program.proofs.main.Statement.{statement}
 use Rattle.program.proofs.main.Tie as tie
@@ -12,8 +10,7 @@ slice-aggregate-run-2 : tie.Need-slice-aggregate-run-2
 slice-aggregate-run-2 c = search needs
 
 run-requires : tie.Need-run-requires
-unfolding tableOf
-run-requires c κs = (refl, refl, search needs, search needs)
+run-requires c κs = (search needs, search needs)
 
 returns : tie.Need-returns
 returns c = search needs

@@ -4,10 +4,10 @@ use mathlib.Core.Path.{_≡_, refl, sym, _∙_}
 use lib.ListN.{length}
 use lib.Seq.{length-take-le}
 use denote.Ref.{now}
-use Rattle.replay.proofs.LawsFeed.{stands-back}
 use Rattle.rules.specs.Book.{fresh}
 use Rattle.rules.specs.Refusals.{leastRoom}
 use Rattle.soundness.proofs.LawsKept.{fresh-sound}
+use Rattle.tables.proofs.LawsAnswers.{stands-back}
 use Rattle.tables.specs.Answers.{Stands}
 use native.Mathlib.Omega.{arith}
 use borrow.Author.Needs.{needs}
@@ -15,20 +15,28 @@ use Rattle.program.proofs.run.Statement.{statement}
 use Rattle.program.proofs.run.Tie as tie
 
 abbrev Inv-loop : tie.InvT-loop
-Inv-loop input₀ buys₀ sells₀ out₀ head₀ have₀ turns₀ t11 input buys sells out head have turns =
-    Stands head buys sells × (have ≤ length input₀) × (length input ≡ length input₀) × (length out ≡ length out₀)
+Inv-loop input₀ x₀ buys₀ y₀ sells₀ took₀ out₀ head₀ have₀ turns₀ prefix input x buys y sells took out head have turns =
+    Stands head x buys y sells × (have ≤ length input₀) × (length input ≡ length input₀) × (length out ≡ length out₀)
 
 abbrev μ-loop : tie.MeasureT-loop
-μ-loop input₀ buys₀ sells₀ out₀ head₀ have₀ turns₀ t11 input buys sells out head have turns = turns
+μ-loop input₀ x₀ buys₀ y₀ sells₀ took₀ out₀ head₀ have₀ turns₀ prefix input x buys y sells took out head have turns = turns
 
 begin-requires : tie.Need-begin-requires Inv-loop μ-loop
 begin-requires c κs = search needs
 
+clear-requires : tie.Need-clear-requires Inv-loop μ-loop
+clear-requires c κs = search needs
+
+clear-requires-2 : tie.Need-clear-requires-2 Inv-loop μ-loop
+clear-requires-2 c κs = search needs
+
 loop-holds : tie.Need-loop-holds Inv-loop μ-loop
 loop-holds c =
-    let s = c .before .before .before in
-    let begun : Stands (c .begin .result) (now (s .args .buys)) (now (s .args .sells)) =
-    rw (c .begin .ensures, s .pre .0, s .pre .1) (stands-back fresh fresh-sound) in
+    let buys = c .before .before .before .clear in
+    let sells = c .clear2 in
+    let s = c .before .before .before .before .before .before .before .before .before in
+    let begun : Stands (c .before .before .before .before .before .before .begin .result) (buys .last .0) (now (s .args .buys)) (sells .last .0) (now (s .args .sells)) =
+    rw (c .before .before .before .before .before .before .begin .ensures) (stands-back fresh (buys .last .0) (now (s .args .buys)) (sells .last .0) (now (s .args .sells)) (buys .ensures) (sells .ensures) fresh-sound) in
     (begun, omega arith, refl, refl)
 
 take-turn-requires : tie.Need-take-turn-requires Inv-loop μ-loop
@@ -37,21 +45,21 @@ take-turn-requires c κs = search needs
 -- what a turn leaves stands within the input and the output
 module _ (c : tie.After-take-turn Inv-loop μ-loop) where
   long-input : length (c .take-turn .last .1 .0)
-      ≡ length (now (c .before .before .before .before .before .before .before .before .before .before .args .input))
-  long-input = c .take-turn .kept .1 .0 ∙ c .before .before .before .before .before .before .loop .inv .2
+      ≡ length (now (c .before .before .before .before .before .before .before .before .before .before .before .before .before .before .before .before .before .before .before .args .input))
+  long-input = c .take-turn .kept .1 .0 ∙ c .before .before .before .before .before .before .before .before .before .loop .inv .2
 
-  long-out : length (c .take-turn .last .1 .1 .1 .1 .1 .0)
-      ≡ length (now (c .before .before .before .before .before .before .before .before .before .before .args .out))
-  long-out = c .take-turn .kept .1 .1 .1 .1 .1 .0 ∙ c .before .before .before .before .before .before .loop .inv .3
+  long-out : length (c .take-turn .last .1 .1 .1 .1 .1 .1 .1 .1 .0)
+      ≡ length (now (c .before .before .before .before .before .before .before .before .before .before .before .before .before .before .before .before .before .before .before .args .out))
+  long-out = c .take-turn .kept .1 .1 .1 .1 .1 .1 .1 .1 .0 ∙ c .before .before .before .before .before .before .before .before .before .loop .inv .3
 
-  room-stays : leastRoom ≤ length (c .take-turn .last .1 .1 .1 .1 .1 .0)
-  room-stays = omega (arith, long-out, c .before .before .before .before .before .before .before .before .before .before .pre .3)
+  room-stays : leastRoom ≤ length (c .take-turn .last .1 .1 .1 .1 .1 .1 .1 .1 .0)
+  room-stays = omega (arith, long-out, c .before .before .before .before .before .before .before .before .before .before .before .before .before .before .before .before .before .before .before .pre .1)
 
   waits-fit : c .take-turn .result .have ≤ length (c .take-turn .last .1 .0)
-  waits-fit = omega (arith, long-input, c .take-turn .ensures .1 .1 .1 .1 .1 .1, c .before .before .before .before .before .before .loop .inv .1)
+  waits-fit = omega (arith, long-input, c .take-turn .ensures .1 .1 .1 .1 .1 .1, c .before .before .before .before .before .before .before .before .before .loop .inv .1)
 
-  printed-fits : c .take-turn .result .length ≤ length (c .take-turn .last .1 .1 .1 .1 .1 .0)
-  printed-fits = omega (arith, c .take-turn .kept .1 .1 .1 .1 .1 .0, c .take-turn .ensures .1 .1 .1 .1 .1 .2)
+  printed-fits : c .take-turn .result .length ≤ length (c .take-turn .last .1 .1 .1 .1 .1 .1 .1 .1 .0)
+  printed-fits = omega (arith, c .take-turn .kept .1 .1 .1 .1 .1 .1 .1 .1 .0, c .take-turn .ensures .1 .1 .1 .1 .1 .2)
 
 slice-reshare-prefix-hand-over : tie.Need-slice-reshare-prefix-hand-over Inv-loop μ-loop
 slice-reshare-prefix-hand-over c = search needs
@@ -59,7 +67,7 @@ slice-reshare-prefix-hand-over c = search needs
 slice-aggregate-hand-over : tie.Need-slice-aggregate-hand-over Inv-loop μ-loop
 slice-aggregate-hand-over c =
     let t = c .before .before .before .before .before in
-    sym (length-take-le (t .take-turn .result .length) (t .take-turn .last .1 .1 .1 .1 .1 .0) (printed-fits t))
+    sym (length-take-le (t .take-turn .result .length) (t .take-turn .last .1 .1 .1 .1 .1 .1 .1 .1 .0) (printed-fits t))
 
 hand-over-requires : tie.Need-hand-over-requires Inv-loop μ-loop
 hand-over-requires c κs = search needs
@@ -86,10 +94,10 @@ fail-requires : tie.Need-fail-requires Inv-loop μ-loop
 fail-requires c κs = search needs
 
 same-length-3 : tie.Need-same-length-3 Inv-loop μ-loop
-same-length-3 c = search needs
+same-length-3 c = c .before .before .before .before .before .before .read-on .kept .0 ∙ long-input (c .before .before .before .before .before .before .before .before .before .before .before .before .before .before .before .before)
 
 same-length-4 : tie.Need-same-length-4 Inv-loop μ-loop
-same-length-4 c = search needs
+same-length-4 c = long-out (c .before .before .before .before .before .before .before .before .before .before .before .before .before .before .before .before)
 
 returns-2 : tie.Need-returns-2 Inv-loop μ-loop
 returns-2 c = search needs
@@ -98,7 +106,7 @@ enum-told-2 : tie.Need-enum-told-2 Inv-loop μ-loop
 enum-told-2 c = search needs
 
 slice-reshare-prefix-end-day : tie.Need-slice-reshare-prefix-end-day Inv-loop μ-loop
-slice-reshare-prefix-end-day c = search needs
+slice-reshare-prefix-end-day c = omega (arith, waits-fit (c .before .before .before .before .before .before .before .before .before .before .before .before .before .before), c .before .before .before .before .read-on .kept .0)
 
 slice-aggregate-end-day : tie.Need-slice-aggregate-end-day Inv-loop μ-loop
 slice-aggregate-end-day c =
@@ -110,10 +118,10 @@ end-day-requires : tie.Need-end-day-requires Inv-loop μ-loop
 end-day-requires c κs = room-stays (c .before .before .before .before .before .before .before .before .before .before .before .before .before .before .before .before)
 
 same-length-5 : tie.Need-same-length-5 Inv-loop μ-loop
-same-length-5 c = search needs
+same-length-5 c = c .before .before .before .before .before .before .before .before .before .read-on .kept .0 ∙ long-input (c .before .before .before .before .before .before .before .before .before .before .before .before .before .before .before .before .before .before .before)
 
 same-length-6 : tie.Need-same-length-6 Inv-loop μ-loop
-same-length-6 c = search needs
+same-length-6 c = c .before .before .end-day .kept .1 .0 ∙ long-out (c .before .before .before .before .before .before .before .before .before .before .before .before .before .before .before .before .before .before .before)
 
 returns-3 : tie.Need-returns-3 Inv-loop μ-loop
 returns-3 c = search needs
@@ -154,6 +162,8 @@ run-spec =
     Inv-loop
     μ-loop
     begin-requires
+    clear-requires
+    clear-requires-2
     loop-holds
     take-turn-requires
     slice-reshare-prefix-hand-over

@@ -2,7 +2,7 @@
 -- Assumes nothing.
 use Prim.Native.Nat.{_*_, _-_, _≤_}
 use mathlib.Core.List.{map}
-use mathlib.Core.Path.{_≡_, refl, ap, _∙_}
+use mathlib.Core.Path.{_≡_, refl, _∙_}
 use lib.ListN.{length, getD, take, drop}
 use lib.Seq.{take-all}
 use native.Mathlib.Omega.{arith}
@@ -10,8 +10,7 @@ use borrow.Author.Needs.{needs}
 use denote.Ref.{now}
 use Rattle.basics.specs.Bytes.{onto}
 use Rattle.rows.specs.Table.{side}
-use Rattle.rows.proofs.LawsTable.{length-side, row-side}
-use Rattle.rules.specs.declared.Resting.{Resting}
+use Rattle.rows.proofs.LawsSides.{length-side}
 use Rattle.rules.specs.Book.{unused}
 use Rattle.rules.specs.EventLines.{eventLine, eventLines}
 use Rattle.rules.proofs.LawsEvents.{cancelled-length}
@@ -21,18 +20,18 @@ use Rattle.reports.proofs.report_cancelled.Statement.{statement}
 use Rattle.reports.proofs.report_cancelled.Tie as tie
 
 abbrev Inv-loop : tie.InvT-loop
-Inv-loop t n reason out₀ len₀ i₀ out len i =
-    (i ≤ n) × (len ≡ 21 * i) × (length out ≡ length out₀) × (out ≡ onto (eventLines (map (cancelledFor reason) (take i (side n t)))) out₀)
+Inv-loop x t n reason out₀ len₀ i₀ out len i =
+    (i ≤ n) × (len ≡ 21 * i) × (length out ≡ length out₀) × (out ≡ onto (eventLines (map (cancelledFor reason) (take i (side n x t)))) out₀)
 
 abbrev μ-loop : tie.MeasureT-loop
-μ-loop t n reason out₀ len₀ i₀ out len i = n - i
+μ-loop x t n reason out₀ len₀ i₀ out len i = n - i
 
 loop-holds : tie.Need-loop-holds Inv-loop μ-loop
 unfolding onto eventLines
 loop-holds c = (omega arith, omega arith, refl, refl)
 
-row-requires : tie.Need-row-requires Inv-loop μ-loop
-row-requires c κs = search needs
+at-requires : tie.Need-at-requires Inv-loop μ-loop
+at-requires c κs = search needs
 
 sub-write-cancelled : tie.Need-sub-write-cancelled Inv-loop μ-loop
 sub-write-cancelled c = search needs
@@ -60,19 +59,17 @@ loop-again c =
     let w = c .before .before .write-cancelled in
     let read = c .before .before .before .before in
     let l = read .before .before .loop in
-    let start = read .before .before .before .before in
-    let a = start .args in
-    let held = start .pre .0 in
-    let s = side (a .n) (now (a .t)) in
-    let long = length-side (a .n) (now (a .t)) held in
-    let o : read .row .result ≡ getD s (l .i) unused = read .row .ensures ∙ row-side (a .n) (now (a .t)) held (l .i) (omega arith) in
+    let a = read .before .before .before .before .args in
+    let s = side (a .n) (now (a .x)) (now (a .t)) in
+    let long = length-side (a .n) (now (a .x)) (now (a .t)) in
     let n : w .result ≡ 21 = w .ensures .0 in
-    let p : w .last .0 ≡ onto (eventLine ((cancelledFor (a .reason)) (getD s (l .i) unused))) (take (length (l .out) - l .len) (drop (l .len) (l .out))) =
-    w .ensures .1 ∙ ap (λ (x : Resting). onto (eventLine ((cancelledFor (a .reason)) x)) (take (length (l .out) - l .len) (drop (l .len) (l .out)))) o in (
+    let p : w .last .0 ≡ onto (eventLine (cancelledFor (a .reason) (getD s (l .i) unused))) (take (length (l .out) - l .len) (drop (l .len) (l .out))) =
+    w .ensures .1 ∙ rw (read .at .ensures) in (
       omega arith,
       omega arith,
       search needs,
-      lines-turn (cancelledFor (a .reason)) 21 (λ h. cancelled-length (h .number) (h .shares) (a .reason)) s (l .i) (l .len) (l .out) (now (a .out)) (w .last .0) (omega arith) (l .inv .1) (l .inv .3) p,
+      lines-turn (cancelledFor (a .reason)) 21 (λ h. cancelled-length (h .number) (h .shares) (a .reason))
+          unused s (l .i) (omega arith) (l .len) (l .out) (now (a .out)) (w .last .0) (l .inv .1) (l .inv .3) p,
     )
 
 same-length : tie.Need-same-length Inv-loop μ-loop
@@ -81,11 +78,9 @@ same-length c = search needs
 returns : tie.Need-returns Inv-loop μ-loop
 returns c =
     let l = c .before .loop in
-    let start = c .before .before .before in
-    let a = start .args in
-    let s = side (a .n) (now (a .t)) in
-    let long = length-side (a .n) (now (a .t)) (start .pre .0) in
-    let all : take (l .i) s ≡ s = take-all (l .i) s (omega arith) in
+    let a = c .before .before .before .args in
+    let s = side (a .n) (now (a .x)) (now (a .t)) in
+    let all : take (l .i) s ≡ s = take-all (l .i) s (omega (arith, length-side (a .n) (now (a .x)) (now (a .t)))) in
     (omega arith, rw all at (l .inv .3))
 
 pub report-cancelled-spec : {M : Type 1} → statement M
@@ -95,7 +90,7 @@ report-cancelled-spec =
     Inv-loop
     μ-loop
     loop-holds
-    row-requires
+    at-requires
     sub-write-cancelled
     part-write-cancelled-start
     part-write-cancelled-end

@@ -1,78 +1,70 @@
--- `shifts::insert` meets its contract. The loop moves the rows from `at` on one up, from the last; the row put in then stands at `at`. Assumes nothing.
-use Prim.Native.Nat.{_-_, _≤_}
-use mathlib.Core.List.{[]}
+-- `shifts::insert` meets its contract: the row of the next place is named at its rank, and filled. Assumes nothing.
+use Prim.Native.Nat.{_-_}
 use mathlib.Core.Path.{_≡_, _∙_}
-use lib.ListN.{length, getD, set}
+use lib.ListN.{getD, set}
 use native.Mathlib.Omega.{arith}
 use borrow.Author.Needs.{needs}
 use denote.Ref.{now}
-use Rattle.basics.proofs.LawsLists.{shifted, shift-start, shift-step, shift-end}
-use Rattle.rules.specs.Book.{placesASide}
-use Rattle.rows.specs.Table.{rowOf}
-use Rattle.shifts.proofs.LawsShifts.{insert-table}
+use Rattle.rows.specs.Table.{rowOf, hintOf}
+use Rattle.rows.proofs.LawsIndex.{names-below}
+use Rattle.shifts.proofs.LawsTurns.{turned, turned-front}
+use Rattle.shifts.proofs.LawsShifts.{shows-inserted}
 use Rattle.shifts.proofs.insert.Statement.{statement}
 use Rattle.shifts.proofs.insert.Tie as tie
 
-abbrev Inv-loop : tie.InvT-loop
-Inv-loop t₀ n at o i₀ t i = (at ≤ i) × (i ≤ n) × (t ≡ shifted t₀ n i)
+whole-index-requires : tie.Need-whole-index-requires
+whole-index-requires c κs = search needs
 
-abbrev μ-loop : tie.MeasureT-loop
-μ-loop t₀ n at o i₀ t i = i
+element-copy-out-slot : tie.Need-element-copy-out-slot
+element-copy-out-slot c = search needs
 
-whole-requires : tie.Need-whole-requires Inv-loop μ-loop
-whole-requires c κs = search needs
+sub-raise : tie.Need-sub-raise
+sub-raise c = search needs
 
-loop-holds : tie.Need-loop-holds Inv-loop μ-loop
-loop-holds c =
-    let a = c .before .before .args in
-    let f : length (now (a .t)) ≡ placesASide = c .whole .ensures in
-    (search needs, search needs, shift-start [] (now (a .t)) (a .n) (omega arith))
+raise-requires : tie.Need-raise-requires
+raise-requires c κs = search needs
 
-sub-move-row : tie.Need-sub-move-row Inv-loop μ-loop
-sub-move-row c = search needs
+hint-of-requires : tie.Need-hint-of-requires
+hint-of-requires c κs = search needs
 
-move-row-requires : tie.Need-move-row-requires Inv-loop μ-loop
-move-row-requires c κs = search needs
+element-write-x : tie.Need-element-write-x
+element-write-x c = search needs
 
-sub-i : tie.Need-sub-i Inv-loop μ-loop
-sub-i c = search needs
+wide-requires : tie.Need-wide-requires
+wide-requires c κs = search needs
 
-loop-less : tie.Need-loop-less Inv-loop μ-loop
-loop-less c = search needs
+put-row-requires : tie.Need-put-row-requires
+put-row-requires c κs =
+    let start = c .before .before .before .before .before .before .before .before in
+    let a = start .args in
+    let w : c .wide .result ≡ getD (now (a .x)) (a .n) 0 = c .wide .ensures in
+    omega (arith, names-below (now (a .x)) (start .pre .0 .names) (a .n) (start .pre .2))
 
-loop-again : tie.Need-loop-again Inv-loop μ-loop
-loop-again c =
-    let l = c .before .before .before .loop in
-    let a = c .before .before .before .before .before .before .args in
-    let f : length (now (a .t)) ≡ placesASide = c .before .before .before .before .whole .ensures in
-    let e : c .move-row .last .0 ≡ set (l .t) (l .i) (getD (l .t) (l .i - 1) []) = c .move-row .ensures in
-    (omega arith, omega arith, rw e (shift-step [] (now (a .t)) (l .t) (a .n) (l .i) (omega arith) (omega arith) (omega arith) (l .inv .2)))
-
-put-row-requires : tie.Need-put-row-requires Inv-loop μ-loop
-put-row-requires c κs = search needs
-
-returns : tie.Need-returns Inv-loop μ-loop
+returns : tie.Need-returns
 returns c =
-    let l = c .before .before .before .loop in
-    let a = c .before .before .before .before .before .before .args in
-    let f : length (now (a .t)) ≡ placesASide = c .before .before .before .before .whole .ensures in
-    let z : l .i ≡ a .at = omega arith in
-    let e : c .put-row .last .0 ≡ set (l .t) (a .at) (rowOf (a .o)) = c .put-row .ensures in
-    rw e (shift-end [] (now (a .t)) (l .t) (a .n) (a .at) (rowOf (a .o)) (omega arith) (omega arith) (rw (← z) (l .inv .2))
-    ∙ insert-table (a .n) (now (a .t)) (c .before .before .before .before .before .before .pre .0) (a .at) (a .o) (omega arith) (omega arith))
+    let start = c .before .before .before .before .before .before .before .before .before in
+    let a = start .args in
+    let x = now (a .x) in
+    let slot = getD x (a .n) 0 in
+    let long = start .pre .0 .names .long in
+    let turn : c .before .before .before .before .raise .last .0 ≡ turned (a .n) (a .n - a .at) x =
+    c .before .before .before .before .raise .ensures ∙ turned-front x (a .n) (a .n - a .at) (omega arith) (omega arith) in
+    let hint : c .before .before .before .hint-of .result ≡ hintOf (a .o .number .0) = c .before .before .before .hint-of .ensures in
+    let wide : c .before .wide .result ≡ slot = c .before .wide .ensures in
+    let put : c .put-row .last .0 ≡ set (now (a .t)) (c .before .wide .result) (rowOf (a .o)) = c .put-row .ensures in
+    rw (turn, hint, put, wide)
+    (shows-inserted (a .n) x (now (a .t)) (start .pre .0) (a .at) (hintOf (a .o .number .0)) (a .o) (start .pre .1) (start .pre .2) (omega arith))
 
 pub insert-spec : {M : Type 1} → statement M
 insert-spec =
     tie.close
     (tie.spec
-    Inv-loop
-    μ-loop
-    whole-requires
-    loop-holds
-    sub-move-row
-    move-row-requires
-    sub-i
-    loop-less
-    loop-again
+    whole-index-requires
+    element-copy-out-slot
+    sub-raise
+    raise-requires
+    hint-of-requires
+    element-write-x
+    wide-requires
     put-row-requires
     returns)

@@ -1,48 +1,57 @@
--- `shifts::reduce` meets its contract: the order at the place is put back with the shares that it keeps. Assumes nothing.
+-- `shifts::reduce` meets its contract: the order at the rank is put back with the shares that it keeps. Assumes nothing.
+use Prim.Native.Nat.{ℕ, _-_, min}
+use mathlib.Core.List.{[]}
 use mathlib.Core.Path.{_≡_, ap, _∙_}
 use lib.ListN.{getD, set}
 use native.Mathlib.Omega.{arith}
 use borrow.Author.Needs.{needs}
 use denote.Ref.{now}
-use Rattle.rules.specs.declared.Resting.{Resting}
+use Rattle.kinds.specs.Kinds.{shares}
 use Rattle.rules.specs.Book.{unused}
-use Rattle.rules.specs.Working.{reducedBy}
-use Rattle.rows.specs.Table.{rowOf, side}
-use Rattle.rows.proofs.LawsTable.{row-side}
-use Rattle.shifts.proofs.LawsShifts.{set-table}
+use Rattle.rules.specs.Working.{reducedBy, withShares}
+use Rattle.rows.specs.Table.{orderOf, rowOf, ranked, side}
+use Rattle.rows.proofs.LawsSides.{order-at, side-put}
 use Rattle.shifts.proofs.reduce.Statement.{statement}
 use Rattle.shifts.proofs.reduce.Tie as tie
+
+slot-at-requires : tie.Need-slot-at-requires
+slot-at-requires c κs = search needs
 
 row-requires : tie.Need-row-requires
 row-requires c κs = search needs
 
--- the order that was read
-order-is : (c : tie.After-row)
-    → c .row .result ≡ getD (side (c .before .before .args .n) (now (c .before .before .args .t))) (c .before .before .args .at) unused
-order-is c =
-    let a = c .before .before .args in
-    let p = c .before .before .pre in
-    c .row .ensures ∙ row-side (a .n) (now (a .t)) (p .0) (a .at) (p .1)
+smaller-requires : tie.Need-smaller-requires
+smaller-requires c κs = search needs
 
-sub-t8 : tie.Need-sub-t8
-sub-t8 c =
-    let r = c .before .before in
-    let p = r .before .before .pre in
-    let e = ap (λ (o : Resting). o .shares .0) (order-is r) in
-    omega (arith, p .2, e)
+sub-t12 : tie.Need-sub-t12
+sub-t12 c =
+    let m = c .before .before in
+    let r = m .before .before in
+    let gone : m .smaller .result ≡ shares (min (r .before .before .before .args .part .0) (r .row .result .shares .0)) = m .smaller .ensures in
+    rw gone (omega arith)
 
 put-row-requires : tie.Need-put-row-requires
 put-row-requires c κs = search needs
 
 returns : tie.Need-returns
 returns c =
-    let r = c .before .before .before .before .before .before .before in
-    let a = r .before .before .args in
-    let p = r .before .before .pre in
-    let o = getD (side (a .n) (now (a .t))) (a .at) unused in
-    let e : c .put-row .last .0 ≡ set (now (a .t)) (a .at) (rowOf (reducedBy (a .part .0) (r .row .result))) = c .put-row .ensures in
-    e ∙ ap (λ (x : Resting). set (now (a .t)) (a .at) (rowOf (reducedBy (a .part .0) x))) (order-is r)
-    ∙ set-table (a .n) (now (a .t)) (p .0) (a .at) (reducedBy (a .part .0) o) (p .1)
+    let m = c .before .before .before .before .before .before .before in
+    let r = m .before .before in
+    let start = r .before .before .before in
+    let a = start .args in
+    let x = now (a .x) in
+    let t = now (a .t) in
+    let o = getD (side (a .n) x t) (a .at) unused in
+    let slot : r .before .before .slot-at .result ≡ getD (ranked (a .n) x) (a .at) 0 = r .before .before .slot-at .ensures .0 in
+    let read : r .row .result ≡ o = r .row .ensures ∙ ap (λ (j : ℕ). orderOf (getD t j [])) slot ∙ order-at (a .n) x t (a .at) (start .pre .1) in
+    let gone : m .smaller .result ≡ shares (min (a .part .0) (r .row .result .shares .0)) = m .smaller .ensures in
+    let had = r .row .result .shares .0 in
+    let left : had - min (a .part .0) had ≡ had - a .part .0 = omega arith in
+    let put : c .put-row .last .0 ≡ set t (r .before .before .slot-at .result) (rowOf (withShares (had - m .smaller .result .0) (r .row .result))) =
+    c .put-row .ensures in
+    rw (put, gone, left, slot, read) (side-put (a .n) x t (start .pre .0) (a .at) (reducedBy (a .part .0) o) (start .pre .1))
 
 pub reduce-spec : {M : Type 1} → statement M
-reduce-spec = tie.close (tie.spec row-requires sub-t8 put-row-requires returns)
+reduce-spec =
+    tie.close
+    (tie.spec slot-at-requires row-requires smaller-requires sub-t12 put-row-requires returns)

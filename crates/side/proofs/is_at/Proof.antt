@@ -6,11 +6,11 @@ use Rattle.rules.specs.declared.Resting.{Resting}
 use Rattle.side.proofs.is_at.Statement.{statement}
 use Rattle.side.proofs.is_at.Tie as tie
 
-row-requires : tie.Need-row-requires
-row-requires c κs = search needs
+at-requires : tie.Need-at-requires
+at-requires c κs = search needs
 
 returns : tie.Need-returns
-returns c = ap (λ (o : Resting). eqb (o .number .0) (c .before .before .before .args .number .0)) (c .before .before .row .ensures)
+returns c = ap (λ (o : Resting). eqb (o .number .0) (c .before .before .before .args .number .0)) (c .before .before .at .ensures)
 
 pub is-at-spec : {M : Type 1} → statement M
-is-at-spec = tie.close (tie.spec row-requires returns)
+is-at-spec = tie.close (tie.spec at-requires returns)

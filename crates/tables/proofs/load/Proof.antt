@@ -1,3 +1,4 @@
+-- `tables::load` meets its contract. After each turn the first `i` places are copied. Assumes nothing.
 use Prim.Native.Nat.{_-_, _≤_}
 use mathlib.Core.Path.{_≡_, refl, ap, _∙_}
 use lib.ListN.{length, set, getD}

@@ -58,7 +58,7 @@ returns-4 c =
     let a = e .before .before .before .before .args in
     let others : has (a .o .word) postOnly ≡ false = sym (c .before .has3 .ensures) ∙ not-true _ (c .if4 .taken) in
     rw (ne-eqb _ _ (e .before .before .if1 .left), not-fok e, not-ioc d)
-    (c .before .before .seek .ensures ∙ sym (unless-others (a .o) (side (a .n) (now (a .t))) (seeks (a .o) (a .away)) others))
+    (c .before .before .seek .ensures ∙ sym (unless-others (a .o) (side (a .n) (now (a .x)) (now (a .t))) (seeks (a .o) (a .away)) others))
 
 unless-meets-requires : tie.Need-unless-meets-requires
 unless-meets-requires c κs =
@@ -73,7 +73,7 @@ returns-5 c =
     let e = d .before .before in
     let a = e .before .before .before .before .args in
     rw (ne-eqb _ _ (e .before .before .if1 .left), not-fok e, not-ioc d)
-    (c .unless-meets .ensures ∙ ap (unlessPostOnlyMeets (a .o) (side (a .n) (now (a .t)))) (c .before .before .before .seek .ensures))
+    (c .unless-meets .ensures ∙ ap (unlessPostOnlyMeets (a .o) (side (a .n) (now (a .x)) (now (a .t)))) (c .before .before .before .seek .ensures))
 
 pub ending-of-spec : {M : Type 1} → statement M
 ending-of-spec =

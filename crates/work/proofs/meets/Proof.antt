@@ -7,8 +7,8 @@ use native.Mathlib.Omega.{arith}
 use borrow.Author.Needs.{needs}
 use denote.Ref.{now}
 use Rattle.basics.specs.Lists.{any}
-use Rattle.rows.specs.Table.{side}
-use Rattle.rows.proofs.LawsTable.{length-side, row-side}
+use Rattle.rows.specs.Table.{ranked, side}
+use Rattle.rows.proofs.LawsSides.{length-side}
 use Rattle.rules.specs.declared.Resting.{Resting}
 use Rattle.rules.specs.Book.{unused}
 use Rattle.rules.specs.Working.{beyond}
@@ -17,11 +17,11 @@ use Rattle.work.proofs.meets.Statement.{statement}
 use Rattle.work.proofs.meets.Tie as tie
 
 returns : tie.Need-returns
-unfolding any
+unfolding any ranked
 returns c = rw (c .if1 .taken)
 
-row-requires : tie.Need-row-requires
-row-requires c κs = search needs
+at-requires : tie.Need-at-requires
+at-requires c κs = search needs
 
 within-requires : tie.Need-within-requires
 within-requires c κs = search needs
@@ -30,13 +30,13 @@ returns-2 : tie.Need-returns-2
 returns-2 c =
     let start = c .before .before .before in
     let a = start .args in
-    let s = side (a .n) (now (a .t)) in
-    let long = length-side (a .n) (now (a .t)) (start .pre .0) in
+    let s = side (a .n) (now (a .x)) (now (a .t)) in
+    let long = length-side (a .n) (now (a .x)) (now (a .t)) in
     let some : 0 < a .n = omega (arith, c .before .before .if1 .left) in
-    let best : c .before .row .result ≡ getD s 0 unused = c .before .row .ensures ∙ row-side (a .n) (now (a .t)) (start .pre .0) 0 some in
+    let best : c .before .at .result ≡ getD s 0 unused = c .before .at .ensures in
     c .within .ensures
     ∙ ap (λ (h : Resting). not (beyond (a .buy) (a .price) (h .price))) best
     ∙ sym (meets-first (a .buy) (a .price) s (omega arith) (start .pre .1))
 
 pub meets-spec : {M : Type 1} → statement M
-meets-spec = tie.close (tie.spec returns row-requires within-requires returns-2)
+meets-spec = tie.close (tie.spec returns at-requires within-requires returns-2)

@@ -1,5 +1,8 @@
 -- `Book::save` meets its contract. Assumes nothing.
 use borrow.Author.Needs.{needs}
+use denote.Ref.{now}
+use Rattle.rows.proofs.LawsSides.{length-side}
+use Rattle.rules.specs.Book.{placesOf, recordOf}
 use Rattle.book.proofs.Book.save.Statement.{statement}
 use Rattle.book.proofs.Book.save.Tie as tie
 
@@ -10,7 +13,15 @@ save-requires-2 : tie.Need-save-requires-2
 save-requires-2 c κs = search needs
 
 returns : tie.Need-returns
-returns c = rw (c .before .save .ensures, c .save2 .ensures)
+unfolding placesOf recordOf
+returns c =
+    let a = c .before .before .before .args in
+    rw (
+      c .before .save .ensures,
+      c .save2 .ensures,
+      length-side (a .h .buys) (now (a .x)) (now (a .buys)),
+      length-side (a .h .sells) (now (a .y)) (now (a .sells)),
+    )
 
 pub save-spec : {M : Type 1} → statement M
 save-spec = tie.close (tie.spec save-requires save-requires-2 returns)

@@ -1,0 +1,90 @@
+-- `side::follow_hint` meets its contract: a hint that leads to the number in a row in use leads to its order. Assumes nothing.
+use Prim.Native.Nat.{_%_}
+use mathlib.Core.Bool.{true}
+use mathlib.Core.Path.{_≡_, sym, ap, _∙_}
+use lib.ListN.{getD}
+use native.Mathlib.Omega.{arith}
+use borrow.Author.Needs.{needs}
+use borrow.Author.Tests.{eq-eqb}
+use denote.Ref.{now}
+use Rattle.rules.specs.Book.{placesASide}
+use Rattle.rules.specs.Commands.{isNumber}
+use Rattle.rows.proofs.LawsSides.{length-side}
+use Rattle.side.proofs.LawsHints.{hint-leads}
+use Rattle.side.proofs.follow_hint.Statement.{statement}
+use Rattle.side.proofs.follow_hint.Tie as tie
+
+whole-index-requires : tie.Need-whole-index-requires
+whole-index-requires c κs = search needs
+
+hint-of-requires : tie.Need-hint-of-requires
+hint-of-requires c κs = search needs
+
+element-copy-out-hint : tie.Need-element-copy-out-hint
+element-copy-out-hint c = search needs
+
+wide-requires : tie.Need-wide-requires
+wide-requires c κs = search needs
+
+row-requires : tie.Need-row-requires
+row-requires c κs = search needs
+
+returns : tie.Need-returns
+returns c =
+    let a = c .before .before .before .before .before .before .before .before .args in
+    λ l. let z : ⊥ = omega (arith, l, length-side (a .n) (now (a .x)) (now (a .t))) in absurd z
+
+place-of-requires : tie.Need-place-of-requires
+place-of-requires c κs = search needs
+
+returns-2 : tie.Need-returns-2
+returns-2 c =
+    let a = c .before .before .before .before .before .before .before .before .before .before .args in
+    λ l. let z : ⊥ = omega (arith, l, length-side (a .n) (now (a .x)) (now (a .t))) in absurd z
+
+element-copy-out-named : tie.Need-element-copy-out-named
+element-copy-out-named c = search needs
+
+wide-requires-2 : tie.Need-wide-requires-2
+wide-requires-2 c κs = search needs
+
+returns-3 : tie.Need-returns-3
+returns-3 c =
+    let a = c .before .before .before .before .before .before .before .before .before .before .before .before .before .args in
+    λ l. let z : ⊥ = omega (arith, l, length-side (a .n) (now (a .x)) (now (a .t))) in absurd z
+
+sub-result : tie.Need-sub-result
+sub-result c = search needs
+
+sub-result-2 : tie.Need-sub-result-2
+sub-result-2 c = search needs
+
+returns-4 : tie.Need-returns-4
+returns-4 c =
+    let a = c .before .before .before .before .before .before .before .before .before .before .before .before .before .args in
+    let i = c .before .before .before .before .place-of .result in
+    let slot = c .before .before .before .before .before .before .before .before .before .wide .result % placesASide in
+    let wide : c .before .wide2 .result ≡ getD (now (a .x)) i 0 = c .before .wide2 .ensures in
+    let named : getD (now (a .x)) i 0 ≡ slot = sym wide ∙ c .if3 .left in
+    let its : isNumber (a .number) (c .before .before .before .before .before .before .before .before .row .result) ≡ true = eq-eqb (c .before .before .before .before .before .before .before .before .row .result .number .0) (a .number .0) (c .before .before .before .before .before .if1 .left) in
+    λ l. hint-leads (a .n) (now (a .x)) (now (a .t)) (c .before .before .before .before .before .before .before .before .before .before .before .before .before .pre .0) (a .number) (c .before .before .before .before .before .before .before .before .before .before .before .before .before .pre .1) slot i named (omega arith)
+    (ap (isNumber (a .number)) (sym (c .before .before .before .before .before .before .before .before .row .ensures)) ∙ its)
+
+pub follow-hint-spec : {M : Type 1} → statement M
+follow-hint-spec =
+    tie.close
+    (tie.spec
+    whole-index-requires
+    hint-of-requires
+    element-copy-out-hint
+    wide-requires
+    row-requires
+    returns
+    place-of-requires
+    returns-2
+    element-copy-out-named
+    wide-requires-2
+    returns-3
+    sub-result
+    sub-result-2
+    returns-4)
