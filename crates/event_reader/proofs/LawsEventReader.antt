@@ -5,8 +5,8 @@ use mathlib.Core.Path.{_≡_}
 use lib.ListN.{length}
 use borrow.Author.Tests.{lt-ltb, le-ltb}
 use Rattle.digits.specs.declared.Value.{Value}
+use Rattle.digits.specs.Digits.{numberAt}
 use Rattle.rules.specs.declared.EventReading.the-variants.{Short}
-use Rattle.rules.specs.CommandLines.{numberAt}
 use Rattle.rules.specs.EventReading.{ofKind, eventIn}
 
 pub eventIn-short : (s : List ℕ) → length s < 2 → eventIn s ≡ Short

@@ -1,6 +1,5 @@
 // The reader of our own event lines, kinds 11 to 14, over any bytes (02, W1 and W2). Refusals are tried in this order: unknown kind, short
 // (also below two bytes), trailing bytes, bad digit or ending.
-use digits::Value;
 use kinds::Cents;
 use kinds::Number;
 use kinds::Shares;
@@ -20,23 +19,18 @@ ghost use Rattle.event_reader.specs.Ended.{whenEnded};
 fn read_executed(s: &[u8]) -> EventReading
     ensures { λ r. ⌜ r ≡ eventOf executedOf (numbersFrom 2 executedFields (now (s .entry))) ⌝ }
 {
-    let Value::Is(incoming) = fields::four_at(s, 2) else {
+    let incoming = digits::field_at(s, 2, 4);
+    let resting = digits::field_at(s, 10, 4);
+    let price = digits::field_at(s, 18, 4);
+    let shares = digits::field_at(s, 26, 4);
+    if !(incoming.good & resting.good & price.good & shares.good) {
         return EventReading::BadDigitOrEnding;
-    };
-    let Value::Is(resting) = fields::four_at(s, 10) else {
-        return EventReading::BadDigitOrEnding;
-    };
-    let Value::Is(price) = fields::four_at(s, 18) else {
-        return EventReading::BadDigitOrEnding;
-    };
-    let Value::Is(shares) = fields::four_at(s, 26) else {
-        return EventReading::BadDigitOrEnding;
-    };
+    }
     EventReading::Is(Event::Executed {
-        incoming: Number(incoming),
-        resting: Number(resting),
-        price: Cents(price),
-        shares: Shares(shares),
+        incoming: Number(incoming.number),
+        resting: Number(resting.number),
+        price: Cents(price.number),
+        shares: Shares(shares.number),
     })
 }
 
@@ -44,26 +38,23 @@ fn read_executed(s: &[u8]) -> EventReading
 fn read_at_price(s: &[u8], moved: bool) -> EventReading
     ensures { λ r. ⌜ r ≡ eventOf (if moved then movedOf else restedOf) (numbersFrom 2 restedFields (now (s .entry))) ⌝ }
 {
-    let Value::Is(number) = fields::four_at(s, 2) else {
+    let number = digits::field_at(s, 2, 4);
+    let price = digits::field_at(s, 10, 4);
+    let shares = digits::field_at(s, 18, 4);
+    if !(number.good & price.good & shares.good) {
         return EventReading::BadDigitOrEnding;
-    };
-    let Value::Is(price) = fields::four_at(s, 10) else {
-        return EventReading::BadDigitOrEnding;
-    };
-    let Value::Is(shares) = fields::four_at(s, 18) else {
-        return EventReading::BadDigitOrEnding;
-    };
+    }
     if moved {
         return EventReading::Is(Event::Moved {
-            number: Number(number),
-            price: Cents(price),
-            shares: Shares(shares),
+            number: Number(number.number),
+            price: Cents(price.number),
+            shares: Shares(shares.number),
         });
     }
     EventReading::Is(Event::Rested {
-        number: Number(number),
-        price: Cents(price),
-        shares: Shares(shares),
+        number: Number(number.number),
+        price: Cents(price.number),
+        shares: Shares(shares.number),
     })
 }
 
@@ -71,19 +62,16 @@ fn read_at_price(s: &[u8], moved: bool) -> EventReading
 fn read_cancelled(s: &[u8]) -> EventReading
     ensures { λ r. ⌜ r ≡ eventOf cancelledOf (numbersFrom 2 cancelledFields (now (s .entry))) ⌝ }
 {
-    let Value::Is(number) = fields::four_at(s, 2) else {
+    let number = digits::field_at(s, 2, 4);
+    let shares = digits::field_at(s, 10, 4);
+    let reason = digits::field_at(s, 18, 1);
+    if !(number.good & shares.good & reason.good) {
         return EventReading::BadDigitOrEnding;
-    };
-    let Value::Is(shares) = fields::four_at(s, 10) else {
-        return EventReading::BadDigitOrEnding;
-    };
-    let Value::Is(reason) = fields::one_at(s, 18) else {
-        return EventReading::BadDigitOrEnding;
-    };
+    }
     EventReading::Is(Event::Cancelled {
-        number: Number(number),
-        shares: Shares(shares),
-        reason: reason as u8,
+        number: Number(number.number),
+        shares: Shares(shares.number),
+        reason: reason.number as u8,
     })
 }
 
@@ -113,9 +101,11 @@ pub fn read_event(s: &[u8]) -> EventReading
     if s.len() < 2 {
         return EventReading::Short;
     }
-    let Value::Is(kind) = fields::one_at(s, 0) else {
+    let read = digits::field_at(s, 0, 1);
+    if !read.good {
         return EventReading::UnknownKind;
-    };
+    }
+    let kind = read.number;
     match kind {
         0x11 => when_ended(s, rules::EXECUTED_LENGTH, read_executed(s)),
         0x12 => when_ended(s, rules::RESTED_LENGTH, read_at_price(s, false)),

@@ -1,6 +1,5 @@
 // The reader of command lines, over any bytes (01, Command lines): a line is the header's 18 digits and then the body's, which
 // are read as a part of their own.
-use digits::Value;
 use kinds::Cents;
 use kinds::Number;
 use kinds::Shares;
@@ -31,23 +30,18 @@ fn read_order(s: &[u8]) -> BodyReading
     if !is_ended(s, 22) {
         return BodyReading::Bad;
     }
-    let Value::Is(side) = fields::one_at(s, 0) else {
+    let side = digits::field_at(s, 0, 1);
+    let word = digits::field_at(s, 2, 2);
+    let price = digits::field_at(s, 6, 4);
+    let shares = digits::field_at(s, 14, 4);
+    if !(side.good & word.good & price.good & shares.good) {
         return BodyReading::Bad;
-    };
-    let Value::Is(word) = fields::two_at(s, 2) else {
-        return BodyReading::Bad;
-    };
-    let Value::Is(price) = fields::four_at(s, 6) else {
-        return BodyReading::Bad;
-    };
-    let Value::Is(shares) = fields::four_at(s, 14) else {
-        return BodyReading::Bad;
-    };
+    }
     BodyReading::Is(Body::Order(Order {
-        side: side as u8,
-        word: word as u16,
-        price: Cents(price),
-        shares: Shares(shares),
+        side: side.number as u8,
+        word: word.number as u16,
+        price: Cents(price.number),
+        shares: Shares(shares.number),
     }))
 }
 
@@ -57,10 +51,11 @@ fn read_cancel(s: &[u8]) -> BodyReading
     if !is_ended(s, 8) {
         return BodyReading::Bad;
     }
-    let Value::Is(number) = fields::four_at(s, 0) else {
+    let number = digits::field_at(s, 0, 4);
+    if !number.good {
         return BodyReading::Bad;
-    };
-    BodyReading::Is(Body::Cancel(Number(number)))
+    }
+    BodyReading::Is(Body::Cancel(Number(number.number)))
 }
 
 fn read_quote(s: &[u8]) -> BodyReading
@@ -69,15 +64,14 @@ fn read_quote(s: &[u8]) -> BodyReading
     if !is_ended(s, 16) {
         return BodyReading::Bad;
     }
-    let Value::Is(bid) = fields::four_at(s, 0) else {
+    let bid = digits::field_at(s, 0, 4);
+    let offer = digits::field_at(s, 8, 4);
+    if !(bid.good & offer.good) {
         return BodyReading::Bad;
-    };
-    let Value::Is(offer) = fields::four_at(s, 8) else {
-        return BodyReading::Bad;
-    };
+    }
     BodyReading::Is(Body::Quote(Away {
-        bid: Cents(bid),
-        offer: Cents(offer),
+        bid: Cents(bid.number),
+        offer: Cents(offer.number),
     }))
 }
 
@@ -110,21 +104,18 @@ pub fn read_command(s: &[u8]) -> Reading
     if s.len() < 18 {
         return Reading::Bad;
     }
-    let Value::Is(kind) = fields::one_at(s, 0) else {
+    let kind = digits::field_at(s, 0, 1);
+    let number = digits::field_at(s, 2, 4);
+    let time = digits::field_at(s, 10, 4);
+    if !(kind.good & number.good & time.good) {
         return Reading::Bad;
-    };
-    let Value::Is(number) = fields::four_at(s, 2) else {
-        return Reading::Bad;
-    };
-    let Value::Is(time) = fields::four_at(s, 10) else {
-        return Reading::Bad;
-    };
-    let BodyReading::Is(body) = read_body(kind, &s[18..]) else {
+    }
+    let BodyReading::Is(body) = read_body(kind.number, &s[18..]) else {
         return Reading::Bad;
     };
     Reading::Is(Command {
-        number: Number(number),
-        time,
+        number: Number(number.number),
+        time: time.number,
         body,
     })
 }

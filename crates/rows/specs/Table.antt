@@ -6,7 +6,7 @@ use mathlib.Core.Path.{_≡_}
 use lib.Dec.{eqb}
 use lib.ListN.{length, getD, take}
 use Rattle.basics.specs.Choice.{if_then_else_}
-use Rattle.basics.specs.Lists.{times}
+use Rattle.basics.specs.Lists.{times, insertAt, removeAt}
 use Rattle.kinds.specs.Kinds.{cents, shares, number}
 use Rattle.rules.specs.declared.Resting.{Resting}
 use Rattle.rules.specs.Book.{placesASide, stamp}
@@ -64,6 +64,10 @@ hintOf n = placesASide + 1 + n % hints
 unfoldable pub ranked : ℕ → List ℕ → List ℕ
 ranked zero x = []
 ranked (suc n) x = getD x n 0 ∷ ranked n x
+
+-- the byte at place `from` of an index comes to stand at place `to`, and those between move up
+abbrev pub turned : ℕ → ℕ → List ℕ → List ℕ
+turned from to x = insertAt to (getD x from 0) (removeAt from x)
 
 -- the rows that some bytes name
 abbrev pub rowsAt : List (List ℕ) → List ℕ → List (List ℕ)

@@ -1,6 +1,6 @@
 // One side of the book in two lent tables: rows, each of which holds a resting order or is free, and an index that names the rows in use in
-// rank order, the best order's last. A row stays where it is as long as its order rests. Only `order_of` and `row_of` know which word of
-// a row is which field.
+// rank order, the best order's last. A row stays where it is as long as its order rests. Only `order_of`, `row_of` and `level_at`
+// know which word of a row is which field.
 use kinds::Cents;
 use kinds::Number;
 use kinds::Shares;

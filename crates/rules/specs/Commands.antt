@@ -44,7 +44,7 @@ cancel of d = bothSettled (λ (buy : Bool). cancelFate of) d
 
 -- A quote moves resting orders (02, W2, for 01's "Quote writes nothing, and moves no resting order"): "a non-displayed order that
 -- would now cross the away quote is set at the Locking Price with a new time stamp." An absent away price is not crossed; a displayed
--- order stays, so "a later quote may be locked or crossed" by it. "ISO remainders are treated alike."
+-- order stays, so "A later quote may be locked or crossed" by it. "ISO remainders are treated alike."
 abbrev pub wouldNowCross : Bool → Away → Resting → Bool
 wouldNowCross buy away h =
     let locking = lockingPrice buy away in

@@ -1,5 +1,5 @@
 -- What becomes of resting orders by a command, other than by executions: a cancel, the moves of a quote (02, W2) and a close all have this
--- one shape. Each resting order has a fate; those that stay, those that are set anew and the lines of the others follow from it.
+-- one shape. Each resting order has a fate; those that stay, those that are set anew, and the lines of all that do not stay follow from it.
 use Prim.Native.Nat.{ℕ, suc, _+_}
 use mathlib.Core.Bool.{Bool, true, false}
 use mathlib.Core.List.{List, [], _∷_, _++_}
@@ -68,7 +68,7 @@ toldBy (IsSet new) h = Moved (new .number) (new .price) (new .shares) ∷ []
 
 -- ── Of a side ──
 
--- those that stay, those that are set anew, and the lines of the others, in rank order
+-- those that stay, those that are set anew, and the lines of all that do not stay, in rank order
 unfoldable pub staying : (Resting → Fate) → List Resting → List Resting
 staying fate s = gathered (λ (h : Resting). keptBy (fate h) h) s
 

@@ -12,10 +12,10 @@ use Rattle.basics.specs.Lists.{times, insertAt, removeAt}
 use Rattle.basics.proofs.LawsLists.{length-removeAt}
 use Rattle.rules.specs.declared.Resting.{Resting}
 use Rattle.rules.specs.Book.{placesASide}
-use Rattle.rows.specs.Table.{rowOf, ranked, side, Names, Holds, Shows}
+use Rattle.rows.specs.Table.{rowOf, ranked, turned, side, Names, Holds, Shows}
 use Rattle.rows.proofs.LawsIndex.{length-ranked, ranked-alike, times-insertAt, names-same}
 use Rattle.rows.proofs.LawsSides.{side-inserted, side-removed}
-use Rattle.shifts.proofs.LawsTurns.{inserted-before, inserted-there, inserted-behind, removed-before, insertAt-removeAt, removeAt-insertAt, turned, length-turned}
+use Rattle.shifts.proofs.LawsTurns.{inserted-before, inserted-there, inserted-behind, removed-before, insertAt-removeAt, removeAt-insertAt, length-turned}
 
 -- ── The rows in rank order ──
 

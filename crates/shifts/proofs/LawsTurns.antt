@@ -1,12 +1,12 @@
 -- Laws of a list of which one element is taken out and put in elsewhere: place by place, and as a loop fills it in. Assumes nothing.
 use Prim.Native.Nat.{ℕ, zero, suc, _+_, _-_, _≤_, _<_}
 use mathlib.Core.Bool.{true, false, _&&_}
-use mathlib.Core.List.{List, [], _∷_, _++_, append-assoc}
+use mathlib.Core.List.{List, [], _∷_}
 use mathlib.Core.Logic.{⊎-elim}
 use mathlib.Core.Path.{_≡_, refl, sym, ap, _∙_}
 use lib.Dec.{eqb, ltb, leb}
-use lib.ListN.{length, getD, set, take, drop, length-append, length-take, length-drop, length-set, take-append-drop}
-use lib.Seq.{take-append-le, drop-append-le, take-at, drop-at, length-take-le, getD-set-same, getD-set-other, ext-getD}
+use lib.ListN.{length, getD, set, length-append, length-take, length-drop, length-set}
+use lib.Seq.{getD-set-same, getD-set-other, ext-getD}
 use native.Mathlib.Nat.{suc-add}
 use native.Mathlib.Numerals.{add-one}
 use native.Mathlib.Omega.{arith}
@@ -15,6 +15,7 @@ use Rattle.basics.specs.Choice.{if_then_else_}
 use Rattle.basics.specs.Lists.{insertAt, removeAt}
 use Rattle.basics.proofs.LawsChoice.{holds-or-not, lt-or-le}
 use Rattle.basics.proofs.LawsLists.{length-removeAt}
+use Rattle.rows.specs.Table.{turned}
 
 -- ── One element in or out, place by place ──
 
@@ -62,28 +63,6 @@ module _ {A : Type 0} (d : A) where
   removeAt-insertAt (suc at) v (x ∷ s) l = rw (suc-add at 1) (ap (λ (u : List A). x ∷ u) (removeAt-insertAt at v s (omega arith)))
 
 -- ── One element moved ──
-
--- the element at place `from` comes to stand at place `to`
-abbrev pub turned : ℕ → ℕ → List ℕ → List ℕ
-turned from to x = insertAt to (getD x from 0) (removeAt from x)
-
--- to the front, where those behind it stay as they are
-pub turned-front : (x : List ℕ) (n at : ℕ) → at ≤ n → n < length x → insertAt at (getD x n 0) (take n x) ++ drop (n + 1) x ≡ turned n at x
-turned-front x n at h l =
-    let m : at ≤ length (take n x) = simp length-take (omega arith) in
-    rw (take-append-le, drop-append-le) (append-assoc (take at (take n x)) (getD x n 0 ∷ drop at (take n x)) (drop (n + 1) x))
-
--- to the end of the first n
-pub turned-back : (x : List ℕ) (n at : ℕ) → at < n → n ≤ length x → removeAt at (take n x) ++ (getD x at 0 ∷ drop n x) ≡ turned at (n - 1) x
-turned-back x n at h l =
-    let m : length (take n x) ≡ n = length-take-le n x l in
-    let p : length (removeAt at (take n x)) ≡ n - 1 = length-removeAt at (take n x) (omega arith) ∙ rw m in
-    let a : at ≤ length (take n x) = omega arith in
-    let b : at + 1 ≤ length (take n x) = omega arith in
-    let e : removeAt at (take n x) ++ drop n x ≡ removeAt at x =
-    append-assoc (take at (take n x)) (drop (at + 1) (take n x)) (drop n x)
-    ∙ rw (← take-append-le at (take n x) (drop n x) a, ← drop-append-le (at + 1) (take n x) (drop n x) b, take-append-drop n x) in
-    rw (← e, take-at (removeAt at (take n x)) (drop n x) (n - 1) p, drop-at (removeAt at (take n x)) (drop n x) (n - 1) p)
 
 module _ (x : List ℕ) (from to : ℕ) (f : from < length x) (t : to < length x) where
   left-long : length (removeAt from x) ≡ length x - 1

@@ -5,14 +5,13 @@ use rows::PLACES;
 use rows::Rows;
 use rules::Resting;
 ghost use mathlib.Core.Bool.{_&&_};
-ghost use mathlib.Core.List.{_∷_, _++_};
 ghost use mathlib.Core.Path.{_≡_};
-ghost use Prim.Native.Nat.{_+_, _-_, _≤_, _<_};
+ghost use Prim.Native.Nat.{_≤_, _<_};
 ghost use lib.Dec.{ltb, leb};
-ghost use lib.ListN.{getD, set, take, drop};
+ghost use lib.ListN.{getD, set};
 ghost use Rattle.basics.specs.Choice.{if_then_else_};
 ghost use Rattle.basics.specs.Lists.{insertAt, removeAt};
-ghost use Rattle.rows.specs.Table.{side, Holds, Shows};
+ghost use Rattle.rows.specs.Table.{turned, side, Holds, Shows};
 ghost use Rattle.rules.specs.Book.{placesASide, unused};
 ghost use Rattle.rules.specs.Working.{reducedBy};
 
@@ -25,16 +24,16 @@ fn raised(lo: u8, hi: u8, j: u8, before: u8, own: u8) -> u8
     if (lo < j) & (j <= hi) { before } else { own }
 }
 
-// The byte at place `n` comes to stand at place `at`, and those between move one up.
-fn raise(x: &mut Index, n: usize, at: usize)
-    requires { ⌜ (at ≤ n) × (n < placesASide) ⌝ }
-    ensures { λ _. ⌜ now (x .exit) ≡ insertAt at (getD (now (x .entry)) n 0) (take n (now (x .entry))) ++ drop (n + 1) (now (x .entry)) ⌝ }
+// The byte at place `from` comes to stand at place `to`, which is no later, and those between move one up.
+fn raise(x: &mut Index, from: usize, to: usize)
+    requires { ⌜ (to ≤ from) × (from < placesASide) ⌝ }
+    ensures { λ _. ⌜ now (x .exit) ≡ turned from to (now (x .entry)) ⌝ }
 {
     rows::whole_index(x);
-    let v = x[n];
+    let v = x[from];
     let steps = rows::STEPS;
-    let lo = at as u8;
-    let hi = n as u8;
+    let lo = to as u8;
+    let hi = from as u8;
     let mut last: u8 = 0;
     for i in 0..PLACES {
         let b = x[i];
@@ -42,7 +41,7 @@ fn raise(x: &mut Index, n: usize, at: usize)
         x[i] = raised(lo, hi, j, last, b);
         last = b;
     }
-    x[at] = v;
+    x[to] = v;
 }
 
 // What stands at place `j` once the bytes behind `lo` up to `hi` have each moved one down: the byte behind it, or its own.
@@ -52,16 +51,16 @@ fn lowered(lo: u8, hi: u8, j: u8, behind: u8, own: u8) -> u8
     if (lo <= j) & (j < hi) { behind } else { own }
 }
 
-// The byte at place `at` comes to stand at place `n - 1`, and those between move one down.
-fn lower(x: &mut Index, n: usize, at: usize)
-    requires { ⌜ (at < n) × (n ≤ placesASide) ⌝ }
-    ensures { λ _. ⌜ now (x .exit) ≡ removeAt at (take n (now (x .entry))) ++ (getD (now (x .entry)) at 0 ∷ drop n (now (x .entry))) ⌝ }
+// The same to a place that is no earlier: those between move one down.
+fn lower(x: &mut Index, from: usize, to: usize)
+    requires { ⌜ (from ≤ to) × (to < placesASide) ⌝ }
+    ensures { λ _. ⌜ now (x .exit) ≡ turned from to (now (x .entry)) ⌝ }
 {
     rows::whole_index(x);
-    let v = x[at];
+    let v = x[from];
     let steps = rows::STEPS;
-    let lo = at as u8;
-    let hi = (n - 1) as u8;
+    let lo = from as u8;
+    let hi = to as u8;
     let mut b = x[0];
     for i in 0..PLACES {
         let next = x[i + 1];
@@ -69,7 +68,7 @@ fn lower(x: &mut Index, n: usize, at: usize)
         x[i] = lowered(lo, hi, j, next, b);
         b = next;
     }
-    x[n - 1] = v;
+    x[to] = v;
 }
 
 // ── Orders ──
@@ -92,7 +91,8 @@ pub fn remove(x: &mut Index, t: &Rows, n: usize, at: usize)
     requires { ⌜ Holds n (now x) (now t) × (at < n) ⌝ }
     ensures { λ _. ⌜ Shows (removeAt at (side n (now (x .entry)) (now (t .entry)))) (now (x .exit)) (now (t .entry)) ⌝ }
 {
-    lower(x, n, n - 1 - at);
+    let last = n - 1;
+    lower(x, last - at, last);
 }
 
 // The side with `part` shares fewer in the order at rank `at`.

@@ -7,7 +7,6 @@ use lib.ListN.{getD}
 use denote.Ref.{now}
 use Rattle.rules.specs.Book.{placesASide}
 use Rattle.rules.specs.declared.Resting.{Resting}
-use Rattle.rows.specs.Table.{side}
 use Rattle.tables.specs.declared.Step.{Step}
 use Rattle.tables.proofs.refuse.Reads as refuse
 use Rattle.tables.proofs.load.Reads as load
@@ -26,10 +25,9 @@ pub number-determined : (κs : _) (a : _) (r r′ : _) (s s′ : _) → number.P
     → (i : ℕ) → i < placesASide → getD (now (s .0)) i 0 ≡ getD (now (s′ .0)) i 0
 number-determined κs a r r′ s s′ p q i l = p .each i l ∙ sym (q .each i l)
 
--- of a cleared index the side that it and the table show
 pub clear-determined : (κs : _) (a : _) (r r′ : _) (s s′ : _) → clear.Post κs a r s → clear.Post κs a r′ s′
-    → side 0 (now (s .0)) (now (a .1 .0)) ≡ side 0 (now (s′ .0)) (now (a .1 .0))
-clear-determined κs a r r′ s s′ p q = p .is ∙ sym (q .is)
+    → (i : ℕ) → i < placesASide → getD (now (s .0)) i 0 ≡ getD (now (s′ .0)) i 0
+clear-determined κs a r r′ s s′ p q i l = p .1 .each i l ∙ sym (q .1 .each i l)
 
 pub save-determined : (κs : _) (a : _) (r r′ : List Resting) (s s′ : _) → save.Post κs a r s → save.Post κs a r′ s′ → r ≡ r′
 save-determined κs a r r′ s s′ p q = p ∙ sym q

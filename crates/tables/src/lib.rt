@@ -68,9 +68,10 @@ pub fn number(x: &mut Index, n: usize)
     }
 }
 
-// A side with no order: whatever the rows hold, none is in use.
+// A side with no order: whatever the rows hold, none is in use, and each place names its own row.
 pub fn clear(x: &mut Index, t: &Rows)
     ensures { λ _. ⌜ Shows [] (now (x .exit)) (now (t .entry)) ⌝ }
+    ensures { λ _. ⌜ Numbered 0 (now (x .exit)) ⌝ }
 {
     rows::whole(t);
     number(x, 0);

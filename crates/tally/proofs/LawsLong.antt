@@ -11,14 +11,14 @@ use borrow.Author.Tests.{lt-ltb, le-ltb}
 use Rattle.basics.specs.Choice.{if_then_else_}
 use Rattle.digits.specs.declared.Value.{Value}
 use Rattle.digits.specs.declared.Value.the-variants as value
-use Rattle.digits.specs.Digits.{numberIn}
+use Rattle.digits.specs.Digits.{numberIn, numberAt}
 use Rattle.kinds.specs.declared.Number.{Number}
 use Rattle.lines.specs.Pieces.{partKept, allOf}
 use Rattle.lines.proofs.LawsPieces.{cut-alike}
 use Rattle.rules.specs.declared.Event.{Event}
 use Rattle.rules.specs.declared.EventReading.{EventReading}
 use Rattle.rules.specs.declared.EventReading.the-variants.{UnknownKind, TrailingBytes}
-use Rattle.rules.specs.CommandLines.{numberAt, digitsIn}
+use Rattle.rules.specs.CommandLines.{digitsIn}
 use Rattle.rules.specs.EventLines.{executedKind, restedKind, cancelledKind, movedKind, executedFields, restedFields, cancelledFields, movedFields, withKind}
 use Rattle.rules.specs.EventReading.{executedOf, restedOf, cancelledOf, movedOf, ofFields, ofKind, eventIn}
 use Rattle.tally.specs.declared.Tally.{Tally}

@@ -12,7 +12,7 @@ use Rattle.rules.specs.declared.Event.{Event}
 use Rattle.rules.specs.declared.Event.the-variants.{Executed, Rested, Cancelled, Moved}
 use Rattle.rules.specs.declared.EventReading.{EventReading}
 use Rattle.rules.specs.declared.EventReading.the-variants as reading
-use Rattle.rules.specs.CommandLines.{numberAt}
+use Rattle.digits.specs.Digits.{numberAt}
 use Rattle.rules.specs.Day.{linesIn}
 use Rattle.rules.specs.EventLines.{refusalKind}
 use Rattle.rules.specs.EventReading.{eventIn, isKind}

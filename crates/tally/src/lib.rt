@@ -1,13 +1,12 @@
 // The tally of one order over a day's event lines (02, W1): the shares executed and cancelled of it, line by line, on pieces of bounded
 // size.
-use digits::Value;
 use kinds::Number;
 use kinds::Shares;
 use rules::Event;
 use rules::EventReading;
 ghost use mathlib.Core.Path.{_≡_};
 ghost use Rattle.demands.specs.Told.{cancelledBy};
-ghost use Rattle.rules.specs.CommandLines.{numberAt};
+ghost use Rattle.digits.specs.Digits.{numberAt};
 ghost use Rattle.rules.specs.EventLines.{refusalKind};
 ghost use Rattle.rules.specs.EventReading.{isKind};
 ghost use Rattle.tally.specs.Tally.{begun, executedShares, oneMore, stoppedBy, passedOver, added, counted, isGoing, turn, fedOn};
@@ -156,10 +155,8 @@ fn is_going(stop: Stop) -> bool
 fn tells_a_refusal(line: &[u8]) -> bool
     ensures { λ r. ⌜ r ≡ isKind refusalKind (numberAt 1 0 (now (line .entry))) ⌝ }
 {
-    let Value::Is(kind) = fields::one_at(line, 0) else {
-        return false;
-    };
-    kind == 0x1f
+    let kind = digits::field_at(line, 0, 1);
+    kind.good & (kind.number == 0x1f)
 }
 
 // What was read of a line, counted; a line that is no event line stops it, with the reader's word.

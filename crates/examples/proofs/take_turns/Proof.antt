@@ -36,7 +36,7 @@ loop-holds c =
     let sells = c .clear2 in
     let s = c .before .before .before .before .before .before .before .before .before .before in
     let begun : Stands (c .before .before .before .before .before .before .begin .result) (buys .last .0) (now (s .args .buys)) (sells .last .0) (now (s .args .sells)) =
-    rw (c .before .before .before .before .before .before .begin .ensures) (stands-back fresh (buys .last .0) (now (s .args .buys)) (sells .last .0) (now (s .args .sells)) (buys .ensures) (sells .ensures) fresh-sound) in
+    rw (c .before .before .before .before .before .before .begin .ensures) (stands-back fresh (buys .last .0) (now (s .args .buys)) (sells .last .0) (now (s .args .sells)) (buys .ensures .0) (sells .ensures .0) fresh-sound) in
     (begun, omega arith, omega arith, refl, refl)
 
 take-turn-requires : tie.Need-take-turn-requires Inv-loop μ-loop

@@ -1,13 +1,14 @@
--- `reader::read_cancel` meets its contract: the ending is tested, and the fields come in the definition's order. Assumes nothing.
+-- `reader::read_cancel` meets its contract: the ending is tested, and then the fields at once. Assumes nothing.
 use Prim.Native.Nat.{ℕ}
 use mathlib.Core.Bool.{true}
-use mathlib.Core.List.{List}
-use mathlib.Core.Path.{_≡_, sym, _∙_}
+use mathlib.Core.List.{List, [], _∷_}
+use mathlib.Core.Path.{_≡_, refl, sym, _∙_}
 use borrow.Author.Needs.{needs}
 use borrow.Author.Tests.{not-true, not-false}
 use denote.Ref.{now}
-use Rattle.digits.specs.declared.Value.the-variants.{Is, Bad}
-use Rattle.rules.specs.CommandLines.{numberAt, numbersFrom, isEnded, cancelIn}
+use Rattle.digits.specs.declared.Field.{Field}
+use Rattle.rules.specs.CommandLines.{isEnded, cancelForm, cancelIn}
+use Rattle.rules.proofs.LawsFields.{fieldsFrom, numbers-good, numbers-bad}
 use Rattle.reader.proofs.read_cancel.Statement.{statement}
 use Rattle.reader.proofs.read_cancel.Tie as tie
 
@@ -16,55 +17,36 @@ is-ended-requires c κs = search needs
 
 returns : tie.Need-returns
 unfolding cancelIn
-returns c =
-    let f = sym (c .before .is-ended .ensures) ∙ not-true _ (c .if1 .taken) in
-    rw f
+returns c = let e = sym (c .before .is-ended .ensures) ∙ not-true _ (c .if1 .taken) in rw e
 
--- the body, where it is known to end after 8 digits
-abbrev whole : tie.Else1 → List ℕ
-whole c = now (c .before .before .before .args .s)
+field-at-requires : tie.Need-field-at-requires
+field-at-requires c κs = search needs
 
-ended : (c : tie.Else1) → isEnded 8 (whole c) ≡ true
-ended c = sym (c .before .is-ended .ensures) ∙ not-false _ (c .if1 .left)
+-- the body, which is known to end after 8 digits, and its fields
+module _ (c : tie.After-field-at) where
+  abbrev body : List ℕ
+  body = now (c .before .before .before .before .args .s)
 
-four-at-requires : tie.Need-four-at-requires
-four-at-requires c κs = search needs
+  ended : isEnded 8 body ≡ true
+  ended = sym (c .before .before .is-ended .ensures) ∙ not-false _ (c .before .if1 .left)
 
-enum-known-number : tie.Need-enum-known-number
-enum-known-number c = search needs
+  abbrev read : List Field
+  read = c .field-at .result ∷ []
 
-enum-told : tie.Need-enum-told
-enum-told c = search needs
+  are-read : fieldsFrom 0 cancelForm body ≡ read
+  are-read = rw (c .field-at .ensures) refl
 
 returns-2 : tie.Need-returns-2
-unfolding cancelIn numbersFrom
+unfolding cancelIn
 returns-2 c =
-    let b = c .before .before .before in
-    let bad : numberAt 4 0 (whole b) ≡ Bad = sym (c .before .before .four-at .ensures) ∙ c .enum-told .given .1 in
-    rw (ended b, bad)
-
--- number was read
-abbrev before-number : tie.After-known-told → tie.Else1
-before-number c = c .before .before .before .before
-
-abbrev start-number : tie.After-known-told → tie.Else1
-start-number c = before-number c
-
-number-is : (c : tie.After-known-told) → numberAt 4 0 (whole (start-number c)) ≡ Is (c .before .number .given .0 .0)
-number-is c = sym (c .before .before .before .four-at .ensures) ∙ c .before .number .given .1
+    let f = c .before .before in
+    rw (ended f, numbers-bad 0 cancelForm (body f) (read f) (are-read f) (not-true _ (c .if2 .taken)))
 
 returns-3 : tie.Need-returns-3
-unfolding cancelIn numbersFrom
-returns-3 c = rw (ended (start-number c), number-is c)
+unfolding cancelIn
+returns-3 c =
+    let f = c .before .before in
+    rw (ended f, numbers-good 0 cancelForm (body f) (read f) (are-read f) (not-false _ (c .if2 .left)))
 
 pub read-cancel-spec : {M : Type 1} → statement M
-read-cancel-spec =
-    tie.close
-    (tie.spec
-    is-ended-requires
-    returns
-    four-at-requires
-    enum-known-number
-    enum-told
-    returns-2
-    returns-3)
+read-cancel-spec = tie.close (tie.spec is-ended-requires returns field-at-requires returns-2 returns-3)

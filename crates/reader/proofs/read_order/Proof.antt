@@ -1,15 +1,16 @@
--- `reader::read_order` meets its contract: the ending is tested, and the fields come in the definition's order. Assumes nothing.
+-- `reader::read_order` meets its contract: the ending is tested, and then the fields at once. Assumes nothing.
 use Prim.Native.Nat.{ℕ}
 use mathlib.Core.Bool.{true}
-use mathlib.Core.List.{List}
-use mathlib.Core.Path.{_≡_, sym, _∙_}
+use mathlib.Core.List.{List, [], _∷_}
+use mathlib.Core.Path.{_≡_, refl, sym, _∙_}
 use native.Mathlib.Omega.{arith}
 use borrow.Author.Needs.{needs}
 use borrow.Author.Tests.{not-true, not-false}
 use denote.Ref.{now}
-use Rattle.digits.specs.declared.Value.the-variants.{Is, Bad}
-use Rattle.digits.proofs.LawsDigits.{numberIn-fits}
-use Rattle.rules.specs.CommandLines.{numberAt, numbersFrom, isEnded, orderIn}
+use Rattle.digits.specs.declared.Field.{Field}
+use Rattle.digits.proofs.LawsDigits.{field-fits}
+use Rattle.rules.specs.CommandLines.{isEnded, orderForm, orderIn}
+use Rattle.rules.proofs.LawsFields.{fieldsFrom, numbers-good, numbers-bad}
 use Rattle.reader.proofs.read_order.Statement.{statement}
 use Rattle.reader.proofs.read_order.Tie as tie
 
@@ -18,153 +19,51 @@ is-ended-requires c κs = search needs
 
 returns : tie.Need-returns
 unfolding orderIn
-returns c =
-    let f = sym (c .before .is-ended .ensures) ∙ not-true _ (c .if1 .taken) in
-    rw f
+returns c = let e = sym (c .before .is-ended .ensures) ∙ not-true _ (c .if1 .taken) in rw e
 
--- the body, where it is known to end after 22 digits
-abbrev whole : tie.Else1 → List ℕ
-whole c = now (c .before .before .before .args .s)
+field-at-requires : tie.Need-field-at-requires
+field-at-requires c κs = search needs
 
-ended : (c : tie.Else1) → isEnded 22 (whole c) ≡ true
-ended c = sym (c .before .is-ended .ensures) ∙ not-false _ (c .if1 .left)
+field-at-requires-2 : tie.Need-field-at-requires-2
+field-at-requires-2 c κs = search needs
 
-one-at-requires : tie.Need-one-at-requires
-one-at-requires c κs = search needs
+field-at-requires-3 : tie.Need-field-at-requires-3
+field-at-requires-3 c κs = search needs
 
-enum-known-side : tie.Need-enum-known-side
-enum-known-side c = search needs
+field-at-requires-4 : tie.Need-field-at-requires-4
+field-at-requires-4 c κs = search needs
 
-enum-told : tie.Need-enum-told
-enum-told c = search needs
+-- the body, which is known to end after 22 digits, and its fields
+module _ (c : tie.After-field-at4) where
+  abbrev body : List ℕ
+  body = now (c .before .before .before .before .before .before .before .args .s)
+
+  ended : isEnded 22 body ≡ true
+  ended = sym (c .before .before .before .before .before .is-ended .ensures) ∙ not-false _ (c .before .before .before .before .if1 .left)
+
+  abbrev read : List Field
+  read = c .before .before .before .field-at .result ∷ c .before .before .field-at2 .result ∷ c .before .field-at3 .result ∷ c .field-at4 .result ∷ []
+
+  are-read : fieldsFrom 0 orderForm body ≡ read
+  are-read = rw (c .before .before .before .field-at .ensures, c .before .before .field-at2 .ensures, c .before .field-at3 .ensures, c .field-at4 .ensures) refl
 
 returns-2 : tie.Need-returns-2
-unfolding orderIn numbersFrom
+unfolding orderIn
 returns-2 c =
-    let b = c .before .before .before in
-    let bad : numberAt 1 0 (whole b) ≡ Bad = sym (c .before .before .one-at .ensures) ∙ c .enum-told .given .1 in
-    rw (ended b, bad)
+    let f = c .before .before .before .before .before in
+    rw (ended f, numbers-bad 0 orderForm (body f) (read f) (are-read f) (not-true _ (c .if2 .taken)))
 
--- side was read
-abbrev before-side : tie.After-known-told → tie.Else1
-before-side c = c .before .before .before .before
+cast-t10 : tie.Need-cast-t10
+cast-t10 c = let f = c .before .before .before .before .before .before in omega (arith, field-fits 1 0 (body f) (f .before .before .before .field-at .ensures))
 
-abbrev start-side : tie.After-known-told → tie.Else1
-start-side c = before-side c
-
-side-is : (c : tie.After-known-told) → numberAt 1 0 (whole (start-side c)) ≡ Is (c .before .side .given .0 .0)
-side-is c = sym (c .before .before .before .one-at .ensures) ∙ c .before .side .given .1
-
-two-at-requires : tie.Need-two-at-requires
-two-at-requires c κs = search needs
-
-enum-known-word : tie.Need-enum-known-word
-enum-known-word c = search needs
-
-enum-told-2 : tie.Need-enum-told-2
-enum-told-2 c = search needs
+cast-t11 : tie.Need-cast-t11
+cast-t11 c = let f = c .before .before .before .before .before .before .before in omega (arith, field-fits 2 2 (body f) (f .before .before .field-at2 .ensures))
 
 returns-3 : tie.Need-returns-3
-unfolding orderIn numbersFrom
+unfolding orderIn
 returns-3 c =
-    let b = c .before .before .before in
-    let bad : numberAt 2 2 (whole (start-side b)) ≡ Bad = sym (c .before .before .two-at .ensures) ∙ c .enum-told2 .given .1 in
-    rw (ended (start-side b), side-is b, bad)
-
--- word was read
-abbrev before-word : tie.After-known-told2 → tie.After-known-told
-before-word c = c .before .before .before .before
-
-abbrev start-word : tie.After-known-told2 → tie.Else1
-start-word c = start-side (before-word c)
-
-word-is : (c : tie.After-known-told2) → numberAt 2 2 (whole (start-word c)) ≡ Is (c .before .word .given .0 .0)
-word-is c = sym (c .before .before .before .two-at .ensures) ∙ c .before .word .given .1
-
-four-at-requires : tie.Need-four-at-requires
-four-at-requires c κs = search needs
-
-enum-known-price : tie.Need-enum-known-price
-enum-known-price c = search needs
-
-enum-told-3 : tie.Need-enum-told-3
-enum-told-3 c = search needs
-
-returns-4 : tie.Need-returns-4
-unfolding orderIn numbersFrom
-returns-4 c =
-    let b = c .before .before .before in
-    let bad : numberAt 4 6 (whole (start-word b)) ≡ Bad = sym (c .before .before .four-at .ensures) ∙ c .enum-told3 .given .1 in
-    rw (ended (start-word b), side-is (before-word b), word-is b, bad)
-
--- price was read
-abbrev before-price : tie.After-known-told3 → tie.After-known-told2
-before-price c = c .before .before .before .before
-
-abbrev start-price : tie.After-known-told3 → tie.Else1
-start-price c = start-word (before-price c)
-
-price-is : (c : tie.After-known-told3) → numberAt 4 6 (whole (start-price c)) ≡ Is (c .before .price .given .0 .0)
-price-is c = sym (c .before .before .before .four-at .ensures) ∙ c .before .price .given .1
-
-four-at-requires-2 : tie.Need-four-at-requires-2
-four-at-requires-2 c κs = search needs
-
-enum-known-shares : tie.Need-enum-known-shares
-enum-known-shares c = search needs
-
-enum-told-4 : tie.Need-enum-told-4
-enum-told-4 c = search needs
-
-returns-5 : tie.Need-returns-5
-unfolding orderIn numbersFrom
-returns-5 c =
-    let b = c .before .before .before in
-    let bad : numberAt 4 14 (whole (start-price b)) ≡ Bad = sym (c .before .before .four-at2 .ensures) ∙ c .enum-told4 .given .1 in
-    rw (ended (start-price b), side-is (before-word (before-price b)), word-is (before-price b), price-is b, bad)
-
--- shares was read
-abbrev before-shares : tie.After-known-told4 → tie.After-known-told3
-before-shares c = c .before .before .before .before
-
-abbrev start-shares : tie.After-known-told4 → tie.Else1
-start-shares c = start-price (before-shares c)
-
-shares-is : (c : tie.After-known-told4) → numberAt 4 14 (whole (start-shares c)) ≡ Is (c .before .shares .given .0 .0)
-shares-is c = sym (c .before .before .before .four-at2 .ensures) ∙ c .before .shares .given .1
-
-cast-t12 : tie.Need-cast-t12
-cast-t12 c = omega (arith, numberIn-fits 1 _ _ (side-is (before-word (before-price (before-shares c)))))
-
-cast-t13 : tie.Need-cast-t13
-cast-t13 c = omega (arith, numberIn-fits 2 _ _ (word-is (before-price (before-shares c))))
-
-returns-6 : tie.Need-returns-6
-unfolding orderIn numbersFrom
-returns-6 c = rw (ended (start-shares c), side-is (before-word (before-price (before-shares c))), word-is (before-price (before-shares c)), price-is (before-shares c), shares-is c)
+    let f = c .before .before .before .before .before .before .before in
+    rw (ended f, numbers-good 0 orderForm (body f) (read f) (are-read f) (not-false _ (c .before .before .if2 .left)))
 
 pub read-order-spec : {M : Type 1} → statement M
-read-order-spec =
-    tie.close
-    (tie.spec
-    is-ended-requires
-    returns
-    one-at-requires
-    enum-known-side
-    enum-told
-    returns-2
-    two-at-requires
-    enum-known-word
-    enum-told-2
-    returns-3
-    four-at-requires
-    enum-known-price
-    enum-told-3
-    returns-4
-    four-at-requires-2
-    enum-known-shares
-    enum-told-4
-    returns-5
-    cast-t12
-    cast-t13
-    returns-6)
+read-order-spec = tie.close (tie.spec is-ended-requires returns field-at-requires field-at-requires-2 field-at-requires-3 field-at-requires-4 returns-2 cast-t10 cast-t11 returns-3)

@@ -1,13 +1,12 @@
 -- `shifts::insert` meets its contract: the row of the next place is named at its rank, and filled. Assumes nothing.
 use Prim.Native.Nat.{_-_}
-use mathlib.Core.Path.{_≡_, _∙_}
+use mathlib.Core.Path.{_≡_}
 use lib.ListN.{getD, set}
 use native.Mathlib.Omega.{arith}
 use borrow.Author.Needs.{needs}
 use denote.Ref.{now}
-use Rattle.rows.specs.Table.{rowOf, hintOf}
+use Rattle.rows.specs.Table.{rowOf, hintOf, turned}
 use Rattle.rows.proofs.LawsIndex.{names-below}
-use Rattle.shifts.proofs.LawsTurns.{turned, turned-front}
 use Rattle.shifts.proofs.LawsShifts.{shows-inserted}
 use Rattle.shifts.proofs.insert.Statement.{statement}
 use Rattle.shifts.proofs.insert.Tie as tie
@@ -47,8 +46,7 @@ returns c =
     let x = now (a .x) in
     let slot = getD x (a .n) 0 in
     let long = start .pre .0 .names .long in
-    let turn : c .before .before .before .before .raise .last .0 ≡ turned (a .n) (a .n - a .at) x =
-    c .before .before .before .before .raise .ensures ∙ turned-front x (a .n) (a .n - a .at) (omega arith) (omega arith) in
+    let turn : c .before .before .before .before .raise .last .0 ≡ turned (a .n) (a .n - a .at) x = c .before .before .before .before .raise .ensures in
     let hint : c .before .before .before .hint-of .result ≡ hintOf (a .o .number .0) = c .before .before .before .hint-of .ensures in
     let wide : c .before .wide .result ≡ slot = c .before .wide .ensures in
     let put : c .put-row .last .0 ≡ set (now (a .t)) (c .before .wide .result) (rowOf (a .o)) = c .put-row .ensures in

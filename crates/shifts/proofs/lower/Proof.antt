@@ -1,7 +1,7 @@
 -- `shifts::lower` meets its contract. The loop's invariant: the places passed are filled in, all but the one that is written last. Assumes nothing.
 use Prim.Native.Nat.{_+_, _-_, _≤_}
 use mathlib.Core.Bool.{_&&_}
-use mathlib.Core.Path.{_≡_, sym, _∙_}
+use mathlib.Core.Path.{_≡_, _∙_}
 use lib.Dec.{ltb, leb}
 use lib.ListN.{length, getD}
 use native.Mathlib.Omega.{arith}
@@ -9,17 +9,17 @@ use borrow.Author.Needs.{needs}
 use denote.Ref.{now}
 use Rattle.basics.specs.Choice.{if_then_else_}
 use Rattle.rules.specs.Book.{placesASide}
-use Rattle.rows.specs.Table.{indexSize}
+use Rattle.rows.specs.Table.{indexSize, turned}
 use Rattle.rows.proofs.LawsSteps.{counted, steps, step-at}
-use Rattle.shifts.proofs.LawsTurns.{turned, turned-back, Filled, filled-step, filled-end, lowered-at}
+use Rattle.shifts.proofs.LawsTurns.{Filled, filled-step, filled-end, lowered-at}
 use Rattle.shifts.proofs.lower.Statement.{statement}
 use Rattle.shifts.proofs.lower.Tie as tie
 
 abbrev Inv-loop : tie.InvT-loop
-Inv-loop x₀ n at v steps lo hi b₀ i₀ x b i = (i ≤ placesASide) × Filled at (n - 1) x₀ i x × (b ≡ getD x₀ i 0)
+Inv-loop x₀ from to v steps lo hi b₀ i₀ x b i = (i ≤ placesASide) × Filled from to x₀ i x × (b ≡ getD x₀ i 0)
 
 abbrev μ-loop : tie.MeasureT-loop
-μ-loop x₀ n at v steps lo hi b₀ i₀ x b i = placesASide - i
+μ-loop x₀ from to v steps lo hi b₀ i₀ x b i = placesASide - i
 
 whole-index-requires : tie.Need-whole-index-requires Inv-loop μ-loop
 whole-index-requires c κs = search needs
@@ -29,9 +29,6 @@ element-copy-out-v c = search needs
 
 cast-lo : tie.Need-cast-lo Inv-loop μ-loop
 cast-lo c = search needs
-
-sub-hi : tie.Need-sub-hi Inv-loop μ-loop
-sub-hi c = search needs
 
 cast-hi : tie.Need-cast-hi Inv-loop μ-loop
 cast-hi c = search needs
@@ -72,13 +69,10 @@ loop-again c =
     let long : length x₀ ≡ indexSize = c .before .before .before .before .before .before .whole-index .ensures in
     let next : getD (l .x) (l .i + 1) 0 ≡ getD x₀ (l .i + 1) 0 = l .inv .1 .ahead (l .i + 1) (omega arith) in
     let j = getD steps (l .i) 0 in
-    let r : c .lowered .result ≡ (if leb (a .at) j && ltb j (a .n - 1) then getD (l .x) (l .i + 1) 0 else l .b) = c .lowered .ensures in
-    let e : (l .i ≡ a .n - 1 → ⊥) → c .lowered .result ≡ getD (turned (a .at) (a .n - 1) x₀) (l .i) 0 =
-    λ ne. r ∙ rw (step-at (l .i) (omega arith), next, l .inv .2) (lowered-at x₀ (a .at) (a .n - 1) (omega arith) (omega arith) (omega arith) (l .i) ne) in
-    (omega arith, filled-step (a .at) (a .n - 1) x₀ (l .i) (l .x) (l .inv .1) (c .lowered .result) (omega arith) e, next)
-
-sub-x : tie.Need-sub-x Inv-loop μ-loop
-sub-x c = search needs
+    let r : c .lowered .result ≡ (if leb (a .from) j && ltb j (a .to) then getD (l .x) (l .i + 1) 0 else l .b) = c .lowered .ensures in
+    let e : (l .i ≡ a .to → ⊥) → c .lowered .result ≡ getD (turned (a .from) (a .to) x₀) (l .i) 0 =
+    λ ne. r ∙ rw (step-at (l .i) (omega arith), next, l .inv .2) (lowered-at x₀ (a .from) (a .to) (omega arith) (omega arith) (omega arith) (l .i) ne) in
+    (omega arith, filled-step (a .from) (a .to) x₀ (l .i) (l .x) (l .inv .1) (c .lowered .result) (omega arith) e, next)
 
 element-write-x-2 : tie.Need-element-write-x-2 Inv-loop μ-loop
 element-write-x-2 c = search needs
@@ -89,8 +83,7 @@ returns c =
     let a = c .before .before .before .before .before .before .args in
     let x₀ = now (a .x) in
     let long : length x₀ ≡ indexSize = c .before .before .before .before .whole-index .ensures in
-    filled-end (a .at) (a .n - 1) x₀ (l .i) (l .x) (l .inv .1) (omega arith) (omega arith) (omega arith) (omega arith)
-    ∙ sym (turned-back x₀ (a .n) (a .at) (omega arith) (omega arith))
+    filled-end (a .from) (a .to) x₀ (l .i) (l .x) (l .inv .1) (omega arith) (omega arith) (omega arith) (omega arith)
 
 pub lower-spec : {M : Type 1} → statement M
 lower-spec =
@@ -101,7 +94,6 @@ lower-spec =
     whole-index-requires
     element-copy-out-v
     cast-lo
-    sub-hi
     cast-hi
     element-copy-out-b
     loop-holds
@@ -113,6 +105,5 @@ lower-spec =
     add-i
     loop-less
     loop-again
-    sub-x
     element-write-x-2
     returns)

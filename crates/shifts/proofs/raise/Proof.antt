@@ -1,7 +1,7 @@
 -- `shifts::raise` meets its contract. The loop's invariant: the places passed are filled in, all but the one that is written last. Assumes nothing.
 use Prim.Native.Nat.{_+_, _-_, _≤_, _<_}
 use mathlib.Core.Bool.{_&&_}
-use mathlib.Core.Path.{_≡_, sym, _∙_}
+use mathlib.Core.Path.{_≡_, _∙_}
 use lib.Dec.{ltb, leb}
 use lib.ListN.{length, getD}
 use native.Mathlib.Omega.{arith}
@@ -9,18 +9,18 @@ use borrow.Author.Needs.{needs}
 use denote.Ref.{now}
 use Rattle.basics.specs.Choice.{if_then_else_}
 use Rattle.rules.specs.Book.{placesASide}
-use Rattle.rows.specs.Table.{indexSize}
+use Rattle.rows.specs.Table.{indexSize, turned}
 use Rattle.rows.proofs.LawsSteps.{counted, steps, step-at}
-use Rattle.shifts.proofs.LawsTurns.{turned, turned-front, Filled, filled-step, filled-end, raised-at}
+use Rattle.shifts.proofs.LawsTurns.{Filled, filled-step, filled-end, raised-at}
 use Rattle.shifts.proofs.raise.Statement.{statement}
 use Rattle.shifts.proofs.raise.Tie as tie
 
 abbrev Inv-loop : tie.InvT-loop
-Inv-loop x₀ n at v steps lo hi last₀ i₀ x last i =
-    (i ≤ placesASide) × Filled n at x₀ i x × (0 < i → last ≡ getD x₀ (i - 1) 0)
+Inv-loop x₀ from to v steps lo hi last₀ i₀ x last i =
+    (i ≤ placesASide) × Filled from to x₀ i x × (0 < i → last ≡ getD x₀ (i - 1) 0)
 
 abbrev μ-loop : tie.MeasureT-loop
-μ-loop x₀ n at v steps lo hi last₀ i₀ x last i = placesASide - i
+μ-loop x₀ from to v steps lo hi last₀ i₀ x last i = placesASide - i
 
 whole-index-requires : tie.Need-whole-index-requires Inv-loop μ-loop
 whole-index-requires c κs = search needs
@@ -64,11 +64,11 @@ loop-again c =
     let long : length x₀ ≡ indexSize = c .before .before .before .before .before .whole-index .ensures in
     let b : getD (l .x) (l .i) 0 ≡ getD x₀ (l .i) 0 = l .inv .1 .ahead (l .i) (omega arith) in
     let j = getD steps (l .i) 0 in
-    let r : c .raised .result ≡ (if ltb (a .at) j && leb j (a .n) then l .last else getD (l .x) (l .i) 0) = c .raised .ensures in
-    let e : (l .i ≡ a .at → ⊥) → c .raised .result ≡ getD (turned (a .n) (a .at) x₀) (l .i) 0 =
-    λ ne. r ∙ rw (step-at (l .i) (omega arith), b) (raised-at x₀ (a .n) (a .at) (omega arith) (omega arith) (omega arith) (l .i) (l .last) (l .inv .2) ne) in
+    let r : c .raised .result ≡ (if ltb (a .to) j && leb j (a .from) then l .last else getD (l .x) (l .i) 0) = c .raised .ensures in
+    let e : (l .i ≡ a .to → ⊥) → c .raised .result ≡ getD (turned (a .from) (a .to) x₀) (l .i) 0 =
+    λ ne. r ∙ rw (step-at (l .i) (omega arith), b) (raised-at x₀ (a .from) (a .to) (omega arith) (omega arith) (omega arith) (l .i) (l .last) (l .inv .2) ne) in
     let k : l .i + 1 - 1 ≡ l .i = omega arith in
-    (omega arith, filled-step (a .n) (a .at) x₀ (l .i) (l .x) (l .inv .1) (c .raised .result) (omega arith) e, λ z. rw k b)
+    (omega arith, filled-step (a .from) (a .to) x₀ (l .i) (l .x) (l .inv .1) (c .raised .result) (omega arith) e, λ z. rw k b)
 
 element-write-x-2 : tie.Need-element-write-x-2 Inv-loop μ-loop
 element-write-x-2 c = search needs
@@ -79,8 +79,7 @@ returns c =
     let a = c .before .before .before .before .before .args in
     let x₀ = now (a .x) in
     let long : length x₀ ≡ indexSize = c .before .before .before .whole-index .ensures in
-    filled-end (a .n) (a .at) x₀ (l .i) (l .x) (l .inv .1) (omega arith) (omega arith) (omega arith) (omega arith)
-    ∙ sym (turned-front x₀ (a .n) (a .at) (omega arith) (omega arith))
+    filled-end (a .from) (a .to) x₀ (l .i) (l .x) (l .inv .1) (omega arith) (omega arith) (omega arith) (omega arith)
 
 pub raise-spec : {M : Type 1} → statement M
 raise-spec =

@@ -12,7 +12,10 @@ number-requires : tie.Need-number-requires
 number-requires c κs = search needs
 
 returns : tie.Need-returns
-returns c = numbered-none (c .number .last .0) (now (c .before .before .before .args .t)) (c .number .ensures) (c .before .before .whole .ensures)
+returns c = (
+  numbered-none (c .number .last .0) (now (c .before .before .before .args .t)) (c .number .ensures) (c .before .before .whole .ensures),
+  c .number .ensures,
+)
 
 pub clear-spec : {M : Type 1} → statement M
 clear-spec = tie.close (tie.spec whole-requires number-requires returns)

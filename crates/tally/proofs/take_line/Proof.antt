@@ -4,7 +4,7 @@ use mathlib.Core.Path.{_≡_, sym, _∙_}
 use borrow.Author.Needs.{needs}
 use borrow.Author.Tests.{not-true, not-false}
 use denote.Ref.{now}
-use Rattle.rules.specs.CommandLines.{numberAt}
+use Rattle.digits.specs.Digits.{numberAt}
 use Rattle.rules.specs.EventLines.{refusalKind}
 use Rattle.rules.specs.EventReading.{eventIn, isKind}
 use Rattle.tally.specs.Tally.{isGoing, goingOn, turn}

@@ -1,32 +1,27 @@
 -- `tally::tells_a_refusal` meets its contract: it tells whether the first two digits are the kind of a refusal. Assumes nothing.
-use mathlib.Core.Path.{_≡_, sym, _∙_}
+use Prim.Native.Nat.{ℕ}
+use mathlib.Core.Bool.{_&&_}
+use mathlib.Core.Path.{_≡_, refl, sym}
+use lib.Dec.{eqb}
 use borrow.Author.Needs.{needs}
 use denote.Ref.{now}
+use Rattle.digits.specs.declared.Value.{Value}
 use Rattle.digits.specs.declared.Value.the-variants.{Is, Bad}
-use Rattle.rules.specs.CommandLines.{numberAt}
+use Rattle.digits.specs.Digits.{numberAt, fieldOf}
+use Rattle.rules.specs.EventLines.{refusalKind}
+use Rattle.rules.specs.EventReading.{isKind}
 use Rattle.tally.proofs.tells_a_refusal.Statement.{statement}
 use Rattle.tally.proofs.tells_a_refusal.Tie as tie
 
-one-at-requires : tie.Need-one-at-requires
-one-at-requires c κs = search needs
+field-at-requires : tie.Need-field-at-requires
+field-at-requires c κs = search needs
 
-enum-known-kind : tie.Need-enum-known-kind
-enum-known-kind c = search needs
-
-enum-told : tie.Need-enum-told
-enum-told c = search needs
+is-kind : (kind : ℕ) (v : Value) → isKind kind v ≡ (fieldOf v .good && eqb (fieldOf v .number) kind)
+is-kind kind (Is n) = refl
+is-kind kind Bad = refl
 
 returns : tie.Need-returns
-returns c =
-    let read = c .before .before in
-    let bad : numberAt 1 0 (now (read .before .before .args .line)) ≡ Bad = sym (read .one-at .ensures) ∙ c .enum-told .given .1 in
-    rw bad
-
-returns-2 : tie.Need-returns-2
-returns-2 c =
-    let read = c .before .before .before in
-    let is : numberAt 1 0 (now (read .before .before .args .line)) ≡ Is (c .before .kind .given .0 .0) = sym (read .one-at .ensures) ∙ c .before .kind .given .1 in
-    rw is
+returns c = rw (c .before .before .field-at .ensures) (sym (is-kind refusalKind (numberAt 1 0 (now (c .before .before .before .before .args .line)))))
 
 pub tells-a-refusal-spec : {M : Type 1} → statement M
-tells-a-refusal-spec = tie.close (tie.spec one-at-requires enum-known-kind enum-told returns returns-2)
+tells-a-refusal-spec = tie.close (tie.spec field-at-requires returns)

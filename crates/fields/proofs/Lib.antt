@@ -1,2 +1,0 @@
-pub mod LawsFields
-pub mod Determined
