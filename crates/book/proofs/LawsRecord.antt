@@ -11,13 +11,13 @@ use borrow.Author.Tests.{leb-true, eqb-true}
 use Rattle.basics.specs.Lists.{every}
 use Rattle.basics.proofs.LawsChoice.{and-left, and-right}
 use Rattle.rules.specs.Book.{Places, placesASide, isUnused, placesSound, ordersIn, bookIn, sound, recordSound}
-use Rattle.rows.specs.Table.{rowOf, side, Holds, Shows}
-use Rattle.rows.proofs.LawsTable.{orders-rows}
-use Rattle.rows.proofs.LawsSides.{shown-holds, shown-side}
-use Rattle.tables.specs.declared.Head.{Head}
-use Rattle.tables.specs.Tables.{recordOn, bookOn, Numbered}
-use Rattle.tables.specs.Answers.{Stands}
-use Rattle.tables.proofs.LawsNumbered.{numbered-shows}
+use Rattle.side.specs.Table.{rowOf, side, Holds, Shows}
+use Rattle.side.proofs.rows.LawsTable.{orders-rows}
+use Rattle.side.proofs.rows.LawsShown.{shown-holds, shown-side}
+use Rattle.side.specs.declared.tables.Head.{Head}
+use Rattle.side.specs.Tables.{recordOn, bookOn, Numbered}
+use Rattle.side.specs.Answers.{Stands}
+use Rattle.side.proofs.tables.LawsNumbered.{numbered-shows}
 use Rattle.book.specs.declared.Book as value
 use Rattle.book.specs.Record.{placesOn, recordIn, headIn}
 

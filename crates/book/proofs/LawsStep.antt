@@ -19,7 +19,7 @@ use Rattle.rules.specs.EventLines.{eventLines}
 use Rattle.rules.specs.Refusals.{firstOf, leastRoom, lastRefusal, lineRefusals, fitRefusals, refusals}
 use Rattle.rules.proofs.LawsRefusals.{first-given, first-passed, fit-numbered, fit-facts}
 use Rattle.rules.specs.Step.{Returned, answer, stepOn}
-use Rattle.tables.specs.Answers.{answerOf}
+use Rattle.side.specs.Answers.{answerOf}
 
 -- refusals 1 and 2
 abbrev pub unfit : ℕ → Bool → ℕ

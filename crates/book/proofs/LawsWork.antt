@@ -15,12 +15,12 @@ use Rattle.rules.specs.Book.{Book, BookRecord, bookIn, recordOf, recordSound}
 use Rattle.rules.specs.EventLines.{eventLines}
 use Rattle.rules.specs.Refusals.{leastRoom}
 use Rattle.rules.specs.Step.{Answer, Returned, answer, stepOn}
-use Rattle.rows.specs.Table.{Holds}
-use Rattle.tables.specs.declared.Head.{Head}
-use Rattle.tables.specs.Tables.{bookOn, headOf}
-use Rattle.tables.specs.declared.Step.{Step}
-use Rattle.tables.specs.Answers.{Left, answerOf}
-use Rattle.tables.proofs.LawsAnswers.{book-back}
+use Rattle.side.specs.Table.{Holds}
+use Rattle.side.specs.declared.tables.Head.{Head}
+use Rattle.side.specs.Tables.{bookOn, headOf}
+use Rattle.side.specs.declared.tables.Step.{Step}
+use Rattle.side.specs.Answers.{Left, answerOf}
+use Rattle.side.proofs.tables.LawsAnswers.{book-back}
 use Rattle.book.specs.declared.Book as value
 use Rattle.book.specs.declared.Reply.{Reply}
 use Rattle.book.specs.Record.{recordIn, bookWith, replyOf}

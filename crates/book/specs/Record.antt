@@ -1,7 +1,7 @@
 -- The book by value and the book record of 01 are one thing, field by field; so are a reply and what a step returns.
 use Rattle.rules.specs.Book.{Places, BookRecord}
 use Rattle.rules.specs.Step.{Returned}
-use Rattle.tables.specs.declared.Head.{Head}
+use Rattle.side.specs.declared.tables.Head.{Head}
 use Rattle.book.specs.declared.Book.{Book}
 use Rattle.book.specs.declared.Reply.{Reply}
 use Rattle.book.specs.declared.Side.{Side}

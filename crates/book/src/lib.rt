@@ -1,10 +1,10 @@
 // The book, handed in by value and handed back (01, The book): fresh, sound, and what it responds to a reading, whatever the book and
 // the output.
+use command_lines::reader;
 use kinds::Cents;
 use kinds::Number;
-use rows::Index;
-use rows::PLACES;
-use rows::Rows;
+use orders::walk;
+use orders::walk::Takings;
 use rules::Away;
 use rules::Body;
 use rules::Command;
@@ -12,20 +12,24 @@ use rules::Held;
 use rules::Order;
 use rules::Reading;
 use rules::Resting;
-use tables::Head;
-use walk::Takings;
+use side::rows;
+use side::rows::Index;
+use side::rows::PLACES;
+use side::rows::Rows;
+use side::tables;
+use side::tables::Head;
 ghost use mathlib.Core.Bool.{true};
 ghost use mathlib.Core.List.{map};
 ghost use mathlib.Core.Path.{_≡_};
 ghost use Prim.Native.Nat.{_≤_};
 ghost use lib.ListN.{length};
-ghost use Rattle.rows.specs.Table.{rowOf, Holds};
+ghost use Rattle.side.specs.Table.{rowOf, Holds};
 ghost use Rattle.rules.specs.Book.{fresh, recordOf, recordSound};
 ghost use Rattle.rules.specs.Refusals.{firstOf, leastRoom, fitRefusals};
 ghost use Rattle.rules.specs.Step.{step, stepOn};
 ghost use Rattle.rules.specs.declared.Body.the-variants as body;
 ghost use Rattle.rules.specs.declared.Reading.the-variants as reading;
-ghost use Rattle.tables.specs.Tables.{bookOn};
+ghost use Rattle.side.specs.Tables.{bookOn};
 ghost use Rattle.book.specs.Record.{recordIn, bookWith, replyOf, headIn};
 
 // A side: its places, of which the first `used` hold resting orders in rank order; the others are zero.
@@ -220,29 +224,37 @@ impl Book {
     }
 
     pub fn accept(self, number: Number, time: u32, order: Order, out: &mut [u8]) -> Reply
-        ensures { λ r. ⌜ r ≡ replyOf (stepOn (recordIn self) (reading.Is (record { number = number; time = time; body = body.Order order })) (now (out .entry))) ⌝ }
-        ensures { λ _. ⌜ now (out .exit) ≡ stepOn (recordIn self) (reading.Is (record { number = number; time = time; body = body.Order order })) (now (out .entry)) .out ⌝ }
+        ensures { λ r. ⌜ r ≡ replyOf (stepOn (recordIn self)
+            (reading.Is (record { number = number; time = time; body = body.Order order })) (now (out .entry))) ⌝ }
+        ensures { λ _. ⌜ now (out .exit) ≡ stepOn (recordIn self)
+            (reading.Is (record { number = number; time = time; body = body.Order order })) (now (out .entry)) .out ⌝ }
     {
         self.respond(command(number, time, Body::Order(order)), out)
     }
 
     pub fn cancel(self, number: Number, time: u32, of: Number, out: &mut [u8]) -> Reply
-        ensures { λ r. ⌜ r ≡ replyOf (stepOn (recordIn self) (reading.Is (record { number = number; time = time; body = body.Cancel of })) (now (out .entry))) ⌝ }
-        ensures { λ _. ⌜ now (out .exit) ≡ stepOn (recordIn self) (reading.Is (record { number = number; time = time; body = body.Cancel of })) (now (out .entry)) .out ⌝ }
+        ensures { λ r. ⌜ r ≡ replyOf (stepOn (recordIn self)
+            (reading.Is (record { number = number; time = time; body = body.Cancel of })) (now (out .entry))) ⌝ }
+        ensures { λ _. ⌜ now (out .exit) ≡ stepOn (recordIn self)
+            (reading.Is (record { number = number; time = time; body = body.Cancel of })) (now (out .entry)) .out ⌝ }
     {
         self.respond(command(number, time, Body::Cancel(of)), out)
     }
 
     pub fn quote(self, number: Number, time: u32, away: Away, out: &mut [u8]) -> Reply
-        ensures { λ r. ⌜ r ≡ replyOf (stepOn (recordIn self) (reading.Is (record { number = number; time = time; body = body.Quote away })) (now (out .entry))) ⌝ }
-        ensures { λ _. ⌜ now (out .exit) ≡ stepOn (recordIn self) (reading.Is (record { number = number; time = time; body = body.Quote away })) (now (out .entry)) .out ⌝ }
+        ensures { λ r. ⌜ r ≡ replyOf (stepOn (recordIn self)
+            (reading.Is (record { number = number; time = time; body = body.Quote away })) (now (out .entry))) ⌝ }
+        ensures { λ _. ⌜ now (out .exit) ≡ stepOn (recordIn self)
+            (reading.Is (record { number = number; time = time; body = body.Quote away })) (now (out .entry)) .out ⌝ }
     {
         self.respond(command(number, time, Body::Quote(away)), out)
     }
 
     pub fn close(self, number: Number, time: u32, out: &mut [u8]) -> Reply
-        ensures { λ r. ⌜ r ≡ replyOf (stepOn (recordIn self) (reading.Is (record { number = number; time = time; body = body.Close })) (now (out .entry))) ⌝ }
-        ensures { λ _. ⌜ now (out .exit) ≡ stepOn (recordIn self) (reading.Is (record { number = number; time = time; body = body.Close })) (now (out .entry)) .out ⌝ }
+        ensures { λ r. ⌜ r ≡ replyOf (stepOn (recordIn self) (reading.Is (record { number = number; time = time; body = body.Close }))
+            (now (out .entry))) ⌝ }
+        ensures { λ _. ⌜ now (out .exit) ≡ stepOn (recordIn self)
+            (reading.Is (record { number = number; time = time; body = body.Close })) (now (out .entry)) .out ⌝ }
     {
         self.respond(command(number, time, Body::Close), out)
     }

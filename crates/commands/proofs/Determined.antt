@@ -2,9 +2,9 @@
 -- side stands. The contract is read here as the checker reads it from the source (`Post`), not from a copy. Assumes nothing.
 use mathlib.Core.Path.{_≡_}
 use denote.Ref.{now}
-use Rattle.rows.specs.Table.{side}
-use Rattle.tables.specs.declared.Step.{Step}
-use Rattle.tables.proofs.LawsAnswers.{left-determined}
+use Rattle.side.specs.Table.{side}
+use Rattle.side.specs.declared.tables.Step.{Step}
+use Rattle.side.proofs.tables.LawsAnswers.{left-determined}
 use Rattle.commands.proofs.apply.Reads as apply
 
 pub apply-determined : (κs : _) (a : _) (r r′ : Step) (s s′ : _) → apply.Post κs a r s → apply.Post κs a r′ s′

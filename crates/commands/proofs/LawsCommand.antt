@@ -12,9 +12,9 @@ use Rattle.rules.specs.Book.{Book}
 use Rattle.rules.specs.Refusals.{firstOf, lastRefusal, headerRefusals, bodyRefusals, lineRefusals}
 use Rattle.rules.proofs.LawsRefusals.{none-given, first-given, first-passed, header-numbered}
 use Rattle.rules.specs.Step.{answer}
-use Rattle.tables.specs.declared.Step.{Step}
-use Rattle.tables.specs.Answers.{Left, answerOf, bodyAnswer}
-use Rattle.tables.proofs.LawsAnswers.{refusedWith}
+use Rattle.side.specs.declared.tables.Step.{Step}
+use Rattle.side.specs.Answers.{Left, answerOf, bodyAnswer}
+use Rattle.side.proofs.tables.LawsAnswers.{refusedWith}
 
 -- ── The header ──
 

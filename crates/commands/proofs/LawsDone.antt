@@ -4,7 +4,7 @@ use mathlib.Core.List.{List, [], _∷_, _++_, map}
 use mathlib.Core.Path.{_≡_, refl, ap, _∙_}
 use Rattle.basics.specs.Lists.{gathered}
 use Rattle.kinds.specs.declared.Number.{Number}
-use Rattle.reports.specs.Reports.{cancelledFor}
+use Rattle.orders.specs.Reports.{cancelledFor}
 use Rattle.rules.specs.declared.Body.the-variants as body
 use Rattle.rules.specs.declared.Event.{Event}
 use Rattle.rules.specs.declared.Resting.{Resting}
@@ -14,8 +14,8 @@ use Rattle.rules.specs.EventLines.{atClose}
 use Rattle.rules.specs.Refusals.{firstOf, bodyRefusals}
 use Rattle.rules.specs.Settling.{Done, told}
 use Rattle.rules.proofs.LawsCommands.{close-does}
-use Rattle.tables.specs.Answers.{bodyAnswer}
-use Rattle.tables.proofs.LawsAnswers.{body-done, doneWith}
+use Rattle.side.specs.Answers.{bodyAnswer}
+use Rattle.side.proofs.tables.LawsAnswers.{body-done, doneWith}
 
 -- every order is told of
 told-all : (s : List Resting) → told closeFate s ≡ map (cancelledFor atClose) s

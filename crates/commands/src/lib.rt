@@ -1,20 +1,24 @@
 // A command on a sound book that stands in a header and two sides that are lent, worked in place (01, How an order is worked). It is judged
 // by its header first and then by its body; a refusal leaves the header, both sides and every byte as they were.
+mod cancels;
+
 use kinds::Number;
-use rows::Index;
-use rows::Rows;
+use orders::reports;
+use orders::walk::Takings;
 use rules::Body;
 use rules::Command;
 use rules::Held;
-use tables::Head;
-use tables::Step;
-use walk::Takings;
+use side::rows::Index;
+use side::rows::Rows;
+use side::tables;
+use side::tables::Head;
+use side::tables::Step;
 ghost use Prim.Native.Nat.{_≤_};
 ghost use lib.ListN.{length};
 ghost use Rattle.rules.specs.Refusals.{leastRoom};
 ghost use Rattle.rules.specs.declared.Body.the-variants as body;
-ghost use Rattle.tables.specs.Answers.{answerOf, bodyAnswer, Left, Stands};
-ghost use Rattle.tables.specs.Tables.{bookOn};
+ghost use Rattle.side.specs.Answers.{answerOf, bodyAnswer, Left, Stands};
+ghost use Rattle.side.specs.Tables.{bookOn};
 
 // ── A close ──
 

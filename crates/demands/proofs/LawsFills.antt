@@ -16,7 +16,7 @@ use Rattle.rules.specs.declared.Order.{Order}
 use Rattle.rules.specs.declared.Resting.{Resting}
 use Rattle.rules.specs.Book.{Book, ranksBefore, inRankOrder, sound}
 use Rattle.rules.specs.Working.{buying}
-use Rattle.soundness.proofs.LawsRank.{ranked-first, ranked-rest}
+use Rattle.rules.proofs.LawsRank.{ranked-first, ranked-rest}
 use Rattle.soundness.proofs.LawsSides.{sides-of}
 use Rattle.soundness.proofs.LawsSound.{sound-is}
 use Rattle.demands.specs.Executes.{Tells, Executes}

@@ -28,7 +28,7 @@ use Rattle.rules.specs.Commands.{isNumber}
 use Rattle.rules.specs.EventLines.{fokKilled}
 use Rattle.rules.specs.Instructions.{ioc, fok, has}
 use Rattle.rules.specs.Working.{executions, endingWith, lastLine}
-use Rattle.soundness.proofs.LawsRank.{ranks-not-itself, ranked-first, ranked-rest, ranks-transitive}
+use Rattle.rules.proofs.LawsRank.{ranks-not-itself, ranked-first, ranked-rest, ranks-transitive}
 use Rattle.soundness.proofs.LawsSides.{bothSides, Sides, all-holding, sides-thinned}
 use Rattle.soundness.proofs.LawsThinned.{thinned-none, thinned-same}
 use Rattle.demands.specs.Executes.{Tells, Between}

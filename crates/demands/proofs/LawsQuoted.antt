@@ -30,7 +30,7 @@ use Rattle.rules.specs.Settling.{setAt, stampedAs, toldBy, setAnew, told, settl
 use Rattle.rules.specs.Step.{answerTo}
 use Rattle.rules.specs.Working.{lockingPrice}
 use Rattle.rules.proofs.LawsCommands.{quote-fate, set-stays, quote-does}
-use Rattle.soundness.proofs.LawsRank.{earlier-command, earlier-place}
+use Rattle.rules.proofs.LawsRank.{earlier-command, earlier-place}
 use Rattle.soundness.proofs.LawsSettled.{setPlace, settled-are, settled-stays, settled-sets}
 use Rattle.soundness.proofs.LawsSides.{InRange, Sides, sides-flip, sides-of}
 use Rattle.soundness.proofs.LawsSound.{sound-is}

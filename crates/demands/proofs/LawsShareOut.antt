@@ -21,7 +21,7 @@ use Rattle.rules.specs.Book.{ranksBefore, inRankOrder, unused}
 use Rattle.rules.specs.Instructions.{fok, iso, market, postOnly, has}
 use Rattle.rules.proofs.LawsTakings.{nothing-total}
 use Rattle.rules.specs.Working.{buying, beyond, lockingPrice, absent, mayTouch, nothing, walk, smaller, walked, takings}
-use Rattle.soundness.proofs.LawsRank.{ranked-first, rank-price}
+use Rattle.rules.proofs.LawsRank.{ranked-first, rank-price}
 use Rattle.demands.specs.ShareOut.{Given, Each, empty, with, Fair, LawfulGiving, given, Lawful, Fills}
 use Rattle.demands.proofs.LawsWalked.{none-there, taken, couldGive, available, walk-at-most, walk-rank, walk-total}
 

@@ -39,7 +39,7 @@ use Rattle.rules.proofs.LawsCommands.{fateBy, IfSet, SameOrder, set-same, never
 use Rattle.soundness.proofs.LawsKept.{answer-sound, fresh-sound, after-sound}
 use Rattle.soundness.proofs.LawsSides.{sides-of}
 use Rattle.soundness.proofs.LawsSound.{Sound, sound-is}
-use Rattle.demands.specs.Beyond.{toldBy, lastTold, standsAt}
+use Rattle.demands.specs.Beyond.{priceTold, lastTold, standsAt}
 use Rattle.demands.specs.Once.{acts}
 use Rattle.demands.specs.Run.{eventsOf}
 use Rattle.demands.specs.ShareOut.{Fair}
@@ -54,7 +54,7 @@ use Rattle.demands.proofs.LawsTold.{line-told}
 
 -- an event tells nothing of where the order of a number stands
 abbrev Quiet : Number → Event → Type 0
-Quiet n e = (before : Cents) → toldBy n e before ≡ before
+Quiet n e = (before : Cents) → priceTold n e before ≡ before
 
 -- after such events it stands where it stood, and of two runs of events the second goes on from the first
 quiet-told : (n : Number) (before : Cents) {es : List Event} → All (Quiet n) es → lastTold n before es ≡ before
@@ -65,7 +65,7 @@ quiet-told n before (also {x = e} q a) = rw (q before) (quiet-told n before a)
 told-append : (n : Number) (before : Cents) (es fs : List Event) → lastTold n before (es ++ fs) ≡ lastTold n (lastTold n before es) fs
 unfolding lastTold
 told-append n before [] fs = refl
-told-append n before (e ∷ es) fs = told-append n (toldBy n e before) es fs
+told-append n before (e ∷ es) fs = told-append n (priceTold n e before) es fs
 
 -- what is told of a number, and of another one
 told-same : (n : Number) (price before : Cents) → (if eqb (n .0) (n .0) then price else before) ≡ price

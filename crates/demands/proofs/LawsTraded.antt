@@ -34,7 +34,7 @@ use Rattle.rules.proofs.LawsCommands.{does-tells}
 use Rattle.soundness.proofs.LawsAccepted.{InOrder, accepted-order}
 use Rattle.soundness.proofs.LawsKept.{answer-sound, fresh-sound}
 use Rattle.soundness.proofs.LawsSound.{Sound, sound-is}
-use Rattle.demands.specs.Beyond.{orderNumber, numberEntered, entered, executedByAll, Pairs}
+use Rattle.demands.specs.Beyond.{orderNumber, numberEntered, numbersEntered, executedByAll, Pairs}
 use Rattle.demands.specs.Once.{commandNumber, acts}
 use Rattle.demands.specs.Run.{eventsOf}
 use Rattle.demands.specs.Told.{eventsIn, countedIf, executedBy, executedIn}
@@ -53,8 +53,8 @@ enteredAt side b line = if acts b line then numberEntered side (commandIn line) 
 
 -- those of a run are those of its first line and those of the rest
 entered-first : (side : ℕ) (b : Book) (line : List ℕ) (lines : List (List ℕ))
-    → entered side b (line ∷ lines) ≡ enteredAt side b line ++ entered side (answerTo b line .book) lines
-unfolding entered
+    → numbersEntered side b (line ∷ lines) ≡ enteredAt side b line ++ numbersEntered side (answerTo b line .book) lines
+unfolding numbersEntered
 entered-first side b line lines =
     ⊎-elim
     (λ (t : acts b line ≡ true). rw t refl)
@@ -149,26 +149,26 @@ module _ (ns : Bool → List Number) (b : Book) (line : List ℕ) (s : sound b �
 
 -- over any run
 run-pairs : (ns : Bool → List Number) (b : Book) (lines : List (List ℕ)) → sound b ≡ true → Listed ns b
-    → All (Pairs (ns true ++ entered 0 b lines) (ns false ++ entered 1 b lines)) (eventsOf b lines)
+    → All (Pairs (ns true ++ numbersEntered 0 b lines) (ns false ++ numbersEntered 1 b lines)) (eventsOf b lines)
 unfolding eventsOf
 run-pairs ns b [] s listed = none
 run-pairs ns b (line ∷ lines) s listed =
     let book = answerTo b line .book in
     let more = withLine ns b line in
     let onward = run-pairs more book lines (answer-sound b line s) (line-listed ns b line s listed) in
-    let longer = pairs-more (λ n p. in-front (entered 0 book lines) p) (λ n p. in-front (entered 1 book lines) p) in
+    let longer = pairs-more (λ n p. in-front (numbersEntered 0 book lines) p) (λ n p. in-front (numbersEntered 1 book lines) p) in
     let here = all-alike longer (line-pairs ns b line s listed) in
     subst₂ (λ (buys sells : List Number). All (Pairs buys sells) (answerTo b line .events ++ eventsOf book lines))
     (regrouped true) (regrouped false) (all-both here onward)
   where
-    regrouped : (buy : Bool) → withLine ns b line buy ++ entered (sideOf buy) (answerTo b line .book) lines
-        ≡ ns buy ++ entered (sideOf buy) b (line ∷ lines)
+    regrouped : (buy : Bool) → withLine ns b line buy ++ numbersEntered (sideOf buy) (answerTo b line .book) lines
+        ≡ ns buy ++ numbersEntered (sideOf buy) b (line ∷ lines)
     regrouped buy =
-        append-assoc (ns buy) (enteredAt (sideOf buy) b line) (entered (sideOf buy) (answerTo b line .book) lines)
+        append-assoc (ns buy) (enteredAt (sideOf buy) b line) (numbersEntered (sideOf buy) (answerTo b line .book) lines)
         ∙ ap (λ (s : List Number). ns buy ++ s) (sym (entered-first (sideOf buy) b line lines))
 
 -- each execution of a day is between one of its buys and one of its sells
-pub executions-pair : (lines : List (List ℕ)) → All (Pairs (entered 0 fresh lines) (entered 1 fresh lines)) (eventsIn (printedOf fresh lines))
+pub executions-pair : (lines : List (List ℕ)) → All (Pairs (numbersEntered 0 fresh lines) (numbersEntered 1 fresh lines)) (eventsIn (printedOf fresh lines))
 executions-pair lines = rw (run-read lines) (run-pairs (λ buy. []) fresh lines fresh-sound fresh-listed)
   where
     fresh-listed : Listed (λ buy. []) fresh
@@ -251,14 +251,14 @@ module _ (m : Number) (k : ℕ) where
 
   -- the count of a run is that of its first line and that of the rest
   count-first : (side : ℕ) (b : Book) (line : List ℕ) (lines : List (List ℕ))
-      → countOf m k (entered side b (line ∷ lines)) ≡ countOf m k (enteredAt side b line) + countOf m k (entered side (answerTo b line .book) lines)
+      → countOf m k (numbersEntered side b (line ∷ lines)) ≡ countOf m k (enteredAt side b line) + countOf m k (numbersEntered side (answerTo b line .book) lines)
   count-first side b line lines =
       ap (countOf m k) (entered-first side b line lines)
-      ∙ sumOf-append (λ (n : Number). countedIf n m k) (enteredAt side b line) (entered side (answerTo b line .book) lines)
+      ∙ sumOf-append (λ (n : Number). countedIf n m k) (enteredAt side b line) (numbersEntered side (answerTo b line .book) lines)
 
   -- no number up to the last is entered any more
-  old-uncounted : (side : ℕ) (b : Book) (lines : List (List ℕ)) → m .0 ≤ b .held .last .0 → countOf m k (entered side b lines) ≡ 0
-  unfolding entered sumOf
+  old-uncounted : (side : ℕ) (b : Book) (lines : List (List ℕ)) → m .0 ≤ b .held .last .0 → countOf m k (numbersEntered side b lines) ≡ 0
+  unfolding numbersEntered sumOf
   old-uncounted side b [] l = refl
   old-uncounted side b (line ∷ lines) l =
       let other : m .0 ≢ b .held .last .0 + 1 = λ (z : m .0 ≡ b .held .last .0 + 1). omega (arith, z) in
@@ -266,8 +266,8 @@ module _ (m : Number) (k : ℕ) where
       omega (arith, count-first side b line lines, line-uncounted side b line other, rest)
 
   -- and any is entered at most once, over both sides
-  entered-once : (b : Book) (lines : List (List ℕ)) → countOf m k (entered 0 b lines) + countOf m k (entered 1 b lines) ≤ k
-  unfolding entered sumOf
+  entered-once : (b : Book) (lines : List (List ℕ)) → countOf m k (numbersEntered 0 b lines) + countOf m k (numbersEntered 1 b lines) ≤ k
+  unfolding numbersEntered sumOf
   entered-once b [] = omega arith
   entered-once b (line ∷ lines) =
       let book = answerTo b line .book in
@@ -336,6 +336,6 @@ module _ (buys sells : List Number) (once : (m : Number) (k : ℕ) → countOf m
 
 -- the shares that the buys of a day execute are those that its sells do
 pub bought-is-sold : (lines : List (List ℕ))
-    → executedByAll (entered 0 fresh lines) (eventsIn (printedOf fresh lines))
-    ≡ executedByAll (entered 1 fresh lines) (eventsIn (printedOf fresh lines))
-bought-is-sold lines = events-alike (entered 0 fresh lines) (entered 1 fresh lines) (λ m k. entered-once m k fresh lines) (executions-pair lines)
+    → executedByAll (numbersEntered 0 fresh lines) (eventsIn (printedOf fresh lines))
+    ≡ executedByAll (numbersEntered 1 fresh lines) (eventsIn (printedOf fresh lines))
+bought-is-sold lines = events-alike (numbersEntered 0 fresh lines) (numbersEntered 1 fresh lines) (λ m k. entered-once m k fresh lines) (executions-pair lines)

@@ -18,7 +18,7 @@ use Rattle.rules.specs.Book.{inRankOrder, unused}
 use Rattle.rules.specs.Instructions.{fok, has}
 use Rattle.rules.specs.Working.{nothing, walk, smaller, walked, takings}
 use Rattle.rules.proofs.LawsTakings.{nothing-total}
-use Rattle.soundness.proofs.LawsRank.{ranked-rest}
+use Rattle.rules.proofs.LawsRank.{ranked-rest}
 
 -- ── Nothing from anyone ──
 

@@ -44,16 +44,16 @@ NoExecution (Moved n price shares) = Unit {0}
 -- ── Where an order was last told to stand ──
 
 -- an event tells the price at which an order stands from then on: `12` when it comes to rest, `14` when it is moved
-abbrev pub toldBy : Number → Event → Cents → Cents
-toldBy n (Executed incoming resting price shares) before = before
-toldBy n (Rested m price shares) before = if eqb (n .0) (m .0) then price else before
-toldBy n (Cancelled m shares reason) before = before
-toldBy n (Moved m price shares) before = if eqb (n .0) (m .0) then price else before
+abbrev pub priceTold : Number → Event → Cents → Cents
+priceTold n (Executed incoming resting price shares) before = before
+priceTold n (Rested m price shares) before = if eqb (n .0) (m .0) then price else before
+priceTold n (Cancelled m shares reason) before = before
+priceTold n (Moved m price shares) before = if eqb (n .0) (m .0) then price else before
 
 -- the price that the last such event of an order tells; 0 where there is none
 unfoldable pub lastTold : Number → Cents → List Event → Cents
 lastTold n before [] = before
-lastTold n before (e ∷ es) = lastTold n (toldBy n e before) es
+lastTold n before (e ∷ es) = lastTold n (priceTold n e before) es
 
 abbrev pub standsAt : Number → List Event → Cents
 standsAt n es = lastTold n (cents 0) es
@@ -72,11 +72,11 @@ numberEntered side (reading.Is c) = orderNumber side c (c .body)
 numberEntered side reading.Bad = []
 
 -- the numbers of the accepted orders of a side, in a run of lines
-unfoldable pub entered : ℕ → Book → List (List ℕ) → List Number
-entered side b [] = []
-entered side b (l ∷ ls) =
-    if acts b l then numberEntered side (commandIn l) ++ entered side (answerTo b l .book) ls
-    else entered side (answerTo b l .book) ls
+unfoldable pub numbersEntered : ℕ → Book → List (List ℕ) → List Number
+numbersEntered side b [] = []
+numbersEntered side b (l ∷ ls) =
+    if acts b l then numberEntered side (commandIn l) ++ numbersEntered side (answerTo b l .book) ls
+    else numbersEntered side (answerTo b l .book) ls
 
 -- the shares that some orders execute, as events tell it
 abbrev pub executedByAll : List Number → List Event → ℕ
@@ -84,7 +84,9 @@ executedByAll ns es = sumOf (λ (n : Number). executedIn n es) ns
 
 -- an execution is between one of the buys and one of the sells
 abbrev pub Pairs : List Number → List Number → Event → Type 0
-Pairs buys sells (Executed incoming resting price shares) = (OneOf incoming buys × OneOf resting sells) ⊎ (OneOf incoming sells × OneOf resting buys)
+Pairs buys sells (Executed incoming resting price shares) =
+    (OneOf incoming buys × OneOf resting sells)
+    ⊎ (OneOf incoming sells × OneOf resting buys)
 Pairs buys sells (Rested n price shares) = Unit {0}
 Pairs buys sells (Cancelled n shares reason) = Unit {0}
 Pairs buys sells (Moved n price shares) = Unit {0}

@@ -1,6 +1,6 @@
 -- When each refusal is given (01, What the machine says back): the table row by row, each in its own words, with 01's own definitions of
--- sound, lawful and resting. "The lowest number that applies is given." (The command writer's half of row 1 is `answerOf` of
--- `writer/specs/Writing`.)
+-- sound, lawful and resting. "The lowest number that applies is given." (The command writer's half of row 1 is `writtenFor` of
+-- `command_lines/specs/Writing`.)
 use Prim.Native.Nat.{ℕ, _+_, _≤_, _<_}
 use mathlib.Core.Bool.{true, false}
 use mathlib.Core.List.{List, _++_}

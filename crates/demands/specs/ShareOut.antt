@@ -30,8 +30,9 @@ pub data Each {A B : Type 0} (Holds : A → B → Type 0) : List A → List B �
   empty : Each Holds [] []
   with : {x : A} {y : B} {s : List A} {u : List B} → Holds x y → Each Holds s u → Each Holds (x ∷ s) (y ∷ u)
 
--- a price at which a resting order could lawfully give: "within the incoming limit if there is one, and, unless the order is an ISO, neither
--- buys above the best away offer nor sells below the best away bid": side 0 buys, side 1 sells; an away price of 0 is none
+-- a price at which a resting order could lawfully give: "within the incoming limit if there is one, and, unless the order is an
+-- ISO, neither buys above the best away offer nor sells below the best away bid": side 0 buys, side 1 sells; an away price of 0
+-- is none
 pub record Fair (o : Order) (away : Away) (price : Cents) : Type 0 where
   pub buysWithinLimit : has (o .word) market ≡ false → o .side ≡ 0 → price .0 ≤ o .price .0
   pub sellsWithinLimit : has (o .word) market ≡ false → o .side ≡ 1 → o .price .0 ≤ price .0

@@ -2,11 +2,17 @@
 // with it. A line that begins with `#` names the day whose lines come next; tools/gather-days writes the input and the output.
 // A day is run as the program runs it, but in pieces so short that its lines are cut anywhere, and with so little room for output
 // that it runs short.
+use command_lines::lines;
+use day::night;
+use day::replay;
 use libc::STDIN_FILENO;
 use libc::STDOUT_FILENO;
-use rows::Index;
-use rows::Rows;
-use walk::Takings;
+use orders::walk;
+use orders::walk::Takings;
+use side::rows;
+use side::rows::Index;
+use side::rows::Rows;
+use side::tables;
 ghost use mathlib.Core.Path.{_≡_};
 ghost use Prim.Native.Nat.{_+_, _≤_, _<_};
 ghost use lib.ListN.{length};

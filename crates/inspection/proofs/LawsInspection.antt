@@ -12,13 +12,13 @@ use borrow.Author.Tests.{not-true, not-false, ltb-true, ltb-false, le-leb, lt-le
 use Rattle.basics.proofs.LawsLists.{map-take}
 use Rattle.basics.specs.Lists.{every, any, distinct}
 use Rattle.basics.proofs.LawsChoice.{holds-or-not, or-neither}
-use Rattle.rows.specs.Table.{orderOf, loaded}
+use Rattle.side.specs.Table.{orderOf, loaded}
 use Rattle.rules.specs.declared.Resting.{Resting}
 use Rattle.rules.specs.Book.{numbers, placesASide, opening, closing, restingInRange, isUnused, awayInRange, inRankOrder, apart, bookIn, sound, recordSound}
-use Rattle.tables.specs.declared.Head.{Head}
-use Rattle.tables.specs.Tables.{recordOn}
+use Rattle.side.specs.declared.tables.Head.{Head}
+use Rattle.side.specs.Tables.{recordOn}
 use Rattle.inspection.specs.Inspection.{headSound, sideSound}
-use Rattle.inspection.proofs.LawsTurns.{noneOf}
+use Rattle.inspection.proofs.LawsInspected.{noneOf}
 
 -- ── Tests over two lists ──
 

@@ -1,3 +1,3 @@
-pub mod LawsTurns
+pub mod LawsInspected
 pub mod LawsInspection
 pub mod Determined

@@ -8,8 +8,8 @@ use lib.ListN.{drop}
 use Rattle.basics.specs.Lists.{every, distinct}
 use Rattle.kinds.specs.declared.Number.{Number}
 use Rattle.rules.specs.Book.{numbers, opening, closing, awayInRange, isUnused, inRankOrder, restingInRange}
-use Rattle.rows.specs.Table.{orderOf, loaded}
-use Rattle.tables.specs.declared.Head.{Head}
+use Rattle.side.specs.Table.{orderOf, loaded}
+use Rattle.side.specs.declared.tables.Head.{Head}
 
 -- what is said of the header alone
 abbrev pub headSound : Head → Bool

@@ -1,9 +1,10 @@
 // Whether a book is sound (01, The book), decided on its header and two lent tables of rows, whatever they hold.
 use kinds::Number;
-use rows::PLACES;
-use rows::Rows;
 use rules::Resting;
-use tables::Head;
+use side::rows;
+use side::rows::PLACES;
+use side::rows::Rows;
+use side::tables::Head;
 ghost use mathlib.Core.Bool.{not};
 ghost use mathlib.Core.List.{map};
 ghost use mathlib.Core.Path.{_≡_};
@@ -11,9 +12,9 @@ ghost use Prim.Native.Nat.{_≤_};
 ghost use lib.Dec.{eqb};
 ghost use lib.ListN.{drop};
 ghost use Rattle.basics.specs.Lists.{every, any, distinct};
-ghost use Rattle.rows.specs.Table.{orderOf, loaded};
+ghost use Rattle.side.specs.Table.{orderOf, loaded};
 ghost use Rattle.rules.specs.Book.{numbers, placesASide, restingInRange, isUnused, inRankOrder, apart, recordSound};
-ghost use Rattle.tables.specs.Tables.{recordOn};
+ghost use Rattle.side.specs.Tables.{recordOn};
 ghost use Rattle.inspection.specs.Inspection.{headSound, sideSound};
 
 // ── One order ──

@@ -1,5 +1,7 @@
 // Which refusal a command's own fields get, against what the book last accepted (01, What the machine says back): 4 to 7 by the
-// header, 9 by an order's body or a quote's. Refusal 8 is `instructions::lawful`.
+// header, 9 by an order's body or a quote's. Refusal 8 is `judge::instructions::lawful`.
+pub mod instructions;
+
 use kinds::Cents;
 use rules::Body;
 use rules::Command;

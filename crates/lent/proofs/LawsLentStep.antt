@@ -18,13 +18,13 @@ use Rattle.book.specs.declared.Book as value
 use Rattle.book.specs.declared.Reply.{Reply}
 use Rattle.book.specs.declared.Side.{Side}
 use Rattle.book.specs.Record.{placesOn, sideWith, recordIn, bookWith, replyOf}
-use Rattle.lent.specs.declared.Worked.{Worked}
-use Rattle.lent.specs.Lent.{Lent, placesIn, noPlaces, isEmpty, sideOf, withSide, fits, lentStep, replyOf as replyIn, workedOf, takenApart}
+use Rattle.lent.specs.declared.GivenBack.{GivenBack}
+use Rattle.lent.specs.Lent.{Lent, placesLent, noPlaces, isEmpty, sideOf, withPlaces, fits, lentStep, replyLent as replyIn, workedOf, takenApart}
 use Rattle.lent.proofs.LawsSame.{Counted, lent-is-answer, uncounted-refused, refused-same, accepted-again}
 
 module _ (buys : Bool) (r : BookRecord) (table : List Resting) (line out : List ℕ) where
   abbrev pub whole : Returned
-  whole = step (withSide buys (placesIn table) r) line out
+  whole = step (withPlaces buys (placesLent table) r) line out
 
   lent-unfit : isEmpty (sideOf buys r) ≡ false
       → lentStep buys r table line out
@@ -53,7 +53,7 @@ module _ (buys : Bool) (r : BookRecord) (table : List Resting) (line out : List 
         ≡ record {
           refusal = whole .refusal;
           length = whole .length;
-          book = withSide buys noPlaces (whole .book);
+          book = withPlaces buys noPlaces (whole .book);
           table = sideOf buys (whole .book) .places;
           out = whole .out;
         }
@@ -79,9 +79,9 @@ module _ (buys : Bool) (book : value.Book) (table : List Resting) (line out : Li
 
   module _ (all : length table ≡ placesASide) (side : Side) (sideIs : side ≡ sideWith (sideOf buys (recordIn book))) (empty : isEmpty (placesOn side) ≡ true)
       (used : ℕ) (usedIs : used ≡ firstWhere isUnused table)
-      (whole : value.Book) (wholeIs : whole ≡ bookWith (withSide buys (record { used = used; places = table }) (recordIn book)))
+      (whole : value.Book) (wholeIs : whole ≡ bookWith (withPlaces buys (record { used = used; places = table }) (recordIn book)))
       (reply : Reply) (replyIs : reply ≡ replyOf (step (recordIn whole) line out)) (out′ : List ℕ) (outIs : out′ ≡ step (recordIn whole) line out .out) where
-    same-step : step (recordIn whole) line out ≡ step (withSide buys (placesIn table) (recordIn book)) line out
+    same-step : step (recordIn whole) line out ≡ step (withPlaces buys (placesLent table) (recordIn book)) line out
     same-step = rw (wholeIs, usedIs) refl
 
     is-empty : isEmpty (sideOf buys (recordIn book)) ≡ true
@@ -95,7 +95,7 @@ module _ (buys : Bool) (book : value.Book) (table : List Resting) (line out : Li
         rw (refused, replyWhole) (refl, rw same-step at outIs)
 
     pub worked-accepted : reply .refusal ≡ 0 → (left apart : _) → left ≡ sideWith (sideOf buys (recordIn (reply .book)))
-        → apart ≡ bookWith (withSide buys noPlaces (recordIn (reply .book)))
+        → apart ≡ bookWith (withPlaces buys noPlaces (recordIn (reply .book)))
         → (record { reply = record { refusal = reply .refusal; length = reply .length; book = apart }; places = left .places } ≡ workedOf it) × (out′ ≡ it .out)
     worked-accepted z left apart leftIs apartIs =
         let replyWhole = rw same-step at replyIs in
@@ -110,14 +110,14 @@ module _ (buys : Bool) (book : value.Book) (table : List Resting) (line out : Li
 
   -- it is: what `work` returns on its records is taken apart
   pub answered : (places : List Resting) → places ≡ table
-      → (w : Worked) (out′ : List ℕ) → (w ≡ workedOf (lentStep buys (recordIn book) places line out)) × (out′ ≡ lentStep buys (recordIn book) places line out .out)
+      → (w : GivenBack) (out′ : List ℕ) → (w ≡ workedOf (lentStep buys (recordIn book) places line out)) × (out′ ≡ lentStep buys (recordIn book) places line out .out)
       → (left : List Resting) → left ≡ w .places → (table′ : List Resting) → table′ ≡ left → (r : Reply) → r ≡ w .reply
       → (r ≡ replyIn it) × (table′ ≡ it .table) × (out′ ≡ it .out)
   answered places placesIs w out′ wIs left leftIs table′ tableIs r rIs = rw (rIs, tableIs, leftIs, wIs .0, wIs .1, placesIs) (refl, refl, refl)
 
   -- the records by value: what `answer` leaves of the slice they are lent as, beside its reply
   pub answered-over : (r : Reply) (table′ : List Resting) (out′ : List ℕ) → (r ≡ replyIn it) × (table′ ≡ it .table) × (out′ ≡ it .out)
-      → (w : Worked) → w ≡ record { reply = r; places = table′ }
+      → (w : GivenBack) → w ≡ record { reply = r; places = table′ }
       → (w ≡ workedOf it) × (out′ ≡ it .out)
   answered-over r table′ out′ told w wIs = rw (wIs, told .0, told .1) (refl, told .2)
 
@@ -138,8 +138,8 @@ module _ (buys : Bool) (book : value.Book) (line out : List ℕ) (side : Side) (
 
   -- it is: what came of the lent side is the book's own answer, taken apart
   module _ (counted : side .used ≡ used) (all : length (side .places) ≡ placesASide)
-      (apart : value.Book) (apartIs : apart ≡ bookWith (withSide buys noPlaces (recordIn book)))
-      (worked : Worked) (out′ : List ℕ)
+      (apart : value.Book) (apartIs : apart ≡ bookWith (withPlaces buys noPlaces (recordIn book)))
+      (worked : GivenBack) (out′ : List ℕ)
       (lent : (worked ≡ workedOf (lentStep buys (recordIn apart) (side .places) line out))
       × (out′ ≡ lentStep buys (recordIn apart) (side .places) line out .out)) where
     same-lent : lentStep buys (recordIn apart) (side .places) line out ≡ takenApart buys (recordIn apart) (side .places) own
@@ -158,7 +158,7 @@ module _ (buys : Bool) (book : value.Book) (line out : List ℕ) (side : Side) (
 
     -- it is accepted
     pub lending-accepted : worked .reply .refusal ≡ 0 → (again : ℕ) → again ≡ firstWhere isUnused (worked .places)
-        → (whole : value.Book) → whole ≡ bookWith (withSide buys (record { used = again; places = worked .places }) (recordIn (worked .reply .book)))
+        → (whole : value.Book) → whole ≡ bookWith (withPlaces buys (record { used = again; places = worked .places }) (recordIn (worked .reply .book)))
         → (record { refusal = worked .reply .refusal; length = worked .reply .length; book = whole } ≡ replyOf own) × (out′ ≡ own .out)
     lending-accepted z again againIs whole wholeIs =
         let accepted : own .refusal ≡ 0 = rw workedIs at z in

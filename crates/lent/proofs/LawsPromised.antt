@@ -14,7 +14,7 @@ use Rattle.rules.specs.Book.{BookRecord}
 use Rattle.rules.specs.EventLines.{eventLines}
 use Rattle.rules.specs.Refusals.{leastRoom, firstOf}
 use Rattle.rules.specs.Step.{answer, step, stepOn}
-use Rattle.lent.specs.Lent.{noPlaces, placesIn, sideOf, withSide, fits, lentStep}
+use Rattle.lent.specs.Lent.{noPlaces, placesLent, sideOf, withPlaces, fits, lentStep}
 
 -- a refusal of the core writes no byte
 refused-out : (r : BookRecord) (line out : List ℕ) → step r line out .refusal ≢ 0 → step r line out .out ≡ out
@@ -34,7 +34,7 @@ module _ (buys : Bool) (r : BookRecord) (table : List Resting) (line out : List 
   refused-untouched n =
       ⊎-elim
       (λ (f : fits buys r table ≡ true).
-      let whole = withSide buys (placesIn table) r in
+      let whole = withPlaces buys (placesLent table) r in
       let m : step whole line out .refusal ≢ 0 = rw f at n in
       rw (f, ne-eqb (step whole line out .refusal) 0 m) (refl, refl, refused-out whole line out m))
       (λ (f : fits buys r table ≡ false). rw f (refl, refl, refl))
@@ -42,12 +42,12 @@ module _ (buys : Bool) (r : BookRecord) (table : List Resting) (line out : List 
 
   -- "stands for that side and is left as the core would leave it": what the core gives on the book with the table put in
   pub fit-answers : fits buys r table ≡ true → lentStep buys r table line out .refusal ≡ 0
-      → (lentStep buys r table line out .table ≡ sideOf buys (step (withSide buys (placesIn table) r) line out .book) .places)
-      × (lentStep buys r table line out .length ≡ step (withSide buys (placesIn table) r) line out .length)
-      × (lentStep buys r table line out .out ≡ step (withSide buys (placesIn table) r) line out .out)
+      → (lentStep buys r table line out .table ≡ sideOf buys (step (withPlaces buys (placesLent table) r) line out .book) .places)
+      × (lentStep buys r table line out .length ≡ step (withPlaces buys (placesLent table) r) line out .length)
+      × (lentStep buys r table line out .out ≡ step (withPlaces buys (placesLent table) r) line out .out)
   unfolding lentStep
   fit-answers f z =
-      let whole = withSide buys (placesIn table) r in
+      let whole = withPlaces buys (placesLent table) r in
       let y : step whole line out .refusal ≡ 0 = rw f at z in
       rw (f, eq-eqb (step whole line out .refusal) 0 y) (refl, refl, refl)
 
@@ -56,8 +56,8 @@ pub comes-back-empty : (buys : Bool) (r : BookRecord) (table : List Resting) (li
     → lentStep buys r table line out .refusal ≡ 0 → sideOf buys (lentStep buys r table line out .book) ≡ noPlaces
 unfolding lentStep
 comes-back-empty true r table line out f z =
-    let y : step (withSide true (placesIn table) r) line out .refusal ≡ 0 = rw f at z in
-    rw (f, eq-eqb (step (withSide true (placesIn table) r) line out .refusal) 0 y) refl
+    let y : step (withPlaces true (placesLent table) r) line out .refusal ≡ 0 = rw f at z in
+    rw (f, eq-eqb (step (withPlaces true (placesLent table) r) line out .refusal) 0 y) refl
 comes-back-empty false r table line out f z =
-    let y : step (withSide false (placesIn table) r) line out .refusal ≡ 0 = rw f at z in
-    rw (f, eq-eqb (step (withSide false (placesIn table) r) line out .refusal) 0 y) refl
+    let y : step (withPlaces false (placesLent table) r) line out .refusal ≡ 0 = rw f at z in
+    rw (f, eq-eqb (step (withPlaces false (placesLent table) r) line out .refusal) 0 y) refl

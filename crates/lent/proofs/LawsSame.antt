@@ -23,7 +23,7 @@ use Rattle.soundness.proofs.LawsKept.{step-sound}
 use Rattle.soundness.proofs.LawsSides.{InRange, Sides, sides-of}
 use Rattle.soundness.proofs.LawsSound.{sound-is}
 use Rattle.book.proofs.LawsStep.{step-unfit}
-use Rattle.lent.specs.Lent.{placesIn, noPlaces, isEmpty, sideOf, withSide, takenApart, fits, lentStep}
+use Rattle.lent.specs.Lent.{placesLent, noPlaces, isEmpty, sideOf, withPlaces, takenApart, fits, lentStep}
 
 -- ── The count of a sound side ──
 
@@ -72,11 +72,11 @@ side-counted buys r isSound =
 -- ── The side put in ──
 
 -- the table put in is the side that was taken out
-put-in : (buys : Bool) (r : BookRecord) → Counted (sideOf buys r) → withSide buys (placesIn (sideOf buys r .places)) (withSide buys noPlaces r) ≡ r
+put-in : (buys : Bool) (r : BookRecord) → Counted (sideOf buys r) → withPlaces buys (placesLent (sideOf buys r .places)) (withPlaces buys noPlaces r) ≡ r
 put-in true r counted = rw (← counted) refl
 put-in false r counted = rw (← counted) refl
 
-taken-out : (buys : Bool) (r : BookRecord) → isEmpty (sideOf buys (withSide buys noPlaces r)) ≡ true
+taken-out : (buys : Bool) (r : BookRecord) → isEmpty (sideOf buys (withPlaces buys noPlaces r)) ≡ true
 unfolding isEmpty every
 taken-out true r = refl
 taken-out false r = refl
@@ -85,11 +85,11 @@ taken-out false r = refl
 
 -- a line to the book with its side lent is the line to the book, taken apart
 pub lent-is-answer : (buys : Bool) (r : BookRecord) (line out : List ℕ) → Counted (sideOf buys r) → length (sideOf buys r .places) ≡ placesASide
-    → lentStep buys (withSide buys noPlaces r) (sideOf buys r .places) line out
-    ≡ takenApart buys (withSide buys noPlaces r) (sideOf buys r .places) (step r line out)
+    → lentStep buys (withPlaces buys noPlaces r) (sideOf buys r .places) line out
+    ≡ takenApart buys (withPlaces buys noPlaces r) (sideOf buys r .places) (step r line out)
 unfolding lentStep fits
 lent-is-answer buys r line out counted all =
-    let apart = withSide buys noPlaces r in
+    let apart = withPlaces buys noPlaces r in
     let table = sideOf buys r .places in
     rw (eq-eqb (length table) placesASide all, taken-out buys r)
     (ap (λ (x : BookRecord). takenApart buys apart table (step x line out)) (put-in buys r counted))
@@ -127,7 +127,7 @@ accepted-sound r line out accepted = fit-facts (length out) (recordSound r) (lin
 -- .. and so is the book that it leaves: the side put in again is its side
 pub accepted-again : (buys : Bool) (r : BookRecord) (line out : List ℕ) → step r line out .refusal ≡ 0
     → let after = step r line out .book in
-    withSide buys (placesIn (sideOf buys after .places)) (withSide buys noPlaces after) ≡ after
+    withPlaces buys (placesLent (sideOf buys after .places)) (withPlaces buys noPlaces after) ≡ after
 accepted-again buys r line out accepted =
     let after = step r line out .book in
     put-in buys after (side-counted buys after (step-sound r line out (accepted-sound r line out accepted)))

@@ -15,11 +15,11 @@ use Rattle.rules.specs.Refusals.{firstOf, fitRefusals}
 use Rattle.rules.specs.Step.{Returned, step}
 use Rattle.book.specs.declared.Reply.{Reply}
 use Rattle.book.specs.Record.{bookWith}
-use Rattle.lent.specs.declared.Worked.{Worked}
+use Rattle.lent.specs.declared.GivenBack.{GivenBack}
 
 -- the table has no count, and 01 does not say which of its records are used: its leading ones that are not all zero
-abbrev pub placesIn : List Resting → Places
-placesIn table = record { used = firstWhere isUnused table; places = table }
+abbrev pub placesLent : List Resting → Places
+placesLent table = record { used = firstWhere isUnused table; places = table }
 
 -- a side with all places zero
 abbrev pub noPlaces : Places
@@ -33,8 +33,8 @@ isEmpty p = eqb (p .used) 0 && eqb (length (p .places)) placesASide && every isU
 abbrev pub sideOf : Bool → BookRecord → Places
 sideOf buys r = if buys then r .buys else r .sells
 
-abbrev pub withSide : Bool → Places → BookRecord → BookRecord
-withSide buys p r = record {
+abbrev pub withPlaces : Bool → Places → BookRecord → BookRecord
+withPlaces buys p r = record {
   held = r .held;
   buys = if buys then p else r .buys;
   sells = if buys then r .sells else p;
@@ -57,15 +57,16 @@ abbrev pub takenApart : Bool → BookRecord → List Resting → Returned → Le
 takenApart buys r table s = record {
   refusal = s .refusal;
   length = s .length;
-  book = if eqb (s .refusal) 0 then withSide buys noPlaces (s .book) else r;
+  book = if eqb (s .refusal) 0 then withPlaces buys noPlaces (s .book) else r;
   table = if eqb (s .refusal) 0 then sideOf buys (s .book) .places else table;
   out = s .out;
 }
 
--- a line, of any kind of command, to a book of which one side is lent as a table: what the core gives on the book with the table put in, taken apart again
+-- a line, of any kind of command, to a book of which one side is lent as a table: what the core gives on the book with the
+-- table put in, taken apart again
 unfoldable pub lentStep : Bool → BookRecord → List Resting → List ℕ → List ℕ → Lent
 lentStep buys r table line out =
-    if fits buys r table then takenApart buys r table (step (withSide buys (placesIn table) r) line out)
+    if fits buys r table then takenApart buys r table (step (withPlaces buys (placesLent table) r) line out)
     else record {
       refusal = firstOf (fitRefusals (length out) false);
       length = 0;
@@ -75,13 +76,14 @@ lentStep buys r table line out =
     }
 
 -- the same as the code hands it back
-abbrev pub replyOf : Lent → Reply
-replyOf l = record { refusal = l .refusal; length = l .length; book = bookWith (l .book) }
+abbrev pub replyLent : Lent → Reply
+replyLent l = record { refusal = l .refusal; length = l .length; book = bookWith (l .book) }
 
-abbrev pub workedOf : Lent → Worked
-workedOf l = record { reply = replyOf l; places = l .table }
+abbrev pub workedOf : Lent → GivenBack
+workedOf l = record { reply = replyLent l; places = l .table }
 
 -- the contract of the entry: the reply, the table and the output that a call leaves
 abbrev pub Answered : Bool → BookRecord → List Resting → List ℕ → List ℕ → Reply → List Resting → List ℕ → Type 0
 Answered buys r table line out reply table′ out′ =
-    (reply ≡ replyOf (lentStep buys r table line out)) × (table′ ≡ lentStep buys r table line out .table) × (out′ ≡ lentStep buys r table line out .out)
+    (reply ≡ replyLent (lentStep buys r table line out)) × (table′ ≡ lentStep buys r table line out .table)
+    × (out′ ≡ lentStep buys r table line out .out)

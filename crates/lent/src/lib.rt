@@ -4,8 +4,9 @@ use book::Book;
 use book::NO_ORDERS;
 use book::Reply;
 use book::Side;
-use rows::PLACES;
 use rules::Resting;
+use side::rows;
+use side::rows::PLACES;
 ghost use mathlib.Core.Bool.{false};
 ghost use mathlib.Core.Path.{_≡_};
 ghost use Prim.Native.Nat.{_<_};
@@ -15,10 +16,10 @@ ghost use Rattle.book.specs.Record.{recordIn, bookWith, placesOn, sideWith, rep
 ghost use Rattle.rules.specs.Book.{placesASide, unused, isUnused};
 ghost use Rattle.rules.specs.Refusals.{firstOf, fitRefusals};
 ghost use Rattle.rules.specs.Step.{step};
-ghost use Rattle.lent.specs.Lent.{isEmpty, sideOf, withSide, lentStep, workedOf, Answered};
+ghost use Rattle.lent.specs.Lent.{isEmpty, sideOf, withPlaces, lentStep, workedOf, Answered};
 
 // What comes back: the reply, and the records of the table.
-struct Worked {
+struct GivenBack {
     reply: Reply,
     places: [Resting; PLACES],
 }
@@ -131,7 +132,7 @@ fn side_of(book: Book, buys: bool) -> Side
 }
 
 fn with_side(book: Book, buys: bool, side: Side) -> Book
-    ensures { λ r. ⌜ r ≡ bookWith (withSide buys (placesOn side) (recordIn book)) ⌝ }
+    ensures { λ r. ⌜ r ≡ bookWith (withPlaces buys (placesOn side) (recordIn book)) ⌝ }
 {
     if buys {
         return Book { buys: side, ..book };
@@ -154,18 +155,19 @@ fn refuse(book: Book, room: usize) -> Reply
     }
 }
 
-fn worked_of(reply: Reply, places: [Resting; PLACES]) -> Worked
+fn worked_of(reply: Reply, places: [Resting; PLACES]) -> GivenBack
     ensures { λ r. ⌜ r ≡ record { reply = reply; places = places } ⌝ }
 {
-    Worked {
+    GivenBack {
         reply: reply,
         places: places,
     }
 }
 
 // A line to a book of which one side is given as the records of a table.
-fn work(book: Book, buys: bool, places: [Resting; PLACES], line: &[u8], out: &mut [u8]) -> Worked
-    ensures { λ r. ⌜ (r ≡ workedOf (lentStep buys (recordIn book) places (now (line .entry)) (now (out .entry)))) × (now (out .exit) ≡ lentStep buys (recordIn book) places (now (line .entry)) (now (out .entry)) .out) ⌝ }
+fn work(book: Book, buys: bool, places: [Resting; PLACES], line: &[u8], out: &mut [u8]) -> GivenBack
+    ensures { λ r. ⌜ (r ≡ workedOf (lentStep buys (recordIn book) places (now (line .entry)) (now (out .entry))))
+        × (now (out .exit) ≡ lentStep buys (recordIn book) places (now (line .entry)) (now (out .entry)) .out) ⌝ }
 {
     let side = side_of(book, buys);
     if !is_empty(side) {
@@ -195,13 +197,13 @@ fn work(book: Book, buys: bool, places: [Resting; PLACES], line: &[u8], out: &mu
     worked_of(accepted, rest)
 }
 
-fn reply_of(worked: Worked) -> Reply
+fn reply_of(worked: GivenBack) -> Reply
     ensures { λ r. ⌜ r ≡ worked .reply ⌝ }
 {
     worked.reply
 }
 
-fn places_of(worked: Worked) -> [Resting; PLACES]
+fn places_of(worked: GivenBack) -> [Resting; PLACES]
     ensures { λ r. ⌜ r ≡ worked .places ⌝ }
 {
     worked.places
@@ -211,7 +213,8 @@ fn places_of(worked: Worked) -> [Resting; PLACES]
 
 // A line to a book of which one side is lent as a slice of records: its buys, or else its sells.
 pub fn answer(book: Book, buys: bool, table: &mut [Resting], line: &[u8], out: &mut [u8]) -> Reply
-    ensures { λ r. ⌜ Answered buys (recordIn book) (now (table .entry)) (now (line .entry)) (now (out .entry)) r (now (table .exit)) (now (out .exit)) ⌝ }
+    ensures { λ r. ⌜ Answered buys (recordIn book) (now (table .entry)) (now (line .entry)) (now (out .entry)) r (now (table .exit))
+        (now (out .exit)) ⌝ }
 {
     if table.len() != PLACES {
         return refuse(book, out.len());
@@ -229,8 +232,9 @@ fn answer_over(
     places: [Resting; PLACES],
     line: &[u8],
     out: &mut [u8],
-) -> Worked
-    ensures { λ r. ⌜ (r ≡ workedOf (lentStep buys (recordIn book) places (now (line .entry)) (now (out .entry)))) × (now (out .exit) ≡ lentStep buys (recordIn book) places (now (line .entry)) (now (out .entry)) .out) ⌝ }
+) -> GivenBack
+    ensures { λ r. ⌜ (r ≡ workedOf (lentStep buys (recordIn book) places (now (line .entry)) (now (out .entry))))
+        × (now (out .exit) ≡ lentStep buys (recordIn book) places (now (line .entry)) (now (out .entry)) .out) ⌝ }
 {
     let mut table = places;
     let reply = answer(book, buys, &mut table, line, out);

@@ -10,9 +10,9 @@ use Rattle.basics.specs.Bytes.{onto}
 use Rattle.basics.specs.Choice.{if_then_else_}
 use Rattle.basics.proofs.LawsChoice.{holds-or-not}
 use Rattle.kinds.specs.declared.Number.{Number}
-use Rattle.matching.specs.declared.Matched.{Matched}
-use Rattle.matching.specs.Matching.{Match, isFull, matchOf, matched, Matches}
-use Rattle.rows.specs.Table.{Shows}
+use Rattle.orders.specs.declared.matching.Matched.{Matched}
+use Rattle.orders.specs.Matching.{Match, isFull, matchOf, matched, Matches}
+use Rattle.side.specs.Table.{Shows}
 use Rattle.rules.specs.declared.Body.the-variants as body
 use Rattle.rules.specs.declared.Order.{Order}
 use Rattle.rules.specs.Book.{Book}
@@ -23,12 +23,12 @@ use Rattle.rules.specs.Step.{Answer}
 use Rattle.rules.specs.Commands.{withAccepted, carriedOut, does}
 use Rattle.rules.specs.Settling.{ownSide, oppositeSide}
 use Rattle.rules.specs.Working.{buying, ending, accept}
-use Rattle.tables.specs.declared.Head.{Head}
-use Rattle.tables.specs.declared.Step.{Step}
-use Rattle.tables.specs.Answers.{Left, bodyAnswer, Stands}
-use Rattle.tables.specs.Tables.{bookOn}
-use Rattle.tables.proofs.LawsAnswers.{refusedWith, doneWith, body-refused, body-done, left-refused}
-use Rattle.orders.specs.Orders.{entered}
+use Rattle.side.specs.declared.tables.Head.{Head}
+use Rattle.side.specs.declared.tables.Step.{Step}
+use Rattle.side.specs.Answers.{Left, bodyAnswer, Stands}
+use Rattle.side.specs.Tables.{bookOn}
+use Rattle.side.proofs.tables.LawsAnswers.{refusedWith, doneWith, body-refused, body-done, left-refused}
+use Rattle.orders.specs.Orders.{stepAfter}
 
 module _ (n : Number) (time : ℕ) (o : Order) (b : Book) where
   pub unlawful : lawful (o .word) ≡ false → bodyAnswer n time (body.Order o) b ≡ refusedWith 8 b
@@ -77,13 +77,13 @@ module _ (h : Head) (x : List ℕ) (t : List (List ℕ)) (y : List ℕ) (u : Lis
 
     left-full : (buy : Bool) (m : Match) → Shows (m .own) x′ t′ → Shows (m .opposite) y′ u′ → out′ ≡ onto (eventLines (m .events)) out → (a : Answer)
         → a ≡ refusedWith 11 book → m ≡ record { refusal = 11; events = []; own = ownSide buy book; opposite = oppositeSide buy book }
-        → LeftBy buy (entered h n time buy (matched m)) a
+        → LeftBy buy (stepAfter h n time buy (matched m)) a
     left-full buy m own opposite wrote a e q =
         rw (e, q) (by-side buy (subst (λ (k : Match). Shows (k .own) x′ t′) q own) (subst (λ (k : Match). Shows (k .opposite) y′ u′) q opposite)
         (wrote ∙ ap (λ (k : Match). onto (eventLines (k .events)) out) q))
       where
         by-side : (b : Bool) → Shows (ownSide b book) x′ t′ → Shows (oppositeSide b book) y′ u′ → out′ ≡ onto (eventLines []) out
-            → LeftBy b (entered h n time b (matched (record { refusal = 11; events = []; own = ownSide b book; opposite = oppositeSide b book }))) (refusedWith 11 book)
+            → LeftBy b (stepAfter h n time b (matched (record { refusal = 11; events = []; own = ownSide b book; opposite = oppositeSide b book }))) (refusedWith 11 book)
         by-side true own′ opposite′ none = (left-refused h x t y u stands 11 out (refusedWith 11 book) refl .0, (own′, (opposite′, none)))
         by-side false own′ opposite′ none = (left-refused h x t y u stands 11 out (refusedWith 11 book) refl .0, (opposite′, (own′, none)))
 
@@ -97,12 +97,12 @@ module _ (h : Head) (x : List ℕ) (t : List (List ℕ)) (y : List ℕ) (u : Lis
           events = m .events;
           moves = 0;
         })
-        → m .refusal ≡ 0 → LeftBy buy (entered h n time buy (matched m)) a
+        → m .refusal ≡ 0 → LeftBy buy (stepAfter h n time buy (matched m)) a
     left-room true m own opposite wrote a e z = rw (e, z) (refl, (own, (opposite, wrote)))
     left-room false m own opposite wrote a e z = rw (e, z) (refl, (opposite, (own, wrote)))
 
     pub left-entered : (o : Order) → lawful (o .word) ≡ true → orderInRange o ≡ true → (buy : Bool) → buying o ≡ buy → (r : Matched)
-        → Matches r x′ t′ y′ u′ out′ out (matches n time o book buy) → LeftBy buy (entered h n time buy r) (bodyAnswer n time (body.Order o) book)
+        → Matches r x′ t′ y′ u′ out′ out (matches n time o book buy) → LeftBy buy (stepAfter h n time buy r) (bodyAnswer n time (body.Order o) book)
     left-entered o isLawful inRange buy q r left =
         let a = bodyAnswer n time (body.Order o) book in
         let m = matches n time o book buy in

@@ -11,14 +11,14 @@ use Rattle.basics.proofs.LawsLists.{all-alike}
 use Rattle.kinds.specs.declared.Number.{Number}
 use Rattle.kinds.specs.Kinds.{highestPrice, sharesInRange}
 use Rattle.kinds.proofs.LawsRanges.{price-highest}
-use Rattle.matching.specs.Matching.{Ready}
+use Rattle.orders.specs.Matching.{Ready}
 use Rattle.rules.specs.declared.Order.{Order}
 use Rattle.rules.specs.Book.{Book, stamp, sound}
 use Rattle.rules.specs.Instructions.{market, has}
 use Rattle.rules.specs.Refusals.{orderPriceInRange, orderInRange}
 use Rattle.rules.specs.Settling.{ownSide, oppositeSide}
 use Rattle.rules.specs.Working.{buying, lockingPrice}
-use Rattle.side.proofs.LawsOlder.{older-all, away-at-most}
+use Rattle.orders.proofs.LawsOlder.{older-all, away-at-most}
 use Rattle.soundness.proofs.LawsSides.{sides-of}
 use Rattle.soundness.proofs.LawsSound.{Sound, sound-is}
 

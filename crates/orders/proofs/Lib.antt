@@ -1,3 +1,4 @@
+pub mod LawsOlder
 pub mod LawsReady
 pub mod LawsEntered
 pub mod Determined

@@ -4,14 +4,14 @@ use mathlib.Core.Bool.{Bool}
 use lib.Dec.{eqb}
 use Rattle.basics.specs.Choice.{if_then_else_}
 use Rattle.kinds.specs.declared.Number.{Number}
-use Rattle.matching.specs.declared.Matched.{Matched}
+use Rattle.orders.specs.declared.matching.Matched.{Matched}
 use Rattle.rules.specs.Commands.{withAccepted}
-use Rattle.tables.specs.declared.Head.{Head}
-use Rattle.tables.specs.declared.Step.{Step}
+use Rattle.side.specs.declared.tables.Head.{Head}
+use Rattle.side.specs.declared.tables.Step.{Step}
 
 -- the header after a match: what each side of the market holds, by the side that the order is of
-abbrev pub entered : Head → Number → ℕ → Bool → Matched → Step
-entered h n time buy r =
+abbrev pub stepAfter : Head → Number → ℕ → Bool → Matched → Step
+stepAfter h n time buy r =
     if eqb (r .refusal) 0 then record {
       refusal = 0;
       head = record {

@@ -1,26 +1,35 @@
 // An order on a sound book that stands in a header and two sides that are lent (01, How an order is worked): it is judged by its own fields
 // and then matched, on whichever side of the market it is of.
+mod fills;
+mod matching;
+pub mod pricing;
+pub mod reports;
+pub mod walk;
+mod work;
+
+use crate::matching::Matched;
+use crate::walk::Takings;
+use judge::instructions;
 use kinds::Number;
-use matching::Matched;
-use rows::Index;
-use rows::Rows;
 use rules::Held;
 use rules::Order;
-use tables::Head;
-use tables::Step;
-use walk::Takings;
+use side::rows::Index;
+use side::rows::Rows;
+use side::tables;
+use side::tables::Head;
+use side::tables::Step;
 ghost use mathlib.Core.Path.{_≡_};
 ghost use Prim.Native.Nat.{_≤_, _<_};
 ghost use lib.ListN.{length};
 ghost use Rattle.rules.specs.Refusals.{leastRoom};
 ghost use Rattle.rules.specs.declared.Body.the-variants as body;
-ghost use Rattle.tables.specs.Answers.{bodyAnswer, Left, Stands};
-ghost use Rattle.tables.specs.Tables.{bookOn};
-ghost use Rattle.orders.specs.Orders.{entered};
+ghost use Rattle.side.specs.Answers.{bodyAnswer, Left, Stands};
+ghost use Rattle.side.specs.Tables.{bookOn};
+ghost use Rattle.orders.specs.Orders.{stepAfter};
 
 // The header after a match of an order of one side of the market.
 fn step_after(h: Head, number: Number, time: u32, buying: bool, r: Matched) -> Step
-    ensures { λ s. ⌜ s ≡ entered h number time buying r ⌝ }
+    ensures { λ s. ⌜ s ≡ stepAfter h number time buying r ⌝ }
 {
     if r.refusal != 0 {
         return tables::refuse(h, r.refusal);

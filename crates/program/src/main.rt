@@ -1,17 +1,23 @@
 // Runs a day: command lines on standard input, event lines on standard output, to the end of the input (01, Examples from the
-// desk: the program). It reads, lets `night` take a turn, writes what that hands over, and stops at a read or a write that failed.
+// desk: the program). It reads, lets `day::night` take a turn, writes what that hands over, and stops at a read or a write that failed.
+use command_lines::lines;
+use command_lines::lines::Read;
+use day::night;
+use day::replay;
 use libc::STDIN_FILENO;
 use libc::STDOUT_FILENO;
-use lines::Read;
-use rows::Index;
-use rows::Rows;
-use walk::Takings;
+use orders::walk;
+use orders::walk::Takings;
+use side::rows;
+use side::rows::Index;
+use side::rows::Rows;
+use side::tables;
 ghost use mathlib.Core.Bool.{false};
 ghost use mathlib.Core.Path.{_≡_};
 ghost use Prim.Native.Nat.{ℕ, _≤_, _<_};
 ghost use lib.ListN.{length, take};
-ghost use Rattle.lines.specs.Pieces.{partKept};
-ghost use Rattle.lines.specs.declared.Read.the-variants.{Upto};
+ghost use Rattle.command_lines.specs.Pieces.{partKept};
+ghost use Rattle.command_lines.specs.declared.lines.Read.the-variants.{Upto};
 ghost use Rattle.rules.specs.Refusals.{leastRoom};
 
 // Reads behind the bytes that wait, if a turn asks for it.

@@ -22,7 +22,7 @@ use Rattle.rules.specs.Day.{printed, bookAfter, printedOf}
 use Rattle.rules.specs.Instructions.{has, postOnly}
 use Rattle.rules.specs.Refusals.{leastRoom}
 use Rattle.rules.specs.Step.{answerTo, step}
-use Rattle.demands.specs.Beyond.{NoExecution, standsAt, entered, executedByAll, Pairs}
+use Rattle.demands.specs.Beyond.{NoExecution, standsAt, numbersEntered, executedByAll, Pairs}
 use Rattle.demands.specs.Once.{acts, byLine}
 use Rattle.demands.specs.Run.{Enters}
 use Rattle.demands.specs.ShareOut.{Fair}
@@ -31,7 +31,7 @@ use Rattle.demands.proofs.LawsBeyond as beyond
 use Rattle.demands.proofs.LawsLimits as limits
 use Rattle.demands.proofs.LawsStanding as standing
 use Rattle.demands.proofs.LawsTraded as traded
-use Rattle.lent.specs.Lent.{noPlaces, placesIn, sideOf, withSide, fits, lentStep}
+use Rattle.lent.specs.Lent.{noPlaces, placesLent, sideOf, withPlaces, fits, lentStep}
 use Rattle.lent.proofs.LawsPromised as lent
 
 -- ── A day ──
@@ -61,12 +61,12 @@ pub executions-where-told : (before : List (List ℕ)) (line : List ℕ) (c : Co
 executions-where-told = standing.executions-where-told
 
 -- each `11` pairs one buy with one sell, so shares bought are shares sold
-pub each-execution-pairs : (lines : List (List ℕ)) → All (Pairs (entered 0 fresh lines) (entered 1 fresh lines)) (eventsIn (printedOf fresh lines))
+pub each-execution-pairs : (lines : List (List ℕ)) → All (Pairs (numbersEntered 0 fresh lines) (numbersEntered 1 fresh lines)) (eventsIn (printedOf fresh lines))
 each-execution-pairs = traded.executions-pair
 
 pub bought-is-sold : (lines : List (List ℕ))
-    → executedByAll (entered 0 fresh lines) (eventsIn (printedOf fresh lines))
-    ≡ executedByAll (entered 1 fresh lines) (eventsIn (printedOf fresh lines))
+    → executedByAll (numbersEntered 0 fresh lines) (eventsIn (printedOf fresh lines))
+    ≡ executedByAll (numbersEntered 1 fresh lines) (eventsIn (printedOf fresh lines))
 bought-is-sold = traded.bought-is-sold
 
 -- a resting price is never beyond its order's limit
@@ -86,9 +86,9 @@ a-table-that-does-not-fit = lent.unfit-refused
 -- "stands for that side and is left as the core would leave it"
 pub a-table-is-left-as-the-core-would : (buys : Bool) (r : BookRecord) (table : List Resting) (line out : List ℕ) → fits buys r table ≡ true
     → lentStep buys r table line out .refusal ≡ 0
-    → (lentStep buys r table line out .table ≡ sideOf buys (step (withSide buys (placesIn table) r) line out .book) .places)
-    × (lentStep buys r table line out .length ≡ step (withSide buys (placesIn table) r) line out .length)
-    × (lentStep buys r table line out .out ≡ step (withSide buys (placesIn table) r) line out .out)
+    → (lentStep buys r table line out .table ≡ sideOf buys (step (withPlaces buys (placesLent table) r) line out .book) .places)
+    × (lentStep buys r table line out .length ≡ step (withPlaces buys (placesLent table) r) line out .length)
+    × (lentStep buys r table line out .out ≡ step (withPlaces buys (placesLent table) r) line out .out)
 a-table-is-left-as-the-core-would = lent.fit-answers
 
 -- "a refusal leaves it untouched"

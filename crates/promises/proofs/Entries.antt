@@ -17,8 +17,8 @@ use prog.Routine.{Routine}
 use prog.Wp.{Heap}
 use Rattle.basics.specs.Bytes.{onto}
 use Rattle.kinds.specs.declared.Number.{Number}
-use Rattle.lines.specs.declared.Read.{Read}
-use Rattle.lines.specs.Pieces.{readBehind}
+use Rattle.command_lines.specs.declared.lines.Read.{Read}
+use Rattle.command_lines.specs.Pieces.{readBehind}
 use Rattle.rules.specs.declared.Body.{Body}
 use Rattle.rules.specs.declared.Body.the-variants as body
 use Rattle.rules.specs.declared.EventReading.{EventReading}
@@ -30,23 +30,23 @@ use Rattle.rules.specs.CommandLines.{lineOf, commandIn}
 use Rattle.rules.specs.EventReading.{eventIn}
 use Rattle.rules.specs.Refusals.{leastRoom}
 use Rattle.rules.specs.Step.{step, stepOn}
-use Rattle.tables.specs.declared.Head.{Head}
-use Rattle.tables.specs.Answers.{Stands}
-use Rattle.tables.specs.Tables.{bookOn, headOf}
+use Rattle.side.specs.declared.tables.Head.{Head}
+use Rattle.side.specs.Answers.{Stands}
+use Rattle.side.specs.Tables.{bookOn, headOf}
 use Rattle.book.specs.declared.Book.{Book}
 use Rattle.book.specs.declared.Reply.{Reply}
 use Rattle.book.specs.Record.{recordIn, bookWith, replyOf}
 use Rattle.lent.specs.Lent.{Answered}
 use Rattle.lent.proofs.answer as lent-contract
-use Rattle.night.specs.declared.Turn.{Turn}
-use Rattle.night.specs.Turns.{Takes}
-use Rattle.replay.specs.declared.Fed.{Fed}
-use Rattle.replay.specs.Feed.{Feeds}
-use Rattle.replay.specs.Pieces.{printedAtEnd}
-use Rattle.tally.specs.declared.Fed as tallied
+use Rattle.day.specs.declared.night.Turn.{Turn}
+use Rattle.day.specs.Turns.{Takes}
+use Rattle.day.specs.declared.replay.Fed.{Fed}
+use Rattle.day.specs.Feed.{Feeds}
+use Rattle.day.specs.Pieces.{printedAtEnd}
+use Rattle.tally.specs.declared.TalliedPiece as tallied
 use Rattle.tally.specs.Tally.{fedOn}
-use Rattle.writer.specs.declared.Written.{Written}
-use Rattle.writer.specs.Writing.{answerOf, bufferOf}
+use Rattle.command_lines.specs.declared.writer.Written.{Written}
+use Rattle.command_lines.specs.Writing.{writtenFor, bufferOf}
 use Rattle.book.proofs.Book.fresh.Met as fresh-met
 use Rattle.book.proofs.Book.fresh.Reads as fresh
 use Rattle.book.proofs.Book.fresh.Statement as fresh-statement
@@ -70,33 +70,33 @@ use Rattle.lent.proofs.answer.Statement as lent-statement
 use Rattle.lent.proofs.answer_lending.Met as lending-met
 use Rattle.lent.proofs.answer_lending.Reads as lending
 use Rattle.lent.proofs.answer_lending.Statement as lending-statement
-use Rattle.reader.proofs.read_command.Met as read-met
-use Rattle.reader.proofs.read_command.Reads as read
-use Rattle.reader.proofs.read_command.Statement as read-statement
-use Rattle.writer.proofs.write_command.Met as write-met
-use Rattle.writer.proofs.write_command.Reads as write
-use Rattle.writer.proofs.write_command.Statement as write-statement
-use Rattle.event_reader.proofs.read_event.Met as read-event-met
-use Rattle.event_reader.proofs.read_event.Reads as read-event
-use Rattle.event_reader.proofs.read_event.Statement as read-event-statement
-use Rattle.replay.proofs.begin.Met as begin-met
-use Rattle.replay.proofs.begin.Reads as begin
-use Rattle.replay.proofs.begin.Statement as begin-statement
-use Rattle.replay.proofs.feed.Met as feed-met
-use Rattle.replay.proofs.feed.Reads as feed
-use Rattle.replay.proofs.feed.Statement as feed-statement
-use Rattle.lines.proofs.after_read.Met as after-read-met
-use Rattle.lines.proofs.after_read.Reads as after-read
-use Rattle.lines.proofs.after_read.Statement as after-read-statement
+use Rattle.command_lines.proofs.reader.read_command.Met as read-met
+use Rattle.command_lines.proofs.reader.read_command.Reads as read
+use Rattle.command_lines.proofs.reader.read_command.Statement as read-statement
+use Rattle.command_lines.proofs.writer.write_command.Met as write-met
+use Rattle.command_lines.proofs.writer.write_command.Reads as write
+use Rattle.command_lines.proofs.writer.write_command.Statement as write-statement
+use Rattle.event_lines.proofs.reader.read_event.Met as read-event-met
+use Rattle.event_lines.proofs.reader.read_event.Reads as read-event
+use Rattle.event_lines.proofs.reader.read_event.Statement as read-event-statement
+use Rattle.day.proofs.replay.begin.Met as begin-met
+use Rattle.day.proofs.replay.begin.Reads as begin
+use Rattle.day.proofs.replay.begin.Statement as begin-statement
+use Rattle.day.proofs.replay.feed.Met as feed-met
+use Rattle.day.proofs.replay.feed.Reads as feed
+use Rattle.day.proofs.replay.feed.Statement as feed-statement
+use Rattle.command_lines.proofs.lines.after_read.Met as after-read-met
+use Rattle.command_lines.proofs.lines.after_read.Reads as after-read
+use Rattle.command_lines.proofs.lines.after_read.Statement as after-read-statement
 use Rattle.tally.proofs.feed.Met as tally-met
 use Rattle.tally.proofs.feed.Reads as tally
 use Rattle.tally.proofs.feed.Statement as tally-statement
-use Rattle.night.proofs.take_turn.Met as turn-met
-use Rattle.night.proofs.take_turn.Reads as turn
-use Rattle.night.proofs.take_turn.Statement as turn-statement
-use Rattle.night.proofs.finish.Met as finish-met
-use Rattle.night.proofs.finish.Reads as finish
-use Rattle.night.proofs.finish.Statement as finish-statement
+use Rattle.day.proofs.night.take_turn.Met as turn-met
+use Rattle.day.proofs.night.take_turn.Reads as turn
+use Rattle.day.proofs.night.take_turn.Statement as turn-statement
+use Rattle.day.proofs.night.finish.Met as finish-met
+use Rattle.day.proofs.night.finish.Reads as finish
+use Rattle.day.proofs.night.finish.Statement as finish-statement
 
 -- ── The book by value ──
 
@@ -204,7 +204,7 @@ lending-says κs a r s = refl
 
 -- ── Lines read and written ──
 
--- `reader::read_command(s)`: any bytes
+-- `command_lines::reader::read_command(s)`: any bytes
 pub read-is-proved : {M : Type 1} → read-statement.statement M
 read-is-proved = read-met.met
 
@@ -215,7 +215,7 @@ pub read-says : (κs : _) (a : _) (r : Reading) (s : _) → read.Post κs a r s
     ≡ (r ≡ commandIn (now (a .0)))
 read-says κs a r s = refl
 
--- `writer::write_command(c, out)`: any command that the machine holds, which its line then reads back as
+-- `command_lines::writer::write_command(c, out)`: any command that the machine holds, which its line then reads back as
 pub write-is-proved : {M : Type 1} → write-statement.statement M
 write-is-proved = write-met.met
 
@@ -223,11 +223,11 @@ pub write-asks : (κs : _) (a : _) → write.Pre κs a ≡ Unit {0}
 write-asks κs a = refl
 
 pub write-says : (κs : _) (a : _) (r : Written) (s : _) → write.Post κs a r s
-    ≡ ((r ≡ answerOf (a .0) (length (now (a .1 .0))))
+    ≡ ((r ≡ writtenFor (a .0) (length (now (a .1 .0))))
     × ((now (s .1 .0) ≡ bufferOf (a .0) (now (a .1 .0))) × (commandIn (lineOf (a .0)) ≡ reading.Is (a .0))))
 write-says κs a r s = refl
 
--- `event_reader::read_event(s)`: any bytes (02, W1)
+-- `event_lines::reader::read_event(s)`: any bytes (02, W1)
 pub read-event-is-proved : {M : Type 1} → read-event-statement.statement M
 read-event-is-proved = read-event-met.met
 
@@ -240,7 +240,7 @@ read-event-says κs a r s = refl
 
 -- ── A day, piece by piece ──
 
--- `replay::begin()`: the header of a fresh book
+-- `day::replay::begin()`: the header of a fresh book
 pub begin-is-proved : {M : Type 1} → begin-statement.statement M
 begin-is-proved = begin-met.met
 
@@ -251,7 +251,7 @@ pub begin-says : (κs : _) (a : _) (r : Head) (s : _) → begin.Post κs a r s
     ≡ (r ≡ headOf book.fresh)
 begin-says κs a r s = refl
 
--- `replay::feed(h, input, x, buys, y, sells, took, out)`: on a sound book in its header and two sides that are lent
+-- `day::replay::feed(h, input, x, buys, y, sells, took, out)`: on a sound book in its header and two sides that are lent
 pub feed-is-proved : {M : Type 1} → feed-statement.statement M
 feed-is-proved = feed-met.met
 
@@ -263,7 +263,7 @@ pub feed-says : (κs : _) (a : _) (r : Fed) (s : _) → feed.Post κs a r s
     (now (s .1 .1 .0)) (now (s .1 .1 .1 .0)) (now (s .1 .1 .1 .1 .0)) (now (s .1 .1 .1 .1 .1 .0)) (now (s .1 .1 .1 .1 .1 .1 .1 .0))
 feed-says κs a r s = refl
 
--- `night::take_turn(h, input, have, x, buys, y, sells, took, out)`: all that the program does between a read and a write
+-- `day::night::take_turn(h, input, have, x, buys, y, sells, took, out)`: all that the program does between a read and a write
 pub turn-is-proved : {M : Type 1} → turn-statement.statement M
 turn-is-proved = turn-met.met
 
@@ -276,7 +276,7 @@ pub turn-says : (κs : _) (a : _) (r : Turn) (s : _) → turn.Post κs a r s
     (now (s .1 .0)) (now (s .1 .1 .1 .0)) (now (s .1 .1 .1 .1 .0)) (now (s .1 .1 .1 .1 .1 .0)) (now (s .1 .1 .1 .1 .1 .1 .0)) (now (s .1 .1 .1 .1 .1 .1 .1 .1 .0))
 turn-says κs a r s = refl
 
--- `lines::after_read(got, have, room)`: what a read gave
+-- `command_lines::lines::after_read(got, have, room)`: what a read gave
 pub after-read-is-proved : {M : Type 1} → after-read-statement.statement M
 after-read-is-proved = after-read-met.met
 
@@ -287,7 +287,7 @@ pub after-read-says : (κs : _) (a : _) (r : Read) (s : _) → after-read.Post �
     ≡ (r ≡ readBehind (a .0) (a .1 .0) (a .1 .1 .0))
 after-read-says κs a r s = refl
 
--- `night::finish(part, out)`: what it does when the input has ended
+-- `day::night::finish(part, out)`: what it does when the input has ended
 pub finish-is-proved : {M : Type 1} → finish-statement.statement M
 finish-is-proved = finish-met.met
 
@@ -305,6 +305,6 @@ tally-is-proved = tally-met.met
 pub tally-asks : (κs : _) (a : _) → tally.Pre κs a ≡ Unit {0}
 tally-asks κs a = refl
 
-pub tally-says : (κs : _) (a : _) (r : tallied.Fed) (s : _) → tally.Post κs a r s
+pub tally-says : (κs : _) (a : _) (r : tallied.TalliedPiece) (s : _) → tally.Post κs a r s
     ≡ (r ≡ fedOn (a .1 .0) (a .0) (now (a .1 .1 .0)))
 tally-says κs a r s = refl

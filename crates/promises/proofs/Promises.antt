@@ -1,6 +1,6 @@
 -- The front door: what the customer asked for (00-demands), sentence by sentence, each a statement and a citation of its proof. To
 -- believe these a reader needs the definitions that they name: 01 itself in `rules/specs`, the customer's words in `demands/specs`; for the
--- tally `tally/specs/Tally`, for the program `night/specs/Turns` with `replay/specs` and `lines/specs/Pieces`. What else holds of a day, and
+-- tally `tally/specs/Tally`, for the program `day/specs/Turns` with `Feed` and `Pieces` beside it and `command_lines/specs/Pieces`. What else holds of a day, and
 -- of the lent table, stands in `Beyond` beside this file, and what the code itself is proved to do in `Entries`. Assumes nothing.
 use Prim.Native.Nat.{ℕ, _+_, _≤_}
 use mathlib.Core.Bool.{true, false}
@@ -52,11 +52,11 @@ use Rattle.demands.proofs.LawsOnce as once
 use Rattle.demands.proofs.LawsQuoted as quoted
 use Rattle.demands.proofs.LawsRun as run
 use Rattle.demands.proofs.LawsWritten as written
-use Rattle.lines.specs.Pieces.{allOf}
-use Rattle.night.specs.Turns.{Runs, Ran, Stops, Begins}
-use Rattle.night.proofs.LawsTurns as turns
-use Rattle.rows.specs.Table.{Shows}
-use Rattle.tables.specs.Tables.{bookOn, headOf}
+use Rattle.command_lines.specs.Pieces.{allOf}
+use Rattle.day.specs.Turns.{Runs, Ran, Stops, Begins}
+use Rattle.day.proofs.night.LawsTurns as turns
+use Rattle.side.specs.Table.{Shows}
+use Rattle.side.specs.Tables.{bookOn, headOf}
 use Rattle.tally.specs.declared.Stop.the-variants.{Going}
 use Rattle.tally.specs.Tally.{tallyOf, tallyOfPieces}
 use Rattle.tally.proofs.LawsAgree.{tally-agrees}
@@ -151,7 +151,7 @@ numbers-follow = beyond.numbers-follow-by-call
 
 -- ── Demand 2 ──
 
--- "Every accepted command does what the EDGA rules, as condensed in document 01, say": `does` of `rules/specs/Working`
+-- "Every accepted command does what the EDGA rules, as condensed in document 01, say": `does` of `rules/specs/Commands`
 pub does-what-01-says : (b : Book) (line : List ℕ) (c : Command) → commandIn line ≡ reading.Is c → acts b line ≡ true
     → (answerTo b line .book ≡ does (c .number) (c .time) (c .body) b .book)
     × (answerTo b line .events ≡ does (c .number) (c .time) (c .body) b .events)
@@ -359,7 +359,7 @@ no-hidden-order-crosses = quoted.no-hidden-order-crosses
 -- ── The program ──
 
 -- Turns are taken as in `Runs`, which is how `program/src/main.rt` calls them (that is read there, and not proved): each is
--- `night::take_turn` (`turn-says`), the end is `night::finish` (`finish-says`), and what a read gave is `lines::after_read` (`after-read-says`).
+-- `day::night::take_turn` (`turn-says`), the end is `day::night::finish` (`finish-says`), and what a read gave is `command_lines::lines::after_read` (`after-read-says`).
 
 -- whatever the reads give, piece by piece, all that such turns have handed to `write` when the input ends is what 01 says of the whole
 -- input ..

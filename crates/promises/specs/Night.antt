@@ -79,7 +79,8 @@ closes = lineOf (command 9 90 body.Close)
 
 abbrev pub night : List (List ℕ)
 night =
-    sells100 ∷ sells200 ∷ sentAgain ∷ asksTooMuch ∷ quotes ∷ lineOf theKilled ∷ lineOf theGreedy ∷ unquotes ∷ lineOf theResting ∷ noise ∷ ahead ∷ closes ∷ []
+    sells100 ∷ sells200 ∷ sentAgain ∷ asksTooMuch ∷ quotes ∷ lineOf theKilled ∷ lineOf theGreedy ∷ unquotes ∷ lineOf theResting ∷
+    noise ∷ ahead ∷ closes ∷ []
 
 -- the same without the three that are refused
 abbrev pub nightStruckOut : List (List ℕ)

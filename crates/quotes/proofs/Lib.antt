@@ -1,2 +1,2 @@
-pub mod LawsQuoted
+pub mod LawsQuoteLeaves
 pub mod Determined

@@ -1,18 +1,21 @@
-// A quote on a sound book that stands in a header and two sides that are lent: the away prices are kept, and the orders that would now cross
-// them are moved or cancelled (02, W2), buys first.
+// A quote on a sound book that stands in a header and two sides that are lent: the away prices are kept, and the orders that
+// would now cross them are moved or cancelled (02, W2), buys first.
+mod moves;
+
 use kinds::Number;
-use rows::Index;
-use rows::Rows;
 use rules::Away;
 use rules::Held;
-use tables::Head;
-use tables::Step;
+use side::rows::Index;
+use side::rows::Rows;
+use side::tables;
+use side::tables::Head;
+use side::tables::Step;
 ghost use Prim.Native.Nat.{_≤_, _<_};
 ghost use lib.ListN.{length};
 ghost use Rattle.rules.specs.Refusals.{leastRoom};
 ghost use Rattle.rules.specs.declared.Body.the-variants as body;
-ghost use Rattle.tables.specs.Answers.{bodyAnswer, Left, Stands};
-ghost use Rattle.tables.specs.Tables.{bookOn};
+ghost use Rattle.side.specs.Answers.{bodyAnswer, Left, Stands};
+ghost use Rattle.side.specs.Tables.{bookOn};
 
 // The place of the first move among a command's moves; 0 is that of an order that comes to rest.
 const FIRST_MOVE: u32 = 1;

@@ -13,10 +13,10 @@ use Rattle.basics.specs.Lists.{firstWhere, All, none, also}
 use Rattle.basics.proofs.LawsChoice.{holds-or-not, lt-or-le}
 use Rattle.rules.specs.declared.Resting.{Resting}
 use Rattle.rules.specs.Book.{unused, ranksBefore, inRankOrder}
-use Rattle.soundness.proofs.LawsRank.{ranks-transitive, ranked-first, ranked-rest}
-use Rattle.rows.specs.Table.{flagOf, levelOf, levelIn, ranked as ranks, side, Holds}
-use Rattle.rows.proofs.LawsIndex.{ranked-at}
-use Rattle.rows.proofs.LawsSides.{length-side, level-at}
+use Rattle.rules.proofs.LawsRank.{ranks-transitive, ranked-first, ranked-rest}
+use Rattle.side.specs.Table.{flagOf, levelOf, levelIn, ranked as ranks, side, Holds}
+use Rattle.side.proofs.rows.LawsIndex.{ranked-at}
+use Rattle.side.proofs.rows.LawsShown.{length-side, level-at}
 use Rattle.side.specs.Looking.{Newest}
 use Rattle.side.proofs.LawsPlaces.{first-within, first-before}
 use Rattle.side.proofs.LawsLevels.{placeByLevel, rank-by-level, place-by-level}

@@ -14,9 +14,9 @@ use Rattle.kinds.specs.declared.Number.{Number}
 use Rattle.rules.specs.declared.Resting.{Resting}
 use Rattle.rules.specs.Book.{unused, numbers}
 use Rattle.rules.specs.Commands.{isNumber}
-use Rattle.rows.specs.Table.{orderOf, ranked, side, Holds}
-use Rattle.rows.proofs.LawsIndex.{ranked-at}
-use Rattle.rows.proofs.LawsSides.{length-side, order-at}
+use Rattle.side.specs.Table.{orderOf, ranked, side, Holds}
+use Rattle.side.proofs.rows.LawsIndex.{ranked-at}
+use Rattle.side.proofs.rows.LawsShown.{length-side, order-at}
 
 -- a number that is not among some stands on none of their orders
 not-among : (n : ℕ) (s : List Resting) → any (eqb n) (numbers s) ≡ false → (k : ℕ) → k < length s → eqb n (getD s k unused .number .0) ≡ false

@@ -15,8 +15,8 @@ use Rattle.basics.proofs.LawsChoice.{holds-or-not, lt-or-le}
 use Rattle.rules.specs.declared.Resting.{Resting}
 use Rattle.rules.specs.declared.Stamp.{Stamp}
 use Rattle.rules.specs.Book.{unused, earlier, ranksBefore}
-use Rattle.rows.specs.Table.{flagOf, levelOf}
-use Rattle.rows.proofs.LawsTable.{flag-small}
+use Rattle.side.specs.Table.{flagOf, levelOf}
+use Rattle.side.proofs.rows.LawsTable.{flag-small}
 use Rattle.side.specs.Looking.{priceBound, Older, Newest}
 
 -- the later of two stamps is not the earlier one

@@ -1,4 +1,3 @@
-pub mod LawsOlder
 pub mod LawsPlaces
 pub mod LawsHalves
 pub mod LawsLevels

@@ -1,8 +1,14 @@
-// What is looked for on one side of the book: the order of a number, and the place of a new order.
+// One side of the book in place. Here what is looked for on it: the order of a number, and the place of a new order by its rank
+// (01, The book).
+pub mod places;
+pub mod rows;
+pub mod shifts;
+pub mod tables;
+
+use crate::rows::Index;
+use crate::rows::PLACES;
+use crate::rows::Rows;
 use kinds::Number;
-use rows::Index;
-use rows::PLACES;
-use rows::Rows;
 use rules::Resting;
 use rules::Stamp;
 ghost use mathlib.Core.Bool.{true};
@@ -13,7 +19,7 @@ ghost use lib.Dec.{eqb, ltb};
 ghost use lib.ListN.{getD};
 ghost use Rattle.basics.specs.Choice.{if_then_else_};
 ghost use Rattle.basics.specs.Lists.{firstWhere, distinct};
-ghost use Rattle.rows.specs.Table.{levelIn, side, Names, Holds};
+ghost use Rattle.side.specs.Table.{levelIn, side, Names, Holds};
 ghost use Rattle.rules.specs.Book.{placesASide, unused, numbers, earlier as earlierStamp, ranksBefore, inRankOrder};
 ghost use Rattle.rules.specs.Commands.{isNumber};
 ghost use Rattle.side.specs.Looking.{Newest, Hinted};
@@ -116,8 +122,8 @@ pub fn ranks_before(buying: bool, x: Resting, y: Resting) -> bool
 
 // ── A new order's place ──
 
-// 1 where the new order, whose level is `mine`, ranks before the one in the row that place `i` of the index names, else 0. A number and not a
-// choice: the sum of three of them is no branch.
+// 1 where the new order, whose level is `mine`, ranks before the one in the row that place `i` of the index names, else 0. A
+// number and not a choice: the sum of three of them is no branch.
 fn is_passed(x: &Index, t: &Rows, i: usize, buying: bool, mine: u32) -> usize
     requires { ⌜ Names (now x) × (i < placesASide) ⌝ }
     ensures { λ r. ⌜ r ≡ (if ltb mine (levelIn buying (getD (now (t .entry)) (getD (now (x .entry)) i 0) [])) then 1 else 0) ⌝ }
@@ -130,7 +136,7 @@ fn is_passed(x: &Index, t: &Rows, i: usize, buying: bool, mine: u32) -> usize
 // The place that a new order takes: before the first that it ranks before. The side is in rank order, so each turn halves the range in
 // which that place lies twice, by three orders that it looks at together; how many turns there are depends on `n` alone. Of the newest
 // order price and display decide the rank.
-pub fn place(x: &Index, t: &Rows, n: usize, buying: bool, o: Resting) -> usize
+pub(crate) fn place(x: &Index, t: &Rows, n: usize, buying: bool, o: Resting) -> usize
     requires { ⌜ Holds n (now x) (now t) × (inRankOrder buying (side n (now x) (now t)) ≡ true) × Newest o (side n (now x) (now t)) ⌝ }
     ensures { λ r. ⌜ r ≡ firstWhere (ranksBefore buying o) (side n (now (x .entry)) (now (t .entry))) ⌝ }
 {

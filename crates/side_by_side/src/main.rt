@@ -4,12 +4,14 @@
 use book::Book;
 use book::Reply;
 use book::Side;
+use command_lines::lines;
+use event_lines::writer;
 use libc::STDIN_FILENO;
 use libc::STDOUT_FILENO;
-use rows::PLACES;
 use rules::Held;
 use rules::Resting;
 use rules::Stamp;
+use side::rows::PLACES;
 ghost use mathlib.Core.Path.{_≡_};
 ghost use Prim.Native.Nat.{_≤_, _<_};
 ghost use lib.ListN.{length};
@@ -99,7 +101,7 @@ fn agree(a: Reply, b: Reply, out: &[u8], other: &[u8]) -> bool {
 fn print(reply: Reply, out: &[u8]) -> bool {
     if reply.refusal != 0 {
         let mut line = [0u8; 5];
-        events::write_refusal(&mut line, reply.refusal);
+        writer::write_refusal(&mut line, reply.refusal);
         return io::write_all(STDOUT_FILENO, &line);
     }
     let length = reply.length;
@@ -110,19 +112,19 @@ fn print(reply: Reply, out: &[u8]) -> bool {
 }
 
 // What a line leaves: the book, and whether the day goes on.
-struct Turn {
+struct AfterLine {
     book: Book,
     goes_on: bool,
 }
 
-fn stop(book: Book) -> Turn {
-    Turn {
+fn stop(book: Book) -> AfterLine {
+    AfterLine {
         book: book,
         goes_on: false,
     }
 }
 
-fn run_line(book: Book, buys: bool, line: &[u8], out: &mut [u8], other: &mut [u8]) -> Turn {
+fn run_line(book: Book, buys: bool, line: &[u8], out: &mut [u8], other: &mut [u8]) -> AfterLine {
     let reply = book.answer(line, out);
     let lent = lent::answer_lending(book, buys, line, other);
     if !agree(reply, lent, out, other) {
@@ -134,7 +136,7 @@ fn run_line(book: Book, buys: bool, line: &[u8], out: &mut [u8], other: &mut [u8
         return stop(book);
     }
     let next = reply.book;
-    Turn {
+    AfterLine {
         book: next,
         goes_on: true,
     }

@@ -13,7 +13,7 @@ use Rattle.rules.specs.declared.Resting.{Resting}
 use Rattle.rules.specs.Book.{inRankOrder, apart}
 use Rattle.rules.specs.Working.{beyond}
 use Rattle.rules.proofs.LawsCommands.{not-beyond-itself}
-use Rattle.soundness.proofs.LawsRank.{ranked-first, rank-price}
+use Rattle.rules.proofs.LawsRank.{ranked-first, rank-price}
 use Rattle.soundness.proofs.LawsThinned.{Thinned, thinned-all}
 
 -- every order of the opposite side is beyond the price of every order of the own side

@@ -14,7 +14,7 @@ use Rattle.rules.specs.declared.Resting.{Resting}
 use Rattle.rules.specs.Book.{numbers, earlier, ranksBefore, inRankOrder}
 use Rattle.rules.specs.Settling.{insert}
 use Rattle.soundness.proofs.LawsNumbers.{oneIf, timesIn, not-among-times, times-at-most, at-most-times}
-use Rattle.soundness.proofs.LawsRank.{ranks-total, ranked-first, ranked-rest, ranked-more}
+use Rattle.rules.proofs.LawsRank.{ranks-total, ranked-first, ranked-rest, ranked-more}
 
 -- one order more, somewhere among the others
 pub data Added (x : Resting) : List Resting → List Resting → Type 0 where

@@ -36,7 +36,7 @@ use Rattle.rules.proofs.LawsCommands.{fateBy, if-set, set-same, crosses-present
 use Rattle.rules.proofs.LawsRefusals.{fit-facts}
 use Rattle.soundness.proofs.LawsAccepted.{accepted, AcceptedOrder, accepted-order, accepted-quote}
 use Rattle.soundness.proofs.LawsOrder.{accept-sides}
-use Rattle.soundness.proofs.LawsRank.{better-transitive}
+use Rattle.rules.proofs.LawsRank.{better-transitive}
 use Rattle.soundness.proofs.LawsSettled.{SoundPrice, SoundPrices, sides-settled}
 use Rattle.soundness.proofs.LawsSides.{Sides, sides-flip, sides-of, buys-sound, sides-sound, later-stamp, sides-thinned, sides-later}
 use Rattle.soundness.proofs.LawsSound.{Sound, sound-is, is-sound}

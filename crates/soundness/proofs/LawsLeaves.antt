@@ -13,7 +13,7 @@ use Rattle.basics.proofs.LawsChoice.{holds-or-not}
 use Rattle.rules.specs.declared.Resting.{Resting}
 use Rattle.rules.specs.Book.{inRankOrder}
 use Rattle.rules.specs.Working.{nothing, walk, smaller, after}
-use Rattle.soundness.proofs.LawsRank.{ranked-rest}
+use Rattle.rules.proofs.LawsRank.{ranked-rest}
 
 -- who gives nothing stays as he is
 pub after-nothing : {s : List Resting} → All (λ (h : Resting). 1 ≤ h .shares .0) s → after s (nothing s) ≡ s

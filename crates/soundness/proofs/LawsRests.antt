@@ -19,10 +19,10 @@ use Rattle.rules.specs.declared.Resting.{Resting}
 use Rattle.rules.specs.Book.{better, inRankOrder}
 use Rattle.rules.specs.Instructions.{ioc, fok, postOnly, market, has}
 use Rattle.rules.specs.Refusals.{isRest}
-use Rattle.rules.specs.Working.{buying, beyond, mayTouch, nothing, walk, smaller, walked, takings, remainder, after, seeks, equalsOrPasses, unlessPostOnlyMeets, endingWith, ending}
+use Rattle.rules.specs.Working.{buying, beyond, reaches, mayTouch, nothing, walk, smaller, walked, takings, remainder, after, seeks, equalsOrPasses, unlessPostOnlyMeets, endingWith, ending}
 use Rattle.soundness.proofs.LawsApart.{Beyond}
 use Rattle.soundness.proofs.LawsLeaves.{after-nothing, walk-leaves}
-use Rattle.soundness.proofs.LawsRank.{ranked-first, rank-price}
+use Rattle.rules.proofs.LawsRank.{ranked-first, rank-price, reaches-is}
 use Rattle.soundness.proofs.LawsSeeks.{rests-at, seeks-beyond}
 
 -- what meets no order is apart from all
@@ -30,8 +30,8 @@ pub none-met : (buy : Bool) (price : Cents) (s : List Resting) → equalsOrPasse
 unfolding any
 none-met buy price [] e = none
 none-met buy price (h ∷ s) e =
-    let both = or-neither (not (beyond buy price (h .price))) (equalsOrPasses buy price s) e in
-    also (not-false (beyond buy price (h .price)) (both .0)) (none-met buy price s (both .1))
+    let both = or-neither (reaches buy price (h .price)) (equalsOrPasses buy price s) e in
+    also (not-false (beyond buy price (h .price)) (sym (reaches-is buy price (h .price)) ∙ both .0)) (none-met buy price s (both .1))
 
 -- whoever ranks behind an order beyond a price is beyond it too
 pub beyond-behind : (buy : Bool) (price q r : Cents) → beyond buy price q ≡ true → better (not buy) r q ≡ false → beyond buy price r ≡ true

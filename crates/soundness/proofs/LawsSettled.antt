@@ -22,7 +22,7 @@ use Rattle.rules.proofs.LawsCommands.{IfSet, SameOrder}
 use Rattle.soundness.proofs.LawsApart.{Beyond}
 use Rattle.soundness.proofs.LawsInsert.{added-insert, added-sum, added-all, added-new, added-old, ranked-insert}
 use Rattle.soundness.proofs.LawsNumbers.{oneIf, fewer-distinct}
-use Rattle.soundness.proofs.LawsRank.{earlier-place, earlier-transitive, ranked-first, ranked-rest, ranked-more}
+use Rattle.rules.proofs.LawsRank.{earlier-place, earlier-transitive, ranked-first, ranked-rest, ranked-more}
 use Rattle.soundness.proofs.LawsSides.{InRange, bothSides, Sides, sides-sum}
 
 -- ── What is counted ──

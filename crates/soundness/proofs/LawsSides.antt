@@ -23,7 +23,7 @@ use Rattle.rules.specs.Settling.{ownSide, oppositeSide, insert}
 use Rattle.rules.specs.Working.{withShares}
 use Rattle.soundness.proofs.LawsApart.{Beyond, Apart, apart-all, apart-best, apart-flip, apart-thinned}
 use Rattle.soundness.proofs.LawsInsert.{Added, added-insert, added-before, added-behind, added-length, added-all, added-distinct, ranked-insert}
-use Rattle.soundness.proofs.LawsRank.{earlier-command}
+use Rattle.rules.proofs.LawsRank.{earlier-command}
 use Rattle.soundness.proofs.LawsSound.{Sound}
 use Rattle.soundness.proofs.LawsThinned.{Thinned, thinned-both, thinned-length, thinned-all, thinned-ranked, thinned-distinct}
 

@@ -17,7 +17,7 @@ use Rattle.rules.specs.declared.Resting.{Resting}
 use Rattle.rules.specs.Book.{numbers, ranksBefore, inRankOrder}
 use Rattle.rules.specs.Working.{withShares, after}
 use Rattle.soundness.proofs.LawsNumbers.{timesIn, fewer-distinct}
-use Rattle.soundness.proofs.LawsRank.{ranked-first, ranked-rest, ranked-more}
+use Rattle.rules.proofs.LawsRank.{ranked-first, ranked-rest, ranked-more}
 
 -- orders of which some are taken away and others keep some of their shares
 pub data Thinned : List Resting → List Resting → Type 0 where

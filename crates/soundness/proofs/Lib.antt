@@ -1,4 +1,3 @@
-pub mod LawsRank
 pub mod LawsNumbers
 pub mod LawsThinned
 pub mod LawsApart

@@ -1,1 +1,1 @@
-// Soundness of a book (01, The book).
+// Soundness of a book (01, The book): laws only.

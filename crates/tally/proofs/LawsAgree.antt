@@ -12,7 +12,7 @@ use Rattle.basics.proofs.LawsChoice.{holds-or-not}
 use Rattle.basics.proofs.LawsLists.{sumOf-append}
 use Rattle.kinds.specs.declared.Number.{Number}
 use Rattle.kinds.specs.Kinds.{shares, largest}
-use Rattle.lines.specs.Pieces.{afterLines}
+use Rattle.command_lines.specs.Pieces.{afterLines}
 use Rattle.rules.specs.declared.Body.{Body}
 use Rattle.rules.specs.declared.Body.the-variants as body
 use Rattle.rules.specs.declared.Command.{Command}
@@ -36,7 +36,7 @@ use Rattle.demands.proofs.LawsSums.{conserved}
 use Rattle.demands.proofs.LawsTold.{acting-fits}
 use Rattle.tally.specs.declared.Stop.the-variants as stop
 use Rattle.tally.specs.declared.Tally.{Tally}
-use Rattle.tally.specs.Tally.{begun, executedShares, passedOver, added, goingOn, turn, tallyOf}
+use Rattle.tally.specs.Tally.{noneCounted, executedShares, passedOver, added, goingOn, turn, tallyOf}
 use Rattle.tally.proofs.LawsParties.{same-sums, line-two}
 
 -- a tally that is going on, with these sums
@@ -186,6 +186,6 @@ tally-agrees lines stood l c o r =
     let es = eventsOf fresh lines in
     let sum = conserved lines stood l c o r in
     let small = order-small r in
-    let begins : Has begun 0 0 = record { executed-are = refl; cancelled-are = refl; going = refl } in
-    let has = run-has n fresh lines fresh-sound begun 0 0 begins (omega (arith, sum, small)) (omega (arith, sum, small)) in
+    let begins : Has noneCounted 0 0 = record { executed-are = refl; cancelled-are = refl; going = refl } in
+    let has = run-has n fresh lines fresh-sound noneCounted 0 0 begins (omega (arith, sum, small)) (omega (arith, sum, small)) in
     rw (run-read lines) (has-same n (executedIn n es) (cancelledIn n es) (omega arith) (omega arith) has)

@@ -8,14 +8,14 @@ use lib.Seq.{take-all, drop-drop}
 use native.Mathlib.Omega.{arith}
 use Rattle.basics.specs.Lists.{firstWhere}
 use Rattle.kinds.specs.declared.Number.{Number}
-use Rattle.lines.specs.Lines.{isLineFeed}
-use Rattle.lines.specs.Pieces.{Cut, cut, afterLines}
-use Rattle.lines.proofs.LawsCut.{afterFirst, cut-line, cut-none}
-use Rattle.tally.specs.declared.Fed.{Fed}
+use Rattle.command_lines.specs.Lines.{isLineFeed}
+use Rattle.command_lines.specs.Pieces.{Cut, cut, afterLines}
+use Rattle.command_lines.proofs.lines.LawsCut.{afterFirst, cut-line, cut-none}
+use Rattle.tally.specs.declared.TalliedPiece.{TalliedPiece}
 use Rattle.tally.specs.declared.Tally.{Tally}
 use Rattle.tally.specs.Tally.{turn, fedOn}
 
-abbrev fed : Tally → ℕ → Fed
+abbrev fed : Tally → ℕ → TalliedPiece
 fed t at = record { tally = t; at = at }
 
 module _ (n : Number) (t₀ : Tally) (input : List ℕ) where

@@ -13,8 +13,8 @@ use Rattle.digits.specs.declared.Value.{Value}
 use Rattle.digits.specs.declared.Value.the-variants as value
 use Rattle.digits.specs.Digits.{numberIn, numberAt}
 use Rattle.kinds.specs.declared.Number.{Number}
-use Rattle.lines.specs.Pieces.{partKept, allOf}
-use Rattle.lines.proofs.LawsPieces.{cut-alike}
+use Rattle.command_lines.specs.Pieces.{partKept, allOf}
+use Rattle.command_lines.proofs.lines.LawsPieces.{cut-alike}
 use Rattle.rules.specs.declared.Event.{Event}
 use Rattle.rules.specs.declared.EventReading.{EventReading}
 use Rattle.rules.specs.declared.EventReading.the-variants.{UnknownKind, TrailingBytes}
@@ -22,7 +22,7 @@ use Rattle.rules.specs.CommandLines.{digitsIn}
 use Rattle.rules.specs.EventLines.{executedKind, restedKind, cancelledKind, movedKind, executedFields, restedFields, cancelledFields, movedFields, withKind}
 use Rattle.rules.specs.EventReading.{executedOf, restedOf, cancelledOf, movedOf, ofFields, ofKind, eventIn}
 use Rattle.tally.specs.declared.Tally.{Tally}
-use Rattle.tally.specs.Tally.{begun, goingOn, turn, tallyOf, tallyOfPieces}
+use Rattle.tally.specs.Tally.{noneCounted, goingOn, turn, tallyOf, tallyOfPieces}
 
 -- what a line is read as that is longer than every event line
 readLong : Value → EventReading
@@ -68,4 +68,4 @@ long-alike kept least n t p q l m e =
 -- so the tally of an output is the same wherever it is cut
 pub tally-cut : (n : Number) (pieces : List (List ℕ)) → tallyOfPieces n pieces ≡ tallyOf n (allOf pieces)
 unfolding tallyOfPieces tallyOf
-tally-cut n pieces = cut-alike (turn n) partKept (omega arith) (long-alike partKept (omega arith) n) begun pieces
+tally-cut n pieces = cut-alike (turn n) partKept (omega arith) (long-alike partKept (omega arith) n) noneCounted pieces

@@ -17,15 +17,15 @@ use Rattle.rules.specs.Day.{linesIn}
 use Rattle.rules.specs.EventLines.{refusalKind}
 use Rattle.rules.specs.EventReading.{eventIn, isKind}
 use Rattle.demands.specs.Told.{cancelledBy}
-use Rattle.lines.specs.Pieces.{cut, partKept, afterLines, afterPieces}
-use Rattle.tally.specs.declared.Fed.{Fed}
+use Rattle.command_lines.specs.Pieces.{cut, partKept, afterLines, afterPieces}
+use Rattle.tally.specs.declared.TalliedPiece.{TalliedPiece}
 use Rattle.tally.specs.declared.Stop.{Stop}
 use Rattle.tally.specs.declared.Stop.the-variants as stop
 use Rattle.tally.specs.declared.Tally.{Tally}
 
 -- nothing was counted yet
-abbrev pub begun : Tally
-begun = record { lines = 0; executed = shares 0; cancelled = shares 0; stop = stop.Going }
+abbrev pub noneCounted : Tally
+noneCounted = record { lines = 0; executed = shares 0; cancelled = shares 0; stop = stop.Going }
 
 -- ── One event ──
 
@@ -90,12 +90,12 @@ turn n t line = if isGoing (t .stop) then goingOn n t line else t
 
 -- the tally of an output, line by line
 unfoldable pub tallyOf : Number → List ℕ → Tally
-tallyOf n output = afterLines (turn n) begun (linesIn output)
+tallyOf n output = afterLines (turn n) noneCounted (linesIn output)
 
 -- what the whole lines of a piece lead a tally on to, and how many bytes they are
-unfoldable pub fedOn : Number → Tally → List ℕ → Fed
+unfoldable pub fedOn : Number → Tally → List ℕ → TalliedPiece
 fedOn n t input = record { tally = afterLines (turn n) t (cut input .whole); at = length input - length (cut input .part) }
 
 -- the tally of an output in pieces
 unfoldable pub tallyOfPieces : Number → List (List ℕ) → Tally
-tallyOfPieces n pieces = afterPieces (turn n) partKept begun [] pieces
+tallyOfPieces n pieces = afterPieces (turn n) partKept noneCounted [] pieces

@@ -1,5 +1,7 @@
 // The tally of one order over a day's event lines (02, W1): the shares executed and cancelled of it, line by line, on pieces of bounded
 // size.
+use command_lines::lines;
+use event_lines::reader;
 use kinds::Number;
 use kinds::Shares;
 use rules::Event;
@@ -9,7 +11,7 @@ ghost use Rattle.demands.specs.Told.{cancelledBy};
 ghost use Rattle.digits.specs.Digits.{numberAt};
 ghost use Rattle.rules.specs.EventLines.{refusalKind};
 ghost use Rattle.rules.specs.EventReading.{isKind};
-ghost use Rattle.tally.specs.Tally.{begun, executedShares, oneMore, stoppedBy, passedOver, added, counted, isGoing, turn, fedOn};
+ghost use Rattle.tally.specs.Tally.{noneCounted, executedShares, oneMore, stoppedBy, passedOver, added, counted, isGoing, turn, fedOn};
 
 // What stopped a tally: nothing yet, a line that is no event line, or a sum that four bytes would not hold.
 pub enum Stop {
@@ -31,14 +33,14 @@ pub struct Tally {
 }
 
 // What the whole lines of a piece leave: the tally, and how many bytes they are.
-pub struct Fed {
+pub struct TalliedPiece {
     pub tally: Tally,
     pub at: usize,
 }
 
 // Nothing was counted yet.
 pub fn begin() -> Tally
-    ensures { λ r. ⌜ r ≡ begun ⌝ }
+    ensures { λ r. ⌜ r ≡ noneCounted ⌝ }
 {
     Tally {
         lines: 0,
@@ -183,13 +185,13 @@ pub fn take_line(t: Tally, number: Number, line: &[u8]) -> Tally
     if tells_a_refusal(line) {
         return pass_over(t);
     }
-    count(t, number, event_reader::read_event(line))
+    count(t, number, reader::read_event(line))
 }
 
 // ── A piece ──
 
 // The whole lines of a piece, of any bytes, one after the other.
-pub fn feed(t: Tally, number: Number, input: &[u8]) -> Fed
+pub fn feed(t: Tally, number: Number, input: &[u8]) -> TalliedPiece
     ensures { λ r. ⌜ r ≡ fedOn number t (now (input .entry)) ⌝ }
 {
     let mut tally = t;
@@ -203,5 +205,5 @@ pub fn feed(t: Tally, number: Number, input: &[u8]) -> Fed
         tally = take_line(tally, number, &rest[0..end + 1]);
         at += end + 1;
     }
-    Fed { tally, at }
+    TalliedPiece { tally, at }
 }

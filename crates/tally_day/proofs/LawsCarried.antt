@@ -11,7 +11,7 @@ use lib.Seq.{take-at, drop-at}
 use native.Mathlib.Omega.{arith}
 use Rattle.basics.specs.Bytes.{onto}
 use Rattle.basics.proofs.LawsChoice.{holds-or-not}
-use Rattle.lines.specs.Pieces.{inFront, cut, allOf, carried, partKept}
+use Rattle.command_lines.specs.Pieces.{inFront, cut, allOf, carried, partKept}
 use Rattle.rules.specs.CommandLines.{lineFeed}
 
 -- ── The part of a line ──

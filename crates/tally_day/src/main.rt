@@ -1,17 +1,18 @@
 // Tallies one order over a day's event lines (02, W1), for a broker's clerk: the lines on standard input, the order's number as the
 // argument, one line out. What goes wrong is told on standard error alone.
+use command_lines::lines;
+use command_lines::lines::Read;
 use digits::Value;
 use kinds::Number;
 use libc::STDERR_FILENO;
 use libc::STDIN_FILENO;
 use libc::STDOUT_FILENO;
-use lines::Read;
 use tally::Stop;
 use tally::Tally;
 ghost use mathlib.Core.Path.{_≡_};
 ghost use Prim.Native.Nat.{_≤_, _<_};
 ghost use lib.ListN.{length, take};
-ghost use Rattle.lines.specs.Pieces.{cut, partKept, afterLines, afterPart};
+ghost use Rattle.command_lines.specs.Pieces.{cut, partKept, afterLines, afterPart};
 ghost use Rattle.tally.specs.Tally.{turn};
 ghost use Rattle.tally_day.specs.Decimal.{isDecimal, decimalIn};
 
@@ -48,13 +49,13 @@ fn decimal_in(s: &[u8]) -> Value
 // ── A piece ──
 
 // What a piece leaves: the tally, and the length of the part of a line that is carried.
-struct Carried {
+struct Kept {
     tally: Tally,
     have: usize,
 }
 
 // Tallies the whole lines of the bytes up to `end`, and moves the part of a line behind them to the front.
-fn take_piece(t: Tally, number: Number, input: &mut [u8], end: usize) -> Carried
+fn take_piece(t: Tally, number: Number, input: &mut [u8], end: usize) -> Kept
     requires { ⌜ end ≤ length (now input) ⌝ }
     ensures { λ r. ⌜ r .tally ≡ afterLines (turn number) t (cut (take end (now (input .entry))) .whole) ⌝ }
     ensures { λ r. ⌜ take (r .have) (now (input .exit)) ≡ take partKept (cut (take end (now (input .entry))) .part) ⌝ }
@@ -63,7 +64,7 @@ fn take_piece(t: Tally, number: Number, input: &mut [u8], end: usize) -> Carried
     let fed = tally::feed(t, number, &input[..end]);
     let have = lines::carry(input, fed.at, end, rules::LONGEST_LINE + 1);
     let tally = fed.tally;
-    Carried { tally, have }
+    Kept { tally, have }
 }
 
 // The end of the input: a part of a line that is left is a line with no line feed.

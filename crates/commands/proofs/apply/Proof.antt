@@ -5,8 +5,8 @@ use native.Mathlib.Omega.{arith}
 use borrow.Author.Needs.{needs}
 use denote.Ref.{now}
 use Rattle.rules.specs.Book.{Book}
-use Rattle.tables.specs.Tables.{bookOn}
-use Rattle.tables.proofs.LawsAnswers.{left-refused}
+use Rattle.side.specs.Tables.{bookOn}
+use Rattle.side.proofs.tables.LawsAnswers.{left-refused}
 use Rattle.commands.proofs.LawsCommand.{header-refused, left-passed, header-next}
 use Rattle.commands.proofs.apply.Statement.{statement}
 use Rattle.commands.proofs.apply.Tie as tie

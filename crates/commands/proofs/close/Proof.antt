@@ -6,20 +6,20 @@ use lib.ListN.{length, take, drop, length-append, length-take, length-drop, drop
 use native.Mathlib.Omega.{arith}
 use borrow.Author.Needs.{needs}
 use denote.Ref.{now}
-use Rattle.reports.specs.Reports.{cancelledFor}
-use Rattle.reports.proofs.LawsReports.{lines-length}
-use Rattle.rows.specs.Table.{side, Holds, Shows}
-use Rattle.rows.proofs.LawsSides.{length-side, side-dropped}
+use Rattle.orders.specs.Reports.{cancelledFor}
+use Rattle.orders.proofs.reports.LawsReports.{lines-length}
+use Rattle.side.specs.Table.{side, Holds, Shows}
+use Rattle.side.proofs.rows.LawsShown.{length-side, side-dropped}
 use Rattle.rules.specs.declared.Body.the-variants as body
 use Rattle.rules.specs.declared.Event.{Event}
 use Rattle.rules.specs.declared.Resting.{Resting}
 use Rattle.rules.specs.Commands.{withAccepted, shut}
 use Rattle.rules.specs.EventLines.{eventLines, atClose}
 use Rattle.rules.proofs.LawsEvents.{cancelled-length, eventLines-append, lines-behind}
-use Rattle.tables.specs.declared.Head.{Head}
-use Rattle.tables.specs.Answers.{bodyAnswer}
-use Rattle.tables.specs.Tables.{bookOn}
-use Rattle.tables.proofs.LawsAnswers.{left-done}
+use Rattle.side.specs.declared.tables.Head.{Head}
+use Rattle.side.specs.Answers.{bodyAnswer}
+use Rattle.side.specs.Tables.{bookOn}
+use Rattle.side.proofs.tables.LawsAnswers.{left-done}
 use Rattle.commands.proofs.LawsDone.{closedAll, closed-is}
 use Rattle.commands.proofs.close.Statement.{statement}
 use Rattle.commands.proofs.close.Tie as tie

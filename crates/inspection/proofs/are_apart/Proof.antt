@@ -7,7 +7,7 @@ use native.Mathlib.Omega.{arith}
 use borrow.Author.Needs.{needs}
 use denote.Ref.{now}
 use Rattle.rules.specs.Book.{placesASide}
-use Rattle.inspection.proofs.LawsTurns.{apart-none, apart-best}
+use Rattle.inspection.proofs.LawsInspected.{apart-none, apart-best}
 use Rattle.inspection.proofs.are_apart.Statement.{statement}
 use Rattle.inspection.proofs.are_apart.Tie as tie
 

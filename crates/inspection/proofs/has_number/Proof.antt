@@ -10,9 +10,9 @@ use borrow.Author.Tests.{eq-eqb, ne-eqb}
 use denote.Ref.{now}
 use Rattle.basics.specs.Lists.{any}
 use Rattle.rules.specs.Book.{numbers, placesASide}
-use Rattle.rows.specs.Table.{loaded}
-use Rattle.rows.proofs.LawsTable.{ahead, ahead-end, ahead-next}
-use Rattle.inspection.proofs.LawsTurns.{any-end, any-found, any-next, ahead-numbers}
+use Rattle.side.specs.Table.{loaded}
+use Rattle.side.proofs.rows.LawsTable.{ahead, ahead-end, ahead-next}
+use Rattle.inspection.proofs.LawsInspected.{any-end, any-found, any-next, ahead-numbers}
 use Rattle.inspection.proofs.has_number.Statement.{statement}
 use Rattle.inspection.proofs.has_number.Tie as tie
 

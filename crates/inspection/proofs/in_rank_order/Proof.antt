@@ -8,9 +8,9 @@ use borrow.Author.Needs.{needs}
 use borrow.Author.Tests.{not-true, not-false}
 use denote.Ref.{now}
 use Rattle.rules.specs.Book.{placesASide, ranksBefore, inRankOrder}
-use Rattle.rows.specs.Table.{loaded}
-use Rattle.rows.proofs.LawsTable.{ahead}
-use Rattle.inspection.proofs.LawsTurns.{rank-end, rank-turn}
+use Rattle.side.specs.Table.{loaded}
+use Rattle.side.proofs.rows.LawsTable.{ahead}
+use Rattle.inspection.proofs.LawsInspected.{rank-end, rank-turn}
 use Rattle.inspection.proofs.in_rank_order.Statement.{statement}
 use Rattle.inspection.proofs.in_rank_order.Tie as tie
 

@@ -9,9 +9,9 @@ use borrow.Author.Needs.{needs}
 use denote.Ref.{now}
 use Rattle.basics.specs.Lists.{every}
 use Rattle.rules.specs.Book.{numbers, placesASide}
-use Rattle.rows.specs.Table.{loaded}
-use Rattle.rows.proofs.LawsTable.{ahead, ahead-end, ahead-next}
-use Rattle.inspection.proofs.LawsTurns.{noneOf, none-fails, none-passes, every-end, every-fails, every-next}
+use Rattle.side.specs.Table.{loaded}
+use Rattle.side.proofs.rows.LawsTable.{ahead, ahead-end, ahead-next}
+use Rattle.inspection.proofs.LawsInspected.{noneOf, none-fails, none-passes, every-end, every-fails, every-next}
 use Rattle.inspection.proofs.none_on_both.Statement.{statement}
 use Rattle.inspection.proofs.none_on_both.Tie as tie
 

@@ -8,9 +8,9 @@ use borrow.Author.Needs.{needs}
 use denote.Ref.{now}
 use Rattle.basics.specs.Lists.{distinct}
 use Rattle.rules.specs.Book.{numbers, placesASide}
-use Rattle.rows.specs.Table.{loaded}
-use Rattle.rows.proofs.LawsTable.{ahead, ahead-end, ahead-next}
-use Rattle.inspection.proofs.LawsTurns.{distinct-end, distinct-fails, distinct-next, ahead-numbers}
+use Rattle.side.specs.Table.{loaded}
+use Rattle.side.proofs.rows.LawsTable.{ahead, ahead-end, ahead-next}
+use Rattle.inspection.proofs.LawsInspected.{distinct-end, distinct-fails, distinct-next, ahead-numbers}
 use Rattle.inspection.proofs.none_twice.Statement.{statement}
 use Rattle.inspection.proofs.none_twice.Tie as tie
 

@@ -62,10 +62,10 @@ use Rattle.book.proofs.Book as B
 use Rattle.book.proofs.Book.Laws as B′
 use Rattle.book.proofs.Reply as P
 use Rattle.book.proofs.Reply.Laws as P′
-use Rattle.lent.specs.declared.Worked.{Worked}
-use Rattle.lent.specs.Lent.{Lent, lentStep, replyOf, workedOf}
-use Rattle.lent.proofs.Worked as K
-use Rattle.lent.proofs.Worked.Laws as K′
+use Rattle.lent.specs.declared.GivenBack.{GivenBack}
+use Rattle.lent.specs.Lent.{Lent, lentStep, replyLent, workedOf}
+use Rattle.lent.proofs.GivenBack as K
+use Rattle.lent.proofs.GivenBack.Laws as K′
 use Rattle.lent.proofs.LawsLent.{Records, array-typed}
 use Rattle.lent.proofs.LawsLentStep.{refused, answered-short, answered}
 use Rattle.lent.proofs.refuse as refuse
@@ -205,7 +205,7 @@ module _ {M : Type 1} (𝓤 : URA M) (H : Heap 𝓤) (A : Atoms 𝓤) (W : Given
   abbrev lent : List Resting → Lent
   lent zs = lentStep buys (recordIn book) zs (now line) (now out)
 
-  exits : (r : Reply) (v : Val) (zs : List Resting) (ws : List ℕ) → length zs ≡ length ys → length ws ≡ length (now out) → (r ≡ replyOf (lent ys)) × (zs ≡ lent ys .table) × (ws ≡ lent ys .out)
+  exits : (r : Reply) (v : Val) (zs : List Resting) (ws : List ℕ) → length zs ≡ length ys → length ws ≡ length (now out) → (r ≡ replyLent (lent ys)) × (zs ≡ lent ys .table) × (ws ≡ lent ys .out)
       → ent 𝓤 (⋆ 𝓤 H A ((‵ (flft κ₀ q₀) ⊛ Tokens) ∷ ‵ (finally T.the-row γ zs) ∷ ‵ (finally u8 (out .name) ws) ∷ ‵ (P.the-row .own r (v ∷ [])) ∷ [])) (Post v)
   exits r v zs ws l m e =
       qed W ((‵ (flft κ₀ q₀) ⊛ Tokens) ∷ ‵ (finally T.the-row γ zs) ∷ ‵ (finally u8 (out .name) ws) ∷ ‵ (P.the-row .own r (v ∷ [])) ∷ []) ∵
@@ -258,13 +258,13 @@ module _ {M : Type 1} (𝓤 : URA M) (H : Heap 𝓤) (A : Atoms 𝓤) (W : Given
     asked-work = qed W (Tokens ∷ ‵ Given-work ∷ []) ∵ join ! $ frame ! $ done !
 
     -- what `work` says: its clause, and out's last list
-    abbrev Clause : Worked → List ℕ → Type 0
+    abbrev Clause : GivenBack → List ℕ → Type 0
     Clause w ws = (w ≡ workedOf (lent xs)) × (ws ≡ lent xs .out)
 
-    abbrev Said-work : Worked → Item 𝓤
+    abbrev Said-work : GivenBack → Item 𝓤
     Said-work w = some (λ (ws : List ℕ). given ((length ws ≡ length (now out)) × Clause w ws) (‵ (finally u8 (out .name) ws)))
 
-    said-work : (w : Worked) → ent 𝓤 (ensured 𝓤 H A work.ended (work.clauses 𝓤 H A mem run) (κ₁, (κ₂, tt)) (book, (buys, (xs, (line, (out, tt))))) tt w) (mean 𝓤 H A (Said-work w))
+    said-work : (w : GivenBack) → ent 𝓤 (ensured 𝓤 H A work.ended (work.clauses 𝓤 H A mem run) (κ₁, (κ₂, tt)) (book, (buys, (xs, (line, (out, tt))))) tt w) (mean 𝓤 H A (Said-work w))
     said-work w =
         qed W (some (λ (ws : Lasts work.ended (κ₁, (κ₂, tt)) (book, (buys, (xs, (line, (out, tt)))))). ‵ (lasts work.ended (κ₁, (κ₂, tt)) (book, (buys, (xs, (line, (out, tt))))) ws) ⊛ raw (fact 𝓤 (Clause w (ws .1 .1 .1 .1 .0)))) ∷ []) ∵
         pick ! (λ ws. split ! $ move ! (1 ∷ []) $ heard ! (Clause w (ws .1 .1 .1 .1 .0)) (λ e.
@@ -272,7 +272,7 @@ module _ {M : Type 1} (𝓤 : URA M) (H : Heap 𝓤) (A : Atoms 𝓤) (W : Given
         show ! (λ (zs : List ℕ). mean 𝓤 H A (given ((length zs ≡ length (now out)) × Clause w zs) (‵ (finally u8 (out .name) zs)))) (ws .1 .1 .1 .1 .0) $ check ! (l, e) $ keep ! (0 ∷ []) $ done !)))
 
   -- `places_of` and `reply_of`, of what `work` returned
-  module _ (w : Worked) (u : Val) where
+  module _ (w : GivenBack) (u : Val) where
     abbrev Owned : Fml
     Owned = K.the-row .own w (u ∷ [])
 
@@ -360,7 +360,7 @@ module _ {M : Type 1} (𝓤 : URA M) (H : Heap 𝓤) (A : Atoms 𝓤) (W : Given
         -- `work(…)`: book, the bool, the array, and line with out are put together
         move ! (0 ∷ 7 ∷ []) $ fjoin ! $ move ! (7 ∷ 0 ∷ []) $ fjoin ! $ move ! (7 ∷ 0 ∷ []) $ fjoin ! $ move ! (5 ∷ 0 ∷ []) $ use2 W (raw (Work 𝓤 H A mem run .pre (to-work xs v))) (asked-work xs v) $
         calls-at ! fm (Work 𝓤 H A mem run) (known .work-met) (to-work xs v) (and-then ! (load ! (from ! (stop !)) (look ! 40 refl)) (and-then ! (load ! (from ! (stop !)) (look ! 38 refl)) (and-then ! (load ! (from ! (stop !)) (look ! 30 refl)) (and-then ! (load ! (from ! (stop !)) (look ! 34 refl)) (and-then ! (load ! (from ! (stop !)) (look ! 14 refl)) (no-more !)))))) (λ u.
-        use1 W (later (some (λ (w : Worked). (Tokens ⊛ ‵ (K.the-row .own w (u ∷ []))) ⊛ raw (ensured 𝓤 H A work.ended (work.clauses 𝓤 H A mem run) (κ₁, (κ₂, tt)) (book, (buys, (xs, (line, (out, tt))))) tt w)))) (id⊢ 𝓤 _) $ await ! tt $ pick ! (λ w.
+        use1 W (later (some (λ (w : GivenBack). (Tokens ⊛ ‵ (K.the-row .own w (u ∷ []))) ⊛ raw (ensured 𝓤 H A work.ended (work.clauses 𝓤 H A mem run) (κ₁, (κ₂, tt)) (book, (buys, (xs, (line, (out, tt))))) tt w)))) (id⊢ 𝓤 _) $ await ! tt $ pick ! (λ w.
         split ! $ move ! (1 ∷ []) $ use1 W (Said-work xs v w) (said-work xs v w) $ pick ! (λ ws. learn ! (λ told. move ! (1 ∷ []) $ split ! $ move ! (1 ∷ []) $
         -- [what the result owns; the other tokens; out's last list; obs; the borrow; the table's token; true; the table's fact; the locals]: the result is stored, and what it owns is let go
         peeks ! K.the-row (Is K.the-row) (shows 𝓤 H A K.the-row) w (u ∷ []) (λ is. land ! (from ! (stop !)) (init ! 30 refl (LL.lawful K.the-type K′.the-laws 𝓤 H A W .typed w _ is .0)) $ drop ! $

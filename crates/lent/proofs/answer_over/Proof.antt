@@ -63,10 +63,10 @@ use Rattle.book.proofs.Book as B
 use Rattle.book.proofs.Book.Laws as B′
 use Rattle.book.proofs.Reply as P
 use Rattle.book.proofs.Reply.Laws as P′
-use Rattle.lent.specs.declared.Worked.{Worked}
+use Rattle.lent.specs.declared.GivenBack.{GivenBack}
 use Rattle.lent.specs.Lent.{Lent, lentStep, workedOf, Answered}
-use Rattle.lent.proofs.Worked as K
-use Rattle.lent.proofs.Worked.Laws as K′
+use Rattle.lent.proofs.GivenBack as K
+use Rattle.lent.proofs.GivenBack.Laws as K′
 use Rattle.lent.proofs.LawsLent.{Records, records, array-typed}
 use Rattle.lent.proofs.LawsLentStep.{answered-over}
 use Rattle.lent.proofs.answer as answer
@@ -171,7 +171,7 @@ module _ {M : Type 1} (𝓤 : URA M) (H : Heap 𝓤) (A : Atoms 𝓤) (W : Given
   abbrev it : Lent
   it = lentStep buys (recordIn book) places (now line) (now out)
 
-  exits : (k : Worked) (u : Val) (ws : List ℕ) → length ws ≡ length (now out) → (k ≡ workedOf it) × (ws ≡ it .out)
+  exits : (k : GivenBack) (u : Val) (ws : List ℕ) → length ws ≡ length (now out) → (k ≡ workedOf it) × (ws ≡ it .out)
       → ent 𝓤 (⋆ 𝓤 H A (Tokens ∷ ‵ (finally u8 (out .name) ws) ∷ ‵ (K.the-row .own k (u ∷ [])) ∷ [])) (Post u)
   exits k u ws m e =
       qed W (Tokens ∷ ‵ (finally u8 (out .name) ws) ∷ ‵ (K.the-row .own k (u ∷ [])) ∷ []) ∵
@@ -229,7 +229,7 @@ module _ {M : Type 1} (𝓤 : URA M) (H : Heap 𝓤) (A : Atoms 𝓤) (W : Given
         qed W (‵ (P.the-row .own r (v ∷ [])) ∷ ‵ (Records .own zs (w ∷ [])) ∷ []) ∵
         nothing ! $ move ! (2 ∷ 0 ∷ []) $ fjoin ! $ move ! (1 ∷ 0 ∷ []) $ fjoin ! $ nothing ! $ join ! $ frame ! $ done !
 
-    said-worked-of : (k : Worked) → ent 𝓤 (ensured 𝓤 H A worked-of.ended (worked-of.clauses 𝓤 H A mem run) tt (r, (zs, tt)) tt k) (fact 𝓤 (k ≡ record { reply = r; places = zs }))
+    said-worked-of : (k : GivenBack) → ent 𝓤 (ensured 𝓤 H A worked-of.ended (worked-of.clauses 𝓤 H A mem run) tt (r, (zs, tt)) tt k) (fact 𝓤 (k ≡ record { reply = r; places = zs }))
     said-worked-of k = exE 𝓤 _ (λ ws. snd∗ 𝓤 (sem 𝓤 H A (lasts worked-of.ended tt (r, (zs, tt)) ws)) (fact 𝓤 (k ≡ record { reply = r; places = zs })))
 
   module _ (C : Calls 𝓤 H) (Λ : Loops 𝓤 H) (fm : FmC 𝓤 H (W .laws) C) (known : Known 𝓤 H A mem run C) where
@@ -270,7 +270,7 @@ module _ {M : Type 1} (𝓤 : URA M) (H : Heap 𝓤) (A : Atoms 𝓤) (W : Given
         -- `worked_of(reply, table)`, and its result is returned
         use2 W (raw (Worked-of 𝓤 H A mem run .pre (to-worked-of r v zs w))) (asked-worked-of r v zs w) $
         calls-at ! fm (Worked-of 𝓤 H A mem run) (known .worked-of-met) (to-worked-of r v zs w) (and-then ! (load ! (from ! (stop !)) (look ! 14 refl)) (and-then ! (load ! (from ! (stop !)) (look ! 4 refl)) (no-more !))) (λ u.
-        use1 W (later (some (λ (k : Worked). (‵ ftrue ⊛ ‵ (K.the-row .own k (u ∷ []))) ⊛ raw (ensured 𝓤 H A worked-of.ended (worked-of.clauses 𝓤 H A mem run) tt (r, (zs, tt)) tt k)))) (id⊢ 𝓤 _) $ await ! tt $ pick ! (λ k.
+        use1 W (later (some (λ (k : GivenBack). (‵ ftrue ⊛ ‵ (K.the-row .own k (u ∷ []))) ⊛ raw (ensured 𝓤 H A worked-of.ended (worked-of.clauses 𝓤 H A mem run) tt (r, (zs, tt)) tt k)))) (id⊢ 𝓤 _) $ await ! tt $ pick ! (λ k.
         split ! $ move ! (1 ∷ []) $ use1 W (raw (fact 𝓤 (k ≡ record { reply = r; places = zs }))) (said-worked-of r v zs w k) $ heard ! (k ≡ record { reply = r; places = zs }) (λ is-k. split ! $ drop ! $
         peeks ! K.the-row (Is K.the-row) (shows 𝓤 H A K.the-row) k (u ∷ []) (λ are-k. land ! (from ! (stop !)) (init ! 27 refl (LL.lawful K.the-type K′.the-laws 𝓤 H A W .typed k _ are-k .0)) $ returns ! (look ! 27 refl) $
         -- [what the result owns; the cell of table; the tokens; out's last list; the locals]

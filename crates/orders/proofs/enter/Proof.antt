@@ -8,8 +8,8 @@ use Rattle.rules.specs.Book.{Book}
 use Rattle.rules.specs.Instructions.{lawful}
 use Rattle.rules.specs.Refusals.{orderInRange}
 use Rattle.rules.specs.Working.{buying}
-use Rattle.tables.specs.Tables.{bookOn}
-use Rattle.tables.proofs.LawsAnswers.{left-refused}
+use Rattle.side.specs.Tables.{bookOn}
+use Rattle.side.proofs.tables.LawsAnswers.{left-refused}
 use Rattle.orders.proofs.LawsEntered.{unlawful, out-of-range, left-entered}
 use Rattle.orders.proofs.LawsReady.{ready}
 use Rattle.orders.proofs.enter.Statement.{statement}

@@ -6,7 +6,7 @@ use lib.Seq.{length-take-le}
 use native.Mathlib.Omega.{arith}
 use borrow.Author.Needs.{needs}
 use denote.Ref.{now}
-use Rattle.night.proofs.LawsTurn.{end-fits}
+use Rattle.day.proofs.night.LawsTurn.{end-fits}
 use Rattle.program.proofs.end_day.Statement.{statement}
 use Rattle.program.proofs.end_day.Tie as tie
 

@@ -10,7 +10,7 @@ use borrow.Author.Needs.{needs}
 use borrow.Author.Tests.{not-false}
 use borrow.Rule.Slice.PartMut.{take-put}
 use denote.Ref.{now}
-use Rattle.lines.proofs.LawsRead.{read-within}
+use Rattle.command_lines.proofs.lines.LawsRead.{read-within}
 use Rattle.program.proofs.read_on.Statement.{statement}
 use Rattle.program.proofs.read_on.Tie as tie
 

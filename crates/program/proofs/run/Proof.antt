@@ -7,8 +7,8 @@ use denote.Ref.{now}
 use Rattle.rules.specs.Book.{fresh}
 use Rattle.rules.specs.Refusals.{leastRoom}
 use Rattle.soundness.proofs.LawsKept.{fresh-sound}
-use Rattle.tables.proofs.LawsAnswers.{stands-back}
-use Rattle.tables.specs.Answers.{Stands}
+use Rattle.side.proofs.tables.LawsAnswers.{stands-back}
+use Rattle.side.specs.Answers.{Stands}
 use native.Mathlib.Omega.{arith}
 use borrow.Author.Needs.{needs}
 use Rattle.program.proofs.run.Statement.{statement}

@@ -9,10 +9,10 @@ use native.Mathlib.Omega.{arith}
 use borrow.Author.Needs.{needs}
 use denote.Ref.{now}
 use Rattle.kinds.specs.declared.Number.{Number}
-use Rattle.moves.specs.declared.Settled.{Settled}
-use Rattle.moves.specs.Moves.{settledIn}
-use Rattle.moves.proofs.LawsSettling.{anew-fit}
-use Rattle.rows.specs.Table.{Shows}
+use Rattle.quotes.specs.declared.moves.Settled.{Settled}
+use Rattle.quotes.specs.Moves.{settledIn}
+use Rattle.quotes.proofs.moves.LawsSettling.{anew-fit}
+use Rattle.side.specs.Table.{Shows}
 use Rattle.rules.specs.declared.Away.{Away}
 use Rattle.rules.specs.declared.Body.the-variants as body
 use Rattle.rules.specs.declared.Resting.{Resting}
@@ -21,11 +21,11 @@ use Rattle.rules.specs.Commands.{quoteFate}
 use Rattle.rules.specs.EventLines.{eventLines}
 use Rattle.rules.specs.Settling.{firstMove, told, settledSide}
 use Rattle.rules.proofs.LawsEvents.{eventLines-append, lines-behind}
-use Rattle.tables.specs.declared.Head.{Head}
-use Rattle.tables.specs.Answers.{bodyAnswer}
-use Rattle.tables.specs.Tables.{bookOn, headOf}
-use Rattle.tables.proofs.LawsAnswers.{left-refused, left-done, head-is}
-use Rattle.quotes.proofs.LawsQuoted.{quote-refused, nextMove, quoted, quote-done, Ready, ready}
+use Rattle.side.specs.declared.tables.Head.{Head}
+use Rattle.side.specs.Answers.{bodyAnswer}
+use Rattle.side.specs.Tables.{bookOn, headOf}
+use Rattle.side.proofs.tables.LawsAnswers.{left-refused, left-done, head-is}
+use Rattle.quotes.proofs.LawsQuoteLeaves.{quote-refused, nextMove, quoted, quote-done, Ready, ready}
 use Rattle.quotes.proofs.quote.Statement.{statement}
 use Rattle.quotes.proofs.quote.Tie as tie
 

@@ -9,8 +9,8 @@ use Rattle.basics.specs.Lists.{firstWhere}
 use Rattle.basics.proofs.LawsLoops.{found-here, found-later, found-nowhere}
 use Rattle.rules.specs.Book.{unused}
 use Rattle.rules.specs.Commands.{isNumber}
-use Rattle.rows.specs.Table.{side}
-use Rattle.rows.proofs.LawsSides.{length-side}
+use Rattle.side.specs.Table.{side}
+use Rattle.side.proofs.rows.LawsShown.{length-side}
 use Rattle.side.proofs.find.Statement.{statement}
 use Rattle.side.proofs.find.Tie as tie
 

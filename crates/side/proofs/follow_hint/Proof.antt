@@ -9,7 +9,7 @@ use borrow.Author.Tests.{eq-eqb}
 use denote.Ref.{now}
 use Rattle.rules.specs.Book.{placesASide}
 use Rattle.rules.specs.Commands.{isNumber}
-use Rattle.rows.proofs.LawsSides.{length-side}
+use Rattle.side.proofs.rows.LawsShown.{length-side}
 use Rattle.side.proofs.LawsHints.{hint-leads}
 use Rattle.side.proofs.follow_hint.Statement.{statement}
 use Rattle.side.proofs.follow_hint.Tie as tie

@@ -7,8 +7,8 @@ use native.Mathlib.Omega.{arith}
 use borrow.Author.Needs.{needs}
 use borrow.Author.Tests.{lt-ltb, le-ltb}
 use denote.Ref.{now}
-use Rattle.rows.specs.Table.{levelIn}
-use Rattle.rows.proofs.LawsIndex.{names-below}
+use Rattle.side.specs.Table.{levelIn}
+use Rattle.side.proofs.rows.LawsIndex.{names-below}
 use Rattle.side.proofs.is_passed.Statement.{statement}
 use Rattle.side.proofs.is_passed.Tie as tie
 

@@ -7,7 +7,7 @@ use lib.ListN.{getD}
 use native.Mathlib.Omega.{arith}
 use borrow.Author.Needs.{needs}
 use denote.Ref.{now}
-use Rattle.rows.specs.Table.{flagOf, levelIn}
+use Rattle.side.specs.Table.{flagOf, levelIn}
 use Rattle.side.proofs.LawsHalves.{passed, looked, all-looked, Within, quartered, halved}
 use Rattle.side.proofs.place.Statement.{statement}
 use Rattle.side.proofs.place.Tie as tie

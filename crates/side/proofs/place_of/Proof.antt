@@ -11,7 +11,7 @@ use denote.Ref.{now}
 use Rattle.basics.specs.Choice.{if_then_else_}
 use Rattle.basics.proofs.LawsChoice.{holds-or-not}
 use Rattle.rules.specs.Book.{placesASide}
-use Rattle.rows.proofs.LawsSteps.{counted, steps, step-at}
+use Rattle.side.proofs.rows.LawsSteps.{counted, steps, step-at}
 use Rattle.side.proofs.place_of.Statement.{statement}
 use Rattle.side.proofs.place_of.Tie as tie
 

@@ -4,7 +4,7 @@ use lib.ListN.{length, take, drop, length-take, length-drop}
 use native.Mathlib.Omega.{arith}
 use borrow.Author.Needs.{needs}
 use denote.Ref.{now}
-use Rattle.lines.proofs.LawsCut.{line-within}
+use Rattle.command_lines.proofs.lines.LawsCut.{line-within}
 use Rattle.side_by_side.proofs.line_after.Statement.{statement}
 use Rattle.side_by_side.proofs.line_after.Tie as tie
 

@@ -7,7 +7,7 @@ use native.Mathlib.Omega.{arith}
 use borrow.Author.Needs.{needs}
 use denote.Ref.{now}
 use Rattle.kinds.specs.declared.Number.{Number}
-use Rattle.lines.specs.Pieces.{afterPart}
+use Rattle.command_lines.specs.Pieces.{afterPart}
 use Rattle.tally.specs.declared.Tally.{Tally}
 use Rattle.tally.specs.Tally.{turn}
 use Rattle.tally_day.proofs.finish.Statement.{statement}

@@ -8,8 +8,8 @@ use mir.Val.{toZ, ofZ}
 use native.Mathlib.Omega.{arith}
 use borrow.Author.Needs.{needs}
 use borrow.Rule.Slice.PartMut.{take-put}
-use Rattle.lines.proofs.LawsRead.{read-within}
-use Rattle.lines.specs.Pieces.{partKept}
+use Rattle.command_lines.proofs.lines.LawsRead.{read-within}
+use Rattle.command_lines.specs.Pieces.{partKept}
 use Rattle.tally_day.proofs.run.Statement.{statement}
 use Rattle.tally_day.proofs.run.Tie as tie
 

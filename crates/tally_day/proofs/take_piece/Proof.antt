@@ -4,7 +4,7 @@ use lib.Seq.{length-take-le}
 use native.Mathlib.Omega.{arith}
 use borrow.Author.Needs.{needs}
 use denote.Ref.{now}
-use Rattle.tally.specs.declared.Fed.{Fed}
+use Rattle.tally.specs.declared.TalliedPiece.{TalliedPiece}
 use Rattle.tally.specs.Tally.{fedOn}
 use Rattle.tally_day.proofs.LawsCarried.{part-kept}
 use Rattle.tally_day.proofs.take_piece.Statement.{statement}
@@ -30,7 +30,7 @@ unfolding fedOn
 carry-requires c κs =
     let s = c .before .before .before .before in
     let long = length-take-le (s .args .end) (now (s .args .input)) (s .pre) in
-    (omega (arith, ap (λ (f : Fed). f .at) (c .before .feed .ensures), long), s .pre)
+    (omega (arith, ap (λ (f : TalliedPiece). f .at) (c .before .feed .ensures), long), s .pre)
 
 same-length : tie.Need-same-length
 same-length c = search needs
@@ -41,8 +41,8 @@ returns c =
     let a = c .before .before .before .before .before .before .before .before .args in
     let fed = c .before .before .before .before .before .feed in
     let k = c .before .before .before .carry in
-    let place = ap (λ (f : Fed). f .at) (fed .ensures) in (
-      ap (λ (f : Fed). f .tally) (fed .ensures),
+    let place = ap (λ (f : TalliedPiece). f .at) (fed .ensures) in (
+      ap (λ (f : TalliedPiece). f .tally) (fed .ensures),
       part-kept (now (a .input)) (a .end) (fed .result .at) (k .result) (k .last .0) place (k .ensures .0) (k .ensures .1),
     )
 

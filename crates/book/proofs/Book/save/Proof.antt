@@ -1,7 +1,7 @@
 -- `Book::save` meets its contract. Assumes nothing.
 use borrow.Author.Needs.{needs}
 use denote.Ref.{now}
-use Rattle.rows.proofs.LawsSides.{length-side}
+use Rattle.side.proofs.rows.LawsShown.{length-side}
 use Rattle.rules.specs.Book.{placesOf, recordOf}
 use Rattle.book.proofs.Book.save.Statement.{statement}
 use Rattle.book.proofs.Book.save.Tie as tie

@@ -1,3 +1,0 @@
-pub mod LawsCancelled
-pub mod LawsDone
-pub mod Determined

@@ -1,0 +1,54 @@
+-- `command_lines::reader::read_body` meets its contract: an arm for each kind. Assumes nothing.
+use borrow.Author.Needs.{needs}
+use borrow.Author.Tests.{ne-eqb}
+use Rattle.rules.specs.CommandLines.{bodyIn}
+use Rattle.command_lines.proofs.reader.read_body.Statement.{statement}
+use Rattle.command_lines.proofs.reader.read_body.Tie as tie
+
+read-order-requires : tie.Need-read-order-requires
+read-order-requires c κs = search needs
+
+read-cancel-requires : tie.Need-read-cancel-requires
+read-cancel-requires c κs = search needs
+
+read-quote-requires : tie.Need-read-quote-requires
+read-quote-requires c κs = search needs
+
+read-close-requires : tie.Need-read-close-requires
+read-close-requires c κs = search needs
+
+returns : tie.Need-returns
+unfolding bodyIn
+returns c = rw (c .before .match .keys1) (c .read-order .ensures)
+
+returns-2 : tie.Need-returns-2
+unfolding bodyIn
+returns-2 c = rw (c .before .match .keys2) (c .read-cancel .ensures)
+
+returns-3 : tie.Need-returns-3
+unfolding bodyIn
+returns-3 c = rw (c .before .match .keys3) (c .read-quote .ensures)
+
+returns-4 : tie.Need-returns-4
+unfolding bodyIn
+returns-4 c = rw (c .before .match .keys4) (c .read-close .ensures)
+
+returns-5 : tie.Need-returns-5
+unfolding bodyIn
+returns-5 c =
+    let r = c .match .rest in
+    rw (ne-eqb _ _ (r .0 .0 .0 .1), ne-eqb _ _ (r .0 .0 .1), ne-eqb _ _ (r .0 .1), ne-eqb _ _ (r .1))
+
+pub read-body-spec : {M : Type 1} → statement M
+read-body-spec =
+    tie.close
+    (tie.spec
+    read-order-requires
+    read-cancel-requires
+    read-quote-requires
+    read-close-requires
+    returns
+    returns-2
+    returns-3
+    returns-4
+    returns-5)

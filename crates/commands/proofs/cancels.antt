@@ -1,0 +1,3 @@
+pub mod LawsCancelled
+pub mod LawsCancelDone
+pub mod Determined

@@ -1,0 +1,5 @@
+pub mod LawsLineByLine
+pub mod LawsCutAnywhere
+pub mod LawsFeed
+pub mod LawsPrinted
+pub mod Determined

@@ -1,3 +1,0 @@
-pub mod LawsFills
-pub mod LawsClosing
-pub mod Determined

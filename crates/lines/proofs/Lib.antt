@@ -1,6 +1,0 @@
-pub mod LawsLines
-pub mod LawsFirst
-pub mod LawsCut
-pub mod LawsPieces
-pub mod LawsRead
-pub mod Determined

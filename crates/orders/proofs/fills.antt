@@ -1,0 +1,3 @@
+pub mod LawsTakenOff
+pub mod LawsClosing
+pub mod Determined

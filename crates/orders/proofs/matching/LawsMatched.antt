@@ -1,0 +1,129 @@
+-- What an order's walk takes and what becomes of the order together are 01's match. Assumes nothing.
+use Prim.Native.Nat.{ℕ, _+_, _≤_, _<_}
+use mathlib.Core.Bool.{Bool, true, false, not, _&&_, _||_, true≢false}
+use mathlib.Core.List.{List, [], _++_}
+use mathlib.Core.Logic.{⊎-elim}
+use mathlib.Core.Path.{_≡_, refl, sym, ap, _∙_}
+use lib.Dec.{eqb}
+use lib.ListN.{length}
+use native.Mathlib.Omega.{arith}
+use borrow.Author.Tests.{le-leb, lt-leb}
+use Rattle.basics.specs.Choice.{if_then_else_}
+use Rattle.basics.proofs.LawsChoice.{holds-or-not}
+use Rattle.kinds.specs.declared.Cents.{Cents}
+use Rattle.kinds.specs.declared.Number.{Number}
+use Rattle.kinds.specs.Kinds.{priceInRange}
+use Rattle.kinds.proofs.LawsRanges.{price-highest}
+use Rattle.side.proofs.places.LawsPlaced.{length-insert}
+use Rattle.rules.specs.declared.Away.{Away}
+use Rattle.rules.specs.declared.Ending.{Ending}
+use Rattle.rules.specs.declared.Ending.the-variants.{Filled, Rests, Cancels}
+use Rattle.rules.specs.declared.Order.{Order}
+use Rattle.rules.specs.declared.Resting.{Resting}
+use Rattle.rules.specs.Book.{placesASide}
+use Rattle.rules.specs.EventLines.{iocRemainder, fokKilled, cancelledBack, noPriceInRange, postOnlyMeets}
+use Rattle.rules.specs.Instructions.{ioc, fok, displayed, cancelBack, postOnly, iso, has}
+use Rattle.rules.specs.Refusals.{isRest}
+use Rattle.rules.specs.Working.{buying, lockingPrice, absent, beyond, oneCentLessAggressive, equalsOrPasses, adjusted, seeks, unlessPostOnlyMeets, takings, remainder, endingWith, ending, executions, lastLine, remainderOf, withRemainder, after}
+use Rattle.orders.specs.declared.matching.Matched.{Matched}
+use Rattle.side.specs.Looking.{priceBound}
+use Rattle.orders.specs.Matching.{isFull, matchOf, restsBelow}
+
+-- a side takes at most one order more
+pub length-remainder : (n : Number) (o : Order) (left : ℕ) (end : Ending) (own : List Resting)
+    → length (withRemainder n o left end own) ≡ length own + (if isRest end then 1 else 0)
+length-remainder n o left Filled own = omega arith
+length-remainder n o left (Rests price) own = omega (arith, length-insert (buying o) (remainderOf n o left price) own)
+length-remainder n o left (Cancels reason) own = omega arith
+
+-- a side is too full for an ending exactly where it would hold more than its places
+pub full-more : (end : Ending) (own : List Resting) → length own ≤ placesASide → placesASide < length own + (if isRest end then 1 else 0) → isFull end own ≡ true
+full-more Filled own most l = let z : ⊥ = omega arith in absurd z
+full-more (Rests price) own most l = le-leb placesASide (length own) (omega arith)
+full-more (Cancels reason) own most l = let z : ⊥ = omega arith in absurd z
+
+pub full-not : (end : Ending) (own : List Resting) → length own + (if isRest end then 1 else 0) ≤ placesASide → isFull end own ≡ false
+full-not Filled own l = refl
+full-not (Rests price) own l = lt-leb placesASide (length own) (omega arith)
+full-not (Cancels reason) own l = refl
+
+pub rest-fits : (end : Ending) (k : ℕ) → k + (if isRest end then 1 else 0) ≤ placesASide → isRest end ≡ true → k < placesASide
+rest-fits Filled k l r = absurd (true≢false (sym r))
+rest-fits (Rests price) k l r = omega arith
+rest-fits (Cancels reason) k l r = absurd (true≢false (sym r))
+
+-- ── Where an order would rest ──
+
+below-either : (t : Bool) (a b : Ending) → restsBelow a → restsBelow b → restsBelow (if t then a else b)
+below-either true a b p q = p
+below-either false a b p q = q
+
+adjusted-below : (o : Order) (price : Cents) → restsBelow (adjusted o price)
+adjusted-below o price =
+    below-either (has (o .word) cancelBack) (Cancels cancelledBack) (if priceInRange price then Rests price else Cancels noPriceInRange) tt
+    (⊎-elim
+    (λ (t : priceInRange price ≡ true). rw t (omega (arith, price-highest price t)))
+    (λ (t : priceInRange price ≡ false). rw t tt)
+    (holds-or-not (priceInRange price)))
+
+module _ (o : Order) (away : Away) (limited : o .price .0 < priceBound) where
+  seeks-below : restsBelow (seeks o away)
+  unfolding seeks
+  seeks-below =
+      let locking = lockingPrice (buying o) away in
+      let crosses = beyond (buying o) locking (o .price) in
+      let locks = eqb (o .price .0) (locking .0) in
+      let farther = oneCentLessAggressive (buying o) locking in
+      let else-limit = if not (has (o .word) displayed) && crosses then adjusted o locking else Rests (o .price) in
+      below-either (has (o .word) iso || absent locking) (Rests (o .price)) (if has (o .word) displayed && (locks || crosses) then adjusted o farther else else-limit) limited
+      (below-either (has (o .word) displayed && (locks || crosses)) (adjusted o farther) else-limit (adjusted-below o farther)
+      (below-either (not (has (o .word) displayed) && crosses) (adjusted o locking) (Rests (o .price)) (adjusted-below o locking) limited))
+
+  unless-below : (opposite : List Resting) (end : Ending) → restsBelow end → restsBelow (unlessPostOnlyMeets o opposite end)
+  unless-below opposite Filled b = tt
+  unless-below opposite (Rests price) b = below-either (has (o .word) postOnly && equalsOrPasses (buying o) price opposite) (Cancels postOnlyMeets) (Rests price) tt b
+  unless-below opposite (Cancels reason) b = tt
+
+  -- an order rests at its limit, or at a price in range
+  pub ending-below : (left : ℕ) (opposite : List Resting) → restsBelow (endingWith left o away opposite)
+  unfolding endingWith
+  ending-below left opposite =
+      let rests = unlessPostOnlyMeets o opposite (seeks o away) in
+      let else-ioc = if has (o .word) ioc then Cancels iocRemainder else rests in
+      below-either (eqb left 0) Filled (if has (o .word) fok then Cancels fokKilled else else-ioc) tt
+      (below-either (has (o .word) fok) (Cancels fokKilled) else-ioc tt
+      (below-either (has (o .word) ioc) (Cancels iocRemainder) rests tt (unless-below opposite (seeks o away) seeks-below)))
+
+-- ── The match ──
+
+module _ (o : Order) (number : Number) (away : Away) (own opposite : List Resting) where
+  pub refused : isFull (ending o away opposite) own ≡ true
+      → matchOf o number away own opposite ≡ record { refusal = 11; events = []; own = own; opposite = opposite }
+  unfolding matchOf
+  refused f = rw f
+
+  -- by what the walk leaves, and the ending that follows from it
+  module _ (left : ℕ) (end : Ending) (leaves : left ≡ remainder o away opposite) (ends : end ≡ endingWith left o away opposite) where
+    pub ending-is : end ≡ ending o away opposite
+    unfolding ending
+    ending-is = ends ∙ ap (λ (k : ℕ). endingWith k o away opposite) leaves
+
+    pub ended-is : isFull end own ≡ false → matchOf o number away own opposite ≡ record {
+      refusal = 0;
+      events = executions number opposite (takings o away opposite) ++ lastLine number left end;
+      own = withRemainder number o left end own;
+      opposite = after opposite (takings o away opposite);
+    }
+    unfolding matchOf
+    ended-is f =
+        let g : isFull (ending o away opposite) own ≡ false = ap (λ (e : Ending). isFull e own) (sym ending-is) ∙ f in
+        rw (g, ending-is, leaves)
+
+-- ── The answer ──
+
+-- an answer, number by number
+abbrev pub answer : ℕ → ℕ → ℕ → ℕ → Matched
+answer refusal own opposite length = record { refusal = refusal; own = own; opposite = opposite; length = length }
+
+pub answer-is : {refusal own own′ opposite opposite′ length length′ : ℕ} → own ≡ own′ → opposite ≡ opposite′ → length ≡ length′ → answer refusal own opposite length ≡ answer refusal own′ opposite′ length′
+answer-is a b c = rw (a, b, c)

@@ -1,0 +1,3 @@
+pub mod LawsTaken
+pub mod LawsWalk
+pub mod Determined

@@ -1,0 +1,31 @@
+-- A side after a walk: every order without what was taken from it, and without the orders that have nothing left.
+use Prim.Native.Nat.{ℕ, _+_}
+use mathlib.Core.Bool.{Bool, not}
+use mathlib.Core.List.{List, [], _∷_}
+use lib.Dec.{eqb}
+use Rattle.basics.specs.Choice.{if_then_else_}
+use Rattle.rules.specs.declared.Resting.{Resting}
+use Rattle.rules.specs.Working.{reducedBy}
+use Rattle.orders.specs.declared.walk.Taking.{Taking}
+
+-- all that was taken from the order at rank i
+unfoldable pub takenAt : ℕ → List Taking → ℕ
+takenAt i [] = 0
+takenAt i (k ∷ ks) = (if eqb (k .place) i then k .shares .0 else 0) + takenAt i ks
+
+-- the orders from rank i on without what was taken from them
+unfoldable pub lessened : ℕ → List Taking → List Resting → List Resting
+lessened i ks [] = []
+lessened i ks (h ∷ s) = reducedBy (takenAt i ks) h ∷ lessened (i + 1) ks s
+
+-- an order has something left
+abbrev pub keeps : Resting → Bool
+keeps h = not (eqb (h .shares .0) 0)
+
+-- "whoever keeps none leaves the book"
+unfoldable pub keeping : List Resting → List Resting
+keeping [] = []
+keeping (h ∷ s) = if keeps h then h ∷ keeping s else keeping s
+
+abbrev pub afterTakings : List Taking → List Resting → List Resting
+afterTakings ks s = keeping (lessened 0 ks s)

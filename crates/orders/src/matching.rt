@@ -1,0 +1,144 @@
+// An order matched in place, all of 01's steps on two sides that are lent, its own and the opposite one, with refusal 11 for a full side.
+// One function for both sides of the market.
+use crate::fills;
+use crate::reports;
+use crate::walk::Takings;
+use crate::work;
+use event_lines::writer;
+use judge::instructions;
+use kinds::Cents;
+use kinds::Number;
+use kinds::Shares;
+use rules::Away;
+use rules::Ending;
+use rules::Order;
+use rules::Resting;
+use rules::Stamp;
+use side::places;
+use side::rows::Index;
+use side::rows::PLACES;
+use side::rows::Rows;
+ghost use mathlib.Core.Bool.{true};
+ghost use mathlib.Core.Path.{_≡_};
+ghost use Prim.Native.Nat.{_≤_, _<_, _+_};
+ghost use lib.ListN.{length};
+ghost use Rattle.basics.specs.Bytes.{onto};
+ghost use Rattle.basics.specs.Choice.{if_then_else_};
+ghost use Rattle.side.specs.Table.{side, Holds, Shows};
+ghost use Rattle.rules.specs.Book.{placesASide};
+ghost use Rattle.rules.specs.EventLines.{eventLines};
+ghost use Rattle.rules.specs.Refusals.{isRest, leastRoom};
+ghost use Rattle.rules.specs.Working.{lastLine, remainderOf, withRemainder, buying};
+ghost use Rattle.orders.specs.Matching.{matchOf, Ready, MayRest, Matches};
+
+// What a match leaves: a refusal or 0, how many orders each side holds, and the length of the lines.
+pub struct Matched {
+    pub refusal: u8,
+    pub own: usize,
+    pub opposite: usize,
+    pub length: usize,
+}
+
+// How many orders its own side holds after an order's ending.
+fn places_after(end: Ending, n: usize) -> usize
+    requires { ⌜ n ≤ placesASide ⌝ }
+    ensures { λ r. ⌜ r ≡ n + (if isRest end then 1 else 0) ⌝ }
+{
+    match end {
+        Ending::Filled => n,
+        Ending::Cancels(_) => n,
+        Ending::Rests(_) => n + 1,
+    }
+}
+
+// What rests of an order.
+fn remainder_of(number: Number, o: Order, left: Shares, price: Cents) -> Resting
+    ensures { λ r. ⌜ r ≡ remainderOf number o (left .0) price ⌝ }
+{
+    let displayed = instructions::has(o.word, rules::DISPLAYED);
+    let back = instructions::has(o.word, rules::CANCEL_BACK);
+    let stamp = Stamp {
+        command: number,
+        place: 0,
+    };
+    Resting {
+        number: number,
+        price: price,
+        shares: left,
+        displayed: displayed,
+        back: back,
+        stamp: stamp,
+    }
+}
+
+// What becomes of the shares left of an order, after its executions: its last line, if it has one, and its own side with what rests.
+fn conclude(
+    o: Order,
+    number: Number,
+    end: Ending,
+    left: Shares,
+    x: &mut Index,
+    t: &mut Rows,
+    n: usize,
+    out: &mut [u8],
+) -> usize
+    requires { ⌜ Holds n (now x) (now t) × (isRest end ≡ true → n < placesASide) × (27 ≤ length (now out))
+        × MayRest (buying o) number end (side n (now x) (now t)) ⌝ }
+    ensures { λ r. ⌜ r ≡ length (eventLines (lastLine number (left .0) end)) ⌝ }
+    ensures { λ _. ⌜ Shows (withRemainder number o (left .0) end (side n (now (x .entry)) (now (t .entry)))) (now (x .exit))
+        (now (t .exit)) ⌝ }
+    ensures { λ _. ⌜ now (out .exit) ≡ onto (eventLines (lastLine number (left .0) end)) (now (out .entry)) ⌝ }
+{
+    match end {
+        Ending::Filled => 0,
+        Ending::Cancels(reason) => writer::write_cancelled(out, number, left, reason),
+        Ending::Rests(price) => {
+            let order = remainder_of(number, o, left, price);
+            places::rest(x, t, n, o.side == 0, order);
+            writer::write_rested(out, number, price, left)
+        }
+    }
+}
+
+// An order is matched: refusal 11 leaves both sides and every byte as they were. Fill-or-Kill and 11 are judged before a line is written.
+pub(crate) fn match_order(
+    o: Order,
+    number: Number,
+    away: Away,
+    x: &mut Index,
+    own: &mut Rows,
+    n: usize,
+    y: &mut Index,
+    opposite: &mut Rows,
+    m: usize,
+    took: &mut Takings,
+    out: &mut [u8],
+) -> Matched
+    requires { ⌜ Holds n (now x) (now own) × Holds m (now y) (now opposite)
+        × Ready o number away (side n (now x) (now own)) (side m (now y) (now opposite)) × (leastRoom ≤ length (now out)) ⌝ }
+    ensures { λ r. ⌜ Matches r (now (x .exit)) (now (own .exit)) (now (y .exit)) (now (opposite .exit)) (now (out .exit)) (now (out .entry))
+        (matchOf o number away (side n (now (x .entry)) (now (own .entry))) (side m (now (y .entry)) (now (opposite .entry)))) ⌝ }
+{
+    let w = work::walk_of(o, away, y, opposite, m, took);
+    let count = w.count;
+    let left = w.left;
+    let end = work::ending_of(o, away, y, opposite, m, left);
+    let held = places_after(end, n);
+    if PLACES < held {
+        return Matched {
+            refusal: 11,
+            own: n,
+            opposite: m,
+            length: 0,
+        };
+    }
+    let length = reports::report(y, opposite, m, took, count, number, out);
+    let stay = fills::take_off(y, opposite, m, w.at, took, count);
+    let more = conclude(o, number, end, left, x, own, n, &mut out[length..]);
+    Matched {
+        refusal: 0,
+        own: held,
+        opposite: stay,
+        length: length + more,
+    }
+}

@@ -1,0 +1,161 @@
+// A walk over one side of the book in rank order, for a number of shares: what each order gives, one taking after the other.
+use kinds::Cents;
+use kinds::Shares;
+use rules::Resting;
+use side::rows;
+use side::rows::Index;
+use side::rows::PLACES;
+use side::rows::Rows;
+ghost use mathlib.Core.Bool.{not};
+ghost use mathlib.Core.List.{[], map};
+ghost use mathlib.Core.Path.{_≡_};
+ghost use Prim.Native.Nat.{_+_, _-_, _<_};
+ghost use lib.ListN.{length, getD, set};
+ghost use Rattle.side.specs.Table.{side, Holds};
+ghost use Rattle.rules.specs.Book.{placesASide};
+ghost use Rattle.rules.specs.Working.{beyond, smaller};
+ghost use Rattle.orders.specs.Walk.{mostTakings, isWithin, taking, takingRow, takingIn, laid, laidAt, walkedOf, takingsOf};
+
+// Room for the takings of one walk: an order gives once at most.
+pub const TAKINGS: usize = PLACES;
+
+pub type Takings = [[u32; 3]; TAKINGS];
+
+// What a walk took from the order at a rank, and at what price.
+pub struct Taking {
+    pub place: usize,
+    pub price: Cents,
+    pub shares: Shares,
+}
+
+// How many takings there are, and how many shares are still wanted.
+pub struct Taken {
+    pub count: usize,
+    pub left: Shares,
+}
+
+// How a walk ended: `count` takings, `left` shares still wanted, and no order from `at` on was reached.
+pub struct Walked {
+    pub count: usize,
+    pub left: Shares,
+    pub at: usize,
+}
+
+// ── Takings in a table ──
+
+// Does nothing, and tells that a lent table has all its rows.
+pub(crate) fn whole(took: &Takings)
+    ensures { λ _. ⌜ length (now (took .entry)) ≡ mostTakings ⌝ }
+{
+    let s: &[[u32; 3]] = took;
+}
+
+fn put(took: &mut Takings, i: usize, k: Taking)
+    requires { ⌜ (i < mostTakings) × (k .place < placesASide) ⌝ }
+    ensures { λ _. ⌜ now (took .exit) ≡ set (now (took .entry)) i (takingRow k) ⌝ }
+{
+    let place = k.place as u32;
+    let r = [place, k.price.0, k.shares.0];
+    took[i] = r;
+}
+
+// A word as a place.
+fn place_of(word: u32) -> usize
+    ensures { λ r. ⌜ r ≡ word ⌝ }
+{
+    word as usize
+}
+
+pub(crate) fn taking_at(took: &Takings, i: usize) -> Taking
+    requires { ⌜ i < mostTakings ⌝ }
+    ensures { λ k. ⌜ k ≡ takingIn (getD (now (took .entry)) i []) ⌝ }
+{
+    let r = took[i];
+    Taking {
+        place: place_of(r[0]),
+        price: Cents(r[1]),
+        shares: Shares(r[2]),
+    }
+}
+
+// ── The walk ──
+
+// Whether a price is not beyond a bound. By values and not by ways, so that it compiles to no branch.
+pub fn within(buying: bool, bound: Cents, price: Cents) -> bool
+    ensures { λ r. ⌜ r ≡ not (beyond buying bound price) ⌝ }
+{
+    !((buying & (bound.0 < price.0)) | (!buying & (price.0 < bound.0)))
+}
+
+// Takes from the order at a rank what it gives, as the next taking. One that gives nothing is no taking.
+fn take_from(took: &mut Takings, count: usize, left: Shares, place: usize, o: Resting) -> Taken
+    requires { ⌜ (count < mostTakings) × (place < placesASide) ⌝ }
+    ensures { λ r. ⌜ r ≡ record {
+      count = count + length (taking place o (smaller (left .0) o));
+      left = record { 0 = left .0 - smaller (left .0) o };
+    } ⌝ }
+    ensures { λ _. ⌜ now (took .exit) ≡ laidAt count (map takingRow (taking place o (smaller (left .0) o))) (now (took .entry)) ⌝ }
+{
+    whole(took);
+    let shares = o.shares;
+    let gives = left.smaller(shares);
+    if gives.0 == 0 {
+        return Taken { count, left };
+    }
+    let price = o.price;
+    put(
+        took,
+        count,
+        Taking {
+            place: place,
+            price: price,
+            shares: gives,
+        },
+    );
+    Taken {
+        count: count + 1,
+        left: Shares(left.0 - gives.0),
+    }
+}
+
+// Walks the side in rank order, for `want` shares. The walk ends at the first order whose price is beyond the bound, or with nothing left.
+// The takings go to the front of `took`, in the order of the walk.
+pub(crate) fn walk(
+    x: &Index,
+    t: &Rows,
+    n: usize,
+    buying: bool,
+    bound: Cents,
+    want: Shares,
+    took: &mut Takings,
+) -> Walked
+    requires { ⌜ Holds n (now x) (now t) ⌝ }
+    ensures { λ r. ⌜ r ≡ walkedOf (isWithin buying bound) (want .0) (side n (now (x .entry)) (now (t .entry))) ⌝ }
+    ensures { λ _. ⌜ now (took .exit) ≡ laid (map takingRow (takingsOf (isWithin buying bound) (want .0)
+        (side n (now (x .entry)) (now (t .entry))))) (now (took .entry)) ⌝ }
+{
+    let mut at = 0;
+    let mut count = 0;
+    let mut left = want;
+    loop {
+        if n <= at {
+            break;
+        }
+        if left.0 == 0 {
+            break;
+        }
+        let o = rows::at(x, t, n, at);
+        if !within(buying, bound, o.price) {
+            break;
+        }
+        let taken = take_from(took, count, left, at, o);
+        count = taken.count;
+        left = taken.left;
+        at += 1;
+    }
+    Walked {
+        count: count,
+        left: left,
+        at: at,
+    }
+}

@@ -1,3 +1,0 @@
-pub mod LawsTurns
-pub mod LawsShifts
-pub mod Determined

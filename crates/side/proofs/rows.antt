@@ -1,0 +1,5 @@
+pub mod LawsTable
+pub mod LawsIndex
+pub mod LawsSteps
+pub mod LawsShown
+pub mod Determined

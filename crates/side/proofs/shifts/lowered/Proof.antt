@@ -1,0 +1,12 @@
+-- `side::shifts::lowered` meets its contract. Assumes nothing.
+use Rattle.side.proofs.shifts.lowered.Statement.{statement}
+use Rattle.side.proofs.shifts.lowered.Tie as tie
+
+returns : tie.Need-returns
+returns c = rw (c .if1 .taken)
+
+returns-2 : tie.Need-returns-2
+returns-2 c = rw (c .if1 .left)
+
+pub lowered-spec : {M : Type 1} → statement M
+lowered-spec = tie.close (tie.spec returns returns-2)

@@ -1,0 +1,112 @@
+// Orders moved in and out of one side, in place: the index is turned, and the rows stay where they are.
+use crate::rows;
+use crate::rows::Index;
+use crate::rows::PLACES;
+use crate::rows::Rows;
+use kinds::Shares;
+use rules::Resting;
+ghost use mathlib.Core.Bool.{_&&_};
+ghost use mathlib.Core.Path.{_≡_};
+ghost use Prim.Native.Nat.{_≤_, _<_};
+ghost use lib.Dec.{ltb, leb};
+ghost use lib.ListN.{getD, set};
+ghost use Rattle.basics.specs.Choice.{if_then_else_};
+ghost use Rattle.basics.specs.Lists.{insertAt, removeAt};
+ghost use Rattle.side.specs.Table.{rotated, side, Holds, Shows};
+ghost use Rattle.rules.specs.Book.{placesASide, unused};
+ghost use Rattle.rules.specs.Working.{reducedBy};
+
+// ── The index turned, with no branch on what it holds: the loops have one length, so the compiler makes vectors of them ──
+
+// What stands at place `j` once the bytes behind `lo` up to `hi` have each moved one up: the byte before it, or its own.
+fn raised(lo: u8, hi: u8, j: u8, before: u8, own: u8) -> u8
+    ensures { λ r. ⌜ r ≡ (if ltb lo j && leb j hi then before else own) ⌝ }
+{
+    if (lo < j) & (j <= hi) { before } else { own }
+}
+
+// The byte at place `from` comes to stand at place `to`, which is no later, and those between move one up.
+fn raise(x: &mut Index, from: usize, to: usize)
+    requires { ⌜ (to ≤ from) × (from < placesASide) ⌝ }
+    ensures { λ _. ⌜ now (x .exit) ≡ rotated from to (now (x .entry)) ⌝ }
+{
+    rows::whole_index(x);
+    let v = x[from];
+    let steps = rows::STEPS;
+    let lo = to as u8;
+    let hi = from as u8;
+    let mut last: u8 = 0;
+    for i in 0..PLACES {
+        let b = x[i];
+        let j = steps[i];
+        x[i] = raised(lo, hi, j, last, b);
+        last = b;
+    }
+    x[to] = v;
+}
+
+// What stands at place `j` once the bytes behind `lo` up to `hi` have each moved one down: the byte behind it, or its own.
+fn lowered(lo: u8, hi: u8, j: u8, behind: u8, own: u8) -> u8
+    ensures { λ r. ⌜ r ≡ (if leb lo j && ltb j hi then behind else own) ⌝ }
+{
+    if (lo <= j) & (j < hi) { behind } else { own }
+}
+
+// The same to a place that is no earlier: those between move one down.
+fn lower(x: &mut Index, from: usize, to: usize)
+    requires { ⌜ (from ≤ to) × (to < placesASide) ⌝ }
+    ensures { λ _. ⌜ now (x .exit) ≡ rotated from to (now (x .entry)) ⌝ }
+{
+    rows::whole_index(x);
+    let v = x[from];
+    let steps = rows::STEPS;
+    let lo = from as u8;
+    let hi = to as u8;
+    let mut b = x[0];
+    for i in 0..PLACES {
+        let next = x[i + 1];
+        let j = steps[i];
+        x[i] = lowered(lo, hi, j, next, b);
+        b = next;
+    }
+    x[to] = v;
+}
+
+// ── Orders ──
+
+// The side with one more order, at rank `at`: it takes the first free row.
+pub(crate) fn insert(x: &mut Index, t: &mut Rows, n: usize, at: usize, o: Resting)
+    requires { ⌜ Holds n (now x) (now t) × (at ≤ n) × (n < placesASide) ⌝ }
+    ensures { λ _. ⌜ Shows (insertAt at o (side n (now (x .entry)) (now (t .entry)))) (now (x .exit)) (now (t .exit)) ⌝ }
+{
+    rows::whole_index(x);
+    let slot = x[n];
+    raise(x, n, n - at);
+    let hint = rows::hint_of(o.number);
+    x[hint] = slot;
+    rows::put_row(t, rows::wide(slot), o);
+}
+
+// The side without the order at rank `at`: its row is free.
+pub fn remove(x: &mut Index, t: &Rows, n: usize, at: usize)
+    requires { ⌜ Holds n (now x) (now t) × (at < n) ⌝ }
+    ensures { λ _. ⌜ Shows (removeAt at (side n (now (x .entry)) (now (t .entry)))) (now (x .exit)) (now (t .entry)) ⌝ }
+{
+    let last = n - 1;
+    lower(x, last - at, last);
+}
+
+// The side with `part` shares fewer in the order at rank `at`.
+pub fn reduce(x: &Index, t: &mut Rows, n: usize, at: usize, part: Shares)
+    requires { ⌜ Holds n (now x) (now t) × (at < n) ⌝ }
+    ensures { λ _. ⌜ Shows (set (side n (now (x .entry)) (now (t .entry))) at
+        (reducedBy (part .0) (getD (side n (now (x .entry)) (now (t .entry))) at unused)))
+        (now (x .entry)) (now (t .exit)) ⌝ }
+{
+    let slot = rows::slot_at(x, n, at);
+    let o = rows::row(t, slot);
+    let shares = o.shares;
+    let gone = part.smaller(shares);
+    let left = Shares(shares.0 - gone.0);
+    rows::put_row(t, slot, Resting { shares: left, ..o });
+}

@@ -1,3 +1,0 @@
-pub mod LawsTakings
-pub mod LawsWalk
-pub mod Determined
