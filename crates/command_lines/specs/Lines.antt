@@ -1,13 +1,14 @@
 -- The first line of some bytes, by the place of its line feed.
 use Prim.Native.Nat.{ℕ, suc}
 use mathlib.Core.Bool.{Bool}
-use mathlib.Core.List.{List}
+use mathlib.Core.List.{List, [], _∷_}
 use lib.Dec.{eqb}
 use lib.ListN.{take}
 use Rattle.basics.specs.Choice.{if_then_else_}
 use Rattle.basics.specs.Lists.{firstWhere}
+use Rattle.digits.specs.Digits.{digitOf}
 use Rattle.rules.specs.declared.Reading.the-variants as reading
-use Rattle.rules.specs.CommandLines.{orderForm, cancelForm, quoteForm, closeForm, digitsWithHeader, lineFeed, commandIn}
+use Rattle.rules.specs.CommandLines.{Kind, kinds, digitsWithHeader, lineFeed, commandIn}
 use Rattle.command_lines.specs.declared.lines.Line.{Line}
 
 abbrev pub isLineFeed : ℕ → Bool
@@ -23,11 +24,10 @@ firstLine s = record { digits = toLineFeed s; reading = commandIn (take (suc (to
 abbrev pub otherLine : List ℕ → Line
 otherLine s = record { digits = toLineFeed s; reading = reading.Bad }
 
--- how many digits a command has, by the second of them, which tells its kind
+-- how many digits a command has, by the second of them, which tells its kind in a table
+unfoldable pub digitsFrom : List Kind → ℕ → ℕ
+digitsFrom [] c = 0
+digitsFrom (k ∷ ks) c = if eqb c (digitOf (k .code)) then digitsWithHeader (k .form) else digitsFrom ks c
+
 unfoldable pub digitsAfter : ℕ → ℕ
-digitsAfter c =
-    if eqb c 49 then digitsWithHeader orderForm
-    else if eqb c 50 then digitsWithHeader cancelForm
-    else if eqb c 51 then digitsWithHeader quoteForm
-    else if eqb c 52 then digitsWithHeader closeForm
-    else 0
+digitsAfter c = digitsFrom kinds c

@@ -3,29 +3,12 @@
 -- lines do, wherever it is cut.
 use Prim.Native.Nat.{ℕ, zero, suc, _+_, min}
 use mathlib.Core.List.{List, [], _∷_, _++_}
-use lib.Dec.{eqb}
 use lib.IntN.{ℤ, pos, negsuc}
 use lib.ListN.{take, drop}
-use Rattle.basics.specs.Choice.{if_then_else_}
-use Rattle.rules.specs.CommandLines.{longestLine, lineFeed}
+use Rattle.rules.specs.CommandLines.{longestLine}
+use Rattle.rules.specs.Day.{cut, unendedLine}
 use Rattle.command_lines.specs.declared.lines.Read.{Read}
 use Rattle.command_lines.specs.declared.lines.Read.the-variants.{Failed, Ended, Upto}
-
--- an input cut after its last line feed: its whole lines, each with its line feed, and the part of a line behind them
-pub record Cut : Type 0 where
-  pub whole : List (List ℕ)
-  pub part : List ℕ
-
--- a byte that is no line feed, in front of what was cut
-unfoldable pub inFront : ℕ → List (List ℕ) → List ℕ → Cut
-inFront c [] part = record { whole = []; part = c ∷ part }
-inFront c (l ∷ ls) part = record { whole = (c ∷ l) ∷ ls; part = part }
-
-unfoldable pub cut : List ℕ → Cut
-cut [] = record { whole = []; part = [] }
-cut (c ∷ s) =
-    if eqb c lineFeed then record { whole = (c ∷ []) ∷ cut s .whole; part = cut s .part }
-    else inFront c (cut s .whole) (cut s .part)
 
 -- "a line over 41 bytes" is refused whatever its bytes are, so of a part no more is kept than one byte over the longest line:
 -- memory stays bounded
@@ -48,15 +31,13 @@ unfoldable pub allOf : List (List ℕ) → List ℕ
 allOf [] = []
 allOf (piece ∷ pieces) = piece ++ allOf pieces
 
--- what some lines lead a state on to
+-- what some lines lead a state on to, and a part of a line that the input ends with
 unfoldable pub afterLines : {S : Type 0} → (S → List ℕ → S) → S → List (List ℕ) → S
 afterLines turn s [] = s
 afterLines turn s (l ∷ ls) = afterLines turn (turn s l) ls
 
--- a part of a line that an input ends with is a line with no line feed
-unfoldable pub afterPart : {S : Type 0} → (S → List ℕ → S) → S → List ℕ → S
-afterPart turn s [] = s
-afterPart turn s (c ∷ part) = turn s (c ∷ part)
+abbrev pub afterPart : {S : Type 0} → (S → List ℕ → S) → S → List ℕ → S
+afterPart turn s part = afterLines turn s (unendedLine part)
 
 -- what pieces lead a state on to, where a part of a line came before them; of a part no more than some bytes are kept, so that memory
 -- stays bounded

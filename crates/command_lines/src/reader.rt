@@ -11,7 +11,8 @@ use rules::Order;
 use rules::Reading;
 ghost use mathlib.Core.Path.{_≡_};
 ghost use Prim.Native.Nat.{_<_};
-ghost use Rattle.rules.specs.CommandLines.{isEnded, orderIn, cancelIn, quoteIn, closeIn, bodyIn, commandIn};
+ghost use Rattle.rules.specs.CommandLines.{orderForm, cancelForm, quoteForm, closeForm, orderMade, cancelMade, quoteMade, closeMade};
+ghost use Rattle.rules.specs.CommandLines.{isEnded, bodyOfForm, bodyIn, commandIn};
 
 // Whether `n` digits are followed by one line feed, and by no more.
 fn is_ended(s: &[u8], n: usize) -> bool
@@ -25,7 +26,7 @@ fn is_ended(s: &[u8], n: usize) -> bool
 }
 
 fn read_order(s: &[u8]) -> BodyReading
-    ensures { λ r. ⌜ r ≡ orderIn (now (s .entry)) ⌝ }
+    ensures { λ r. ⌜ r ≡ bodyOfForm orderForm orderMade (now (s .entry)) ⌝ }
 {
     if !is_ended(s, rules::ORDER_BODY) {
         return BodyReading::Bad;
@@ -46,7 +47,7 @@ fn read_order(s: &[u8]) -> BodyReading
 }
 
 fn read_cancel(s: &[u8]) -> BodyReading
-    ensures { λ r. ⌜ r ≡ cancelIn (now (s .entry)) ⌝ }
+    ensures { λ r. ⌜ r ≡ bodyOfForm cancelForm cancelMade (now (s .entry)) ⌝ }
 {
     if !is_ended(s, rules::CANCEL_BODY) {
         return BodyReading::Bad;
@@ -59,7 +60,7 @@ fn read_cancel(s: &[u8]) -> BodyReading
 }
 
 fn read_quote(s: &[u8]) -> BodyReading
-    ensures { λ r. ⌜ r ≡ quoteIn (now (s .entry)) ⌝ }
+    ensures { λ r. ⌜ r ≡ bodyOfForm quoteForm quoteMade (now (s .entry)) ⌝ }
 {
     if !is_ended(s, rules::QUOTE_BODY) {
         return BodyReading::Bad;
@@ -76,7 +77,7 @@ fn read_quote(s: &[u8]) -> BodyReading
 }
 
 fn read_close(s: &[u8]) -> BodyReading
-    ensures { λ r. ⌜ r ≡ closeIn (now (s .entry)) ⌝ }
+    ensures { λ r. ⌜ r ≡ bodyOfForm closeForm closeMade (now (s .entry)) ⌝ }
 {
     if !is_ended(s, rules::CLOSE_BODY) {
         return BodyReading::Bad;

@@ -7,11 +7,10 @@ use lib.Dec.{ltb}
 use lib.ListN.{length}
 use Rattle.basics.specs.Bytes.{onto}
 use Rattle.basics.specs.Choice.{if_then_else_}
-use Rattle.command_lines.specs.Pieces.{cut}
 use Rattle.side.specs.Table.{Shows}
 use Rattle.rules.specs.declared.Reading.{Reading}
 use Rattle.rules.specs.Book.{Book}
-use Rattle.rules.specs.Day.{printed}
+use Rattle.rules.specs.Day.{cut, printed}
 use Rattle.rules.specs.Refusals.{leastRoom, refusals, firstOf}
 use Rattle.rules.specs.Step.{Answer, answer, answerTo}
 use Rattle.side.specs.Answers.{Stands}

@@ -4,9 +4,9 @@
 use Prim.Native.Nat.{ℕ}
 use mathlib.Core.List.{List, [], _∷_, _++_}
 use lib.ListN.{take}
-use Rattle.command_lines.specs.Pieces.{cut, partKept}
+use Rattle.command_lines.specs.Pieces.{partKept}
 use Rattle.rules.specs.Book.{Book, fresh}
-use Rattle.rules.specs.Day.{bookAfter, printedOf}
+use Rattle.rules.specs.Day.{cut, bookAfter, printedOf}
 use Rattle.rules.specs.EventLines.{refusalLine}
 
 pub record Carried : Type 0 where

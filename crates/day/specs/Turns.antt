@@ -10,7 +10,8 @@ use lib.Dec.{ltb}
 use lib.ListN.{length, take, drop}
 use Rattle.basics.specs.Bytes.{onto}
 use Rattle.basics.specs.Choice.{if_then_else_}
-use Rattle.command_lines.specs.Pieces.{cut, partKept}
+use Rattle.command_lines.specs.Pieces.{partKept}
+use Rattle.rules.specs.Day.{cut}
 use Rattle.day.specs.Feed.{worked}
 use Rattle.day.specs.Pieces.{printedAtEnd}
 use Rattle.rules.specs.Book.{Book, fresh}

@@ -25,7 +25,7 @@ use Rattle.rules.specs.declared.Resting.{Resting}
 use Rattle.rules.specs.Book.{Book, fresh, sound, recordOf}
 use Rattle.rules.specs.CommandLines.{Fitting, empty, fits, orderForm, numbersOf, formOf, commandIn}
 use Rattle.rules.specs.Commands.{carriedOut, does}
-use Rattle.rules.specs.Day.{linesIn, printed, bookAfter, printedOf}
+use Rattle.rules.specs.Day.{cut, unendedLine, linesIn, printed, bookAfter, printedOf}
 use Rattle.rules.specs.EventLines.{FitsEvent, eventLines, refusalLine}
 use Rattle.rules.specs.Instructions.{postOnly, has}
 use Rattle.rules.specs.Settling.{oppositeSide}
@@ -85,7 +85,7 @@ end-of-work-fits n o b l (fits w side i (fits x word j (fits y price q (fits z s
 -- so what is printed of it tells no execution
 pub post-only-executes-nothing : (b : Book) (line : List ℕ) (c : Command) (o : Order) → acts b line ≡ true → commandIn line ≡ reading.Is c
     → c .body ≡ body.Order o → has (o .word) postOnly ≡ true → All NoExecution (eventsIn (printed (answerTo b line)))
-unfolding printed linesIn eventsOn
+unfolding printed cut unendedLine linesIn eventsOn
 post-only-executes-nothing b line c o t e f p =
     let read = commandIn-is line c e .fits-are in
     let asOrder : Fitting orderForm (numbersOf (body.Order o)) = subst (λ (x : Body). Fitting (formOf x) (numbersOf x)) f (read .body) in

@@ -6,22 +6,17 @@ use mathlib.Core.Path.{_≡_, refl, ap, _∙_}
 use Rattle.basics.specs.Lists.{All, none, also}
 use Rattle.rules.specs.declared.Event.{Event}
 use Rattle.rules.specs.CommandLines.{written, line, lineFeed}
-use Rattle.rules.specs.Day.{joined, linesIn}
+use Rattle.rules.specs.Day.{linesIn}
 use Rattle.rules.specs.EventLines.{FitsEvent, eventForm, eventNumbers, eventLine, eventLines, refusalKind, refusalForm, refusalLine}
 use Rattle.rules.specs.EventReading.{eventIn}
+use Rattle.rules.proofs.LawsDay.{first-line}
 use Rattle.rules.proofs.LawsEventReading.{eventIn-eventLine, eventIn-refusalLine}
-use Rattle.rules.proofs.LawsUnended.{Unended, written-unended}
+use Rattle.rules.proofs.LawsUnended.{written-unended}
 use Rattle.demands.specs.Told.{readAs, eventsOn, eventsIn}
 
 -- ── Lines one after the other ──
 
--- a line ends at its own line feed, for its digits hold none
-first-line : {s : List ℕ} (rest : List ℕ) → Unended s → linesIn (s ++ (lineFeed ∷ rest)) ≡ (s ++ (lineFeed ∷ [])) ∷ linesIn rest
-unfolding linesIn joined
-first-line rest none = refl
-first-line rest (also e a) = rw (e, first-line rest a) refl
-
--- .. so the line of a form is the first of the lines that it begins
+-- a line ends at its own line feed, for its digits hold none: so the line of a form is the first of the lines that it begins
 pub line-first : (form ns rest : List ℕ) → linesIn (line form ns ++ rest) ≡ line form ns ∷ linesIn rest
 line-first form ns rest = ap linesIn (append-assoc (written form ns) (lineFeed ∷ []) rest) ∙ first-line rest (written-unended form ns)
 

@@ -27,7 +27,7 @@ use Rattle.rules.specs.declared.Resting.{Resting}
 use Rattle.rules.specs.Book.{Book, sound}
 use Rattle.rules.specs.CommandLines.{Fitting, empty, fits, headerForm, orderForm, quoteForm, numbersOf, formOf, commandIn}
 use Rattle.rules.specs.Commands.{carriedOut, does}
-use Rattle.rules.specs.Day.{linesIn, printed, printedOf}
+use Rattle.rules.specs.Day.{cut, unendedLine, linesIn, printed, printedOf}
 use Rattle.rules.specs.EventLines.{FitsEvent, eventLines, executedKind, restedKind, cancelledKind, movedKind, iocRemainder, fokKilled, cancelledBack, noPriceInRange, postOnlyMeets}
 use Rattle.rules.specs.Instructions.{ioc, fok, has}
 use Rattle.rules.specs.declared.Fate.{Fate}
@@ -209,7 +209,7 @@ module _ (b : Book) (line : List ℕ) (s : sound b ≡ true) where
 
 -- what is printed of a line tells its events
 pub line-told : (b : Book) (line : List ℕ) → sound b ≡ true → eventsIn (printed (answerTo b line)) ≡ answerTo b line .events
-unfolding linesIn eventsOn
+unfolding cut unendedLine linesIn eventsOn
 line-told b line s =
     sym (ap eventsIn (append-nil (printed (answerTo b line)))) ∙ line-read b line s [] ∙ append-nil (answerTo b line .events)
 
@@ -217,7 +217,7 @@ line-told b line s =
 
 -- what is printed of a run tells its events
 pub run-told : (b : Book) (lines : List (List ℕ)) → sound b ≡ true → eventsIn (printedOf b lines) ≡ eventsOf b lines
-unfolding printedOf eventsOf linesIn eventsOn
+unfolding printedOf eventsOf cut unendedLine linesIn eventsOn
 run-told b [] s = refl
 run-told b (line ∷ lines) s =
     let book = answerTo b line .book in
@@ -226,7 +226,7 @@ run-told b (line ∷ lines) s =
 
 -- and so do its event lines alone
 pub lines-read : (b : Book) (lines : List (List ℕ)) → sound b ≡ true → eventsIn (eventLinesOf byLine b lines) ≡ eventsOf b lines
-unfolding eventLinesOf eventsOf linesIn eventsOn
+unfolding eventLinesOf eventsOf cut unendedLine linesIn eventsOn
 lines-read b [] s = refl
 lines-read b (line ∷ lines) s =
     let book = answerTo b line .book in

@@ -26,7 +26,7 @@ pub data Crosses (away : Away) (h : Resting) : Bool → Type 0 where
   aSell : h .displayed ≡ false → away .bid .0 ≢ 0 → h .price .0 < away .bid .0 → Crosses away h false
 
 -- the order as it stands afterwards: "set at the Locking Price with a new time stamp" of command n (its place among the command's moves is
--- DECISIONS, 35), all else as it was
+-- DECISIONS, 43), all else as it was
 pub record SetAnew (buy : Bool) (n : Number) (away : Away) (h h′ : Resting) : Type 0 where
   pub price : h′ .price ≡ locking buy away
   pub stamp : h′ .stamp .command ≡ n

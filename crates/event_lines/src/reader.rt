@@ -8,7 +8,6 @@ use rules::EventReading;
 ghost use mathlib.Core.Path.{_≡_};
 ghost use Prim.Native.Nat.{_≤_};
 ghost use Rattle.basics.specs.Choice.{if_then_else_};
-ghost use Rattle.rules.specs.CommandLines.{numbersFrom};
 ghost use Rattle.rules.specs.EventLines.{executedFields, restedFields, cancelledFields};
 ghost use Rattle.rules.specs.EventReading.{executedOf, restedOf, cancelledOf, movedOf, eventOf, eventIn};
 ghost use Rattle.event_lines.specs.Ended.{whenEnded};
@@ -17,7 +16,7 @@ ghost use Rattle.event_lines.specs.Ended.{whenEnded};
 
 // Those of kind 11.
 fn read_executed(s: &[u8]) -> EventReading
-    ensures { λ r. ⌜ r ≡ eventOf executedOf (numbersFrom 2 executedFields (now (s .entry))) ⌝ }
+    ensures { λ r. ⌜ r ≡ eventOf executedFields executedOf (now (s .entry)) ⌝ }
 {
     let incoming = digits::field_at(s, 2, 4);
     let resting = digits::field_at(s, 10, 4);
@@ -36,7 +35,7 @@ fn read_executed(s: &[u8]) -> EventReading
 
 // The same of kinds 12 and 14, which are alike: an order at a price.
 fn read_at_price(s: &[u8], moved: bool) -> EventReading
-    ensures { λ r. ⌜ r ≡ eventOf (if moved then movedOf else restedOf) (numbersFrom 2 restedFields (now (s .entry))) ⌝ }
+    ensures { λ r. ⌜ r ≡ eventOf restedFields (if moved then movedOf else restedOf) (now (s .entry)) ⌝ }
 {
     let number = digits::field_at(s, 2, 4);
     let price = digits::field_at(s, 10, 4);
@@ -60,7 +59,7 @@ fn read_at_price(s: &[u8], moved: bool) -> EventReading
 
 // The same of kind 13.
 fn read_cancelled(s: &[u8]) -> EventReading
-    ensures { λ r. ⌜ r ≡ eventOf cancelledOf (numbersFrom 2 cancelledFields (now (s .entry))) ⌝ }
+    ensures { λ r. ⌜ r ≡ eventOf cancelledFields cancelledOf (now (s .entry)) ⌝ }
 {
     let number = digits::field_at(s, 2, 4);
     let shares = digits::field_at(s, 10, 4);

@@ -1,43 +1,32 @@
--- One turn of a loop that tests the orders of a side one after the other: what the order at its place says of those that lie
--- ahead. Assumes nothing.
-use Prim.Native.Nat.{ℕ, _+_, _-_, _≤_, _<_}
+-- What one turn of a loop over a side finds at its place, and the best of two sides. Assumes nothing.
+use Prim.Native.Nat.{ℕ, zero, suc, _+_, _-_, _≤_, _<_}
 use mathlib.Core.Bool.{Bool, true, false, not, _&&_, _||_}
 use mathlib.Core.List.{List, [], _∷_, map}
 use mathlib.Core.Logic.{⊎-elim}
 use mathlib.Core.Path.{_≡_, refl, sym, ap, _∙_}
 use lib.Dec.{eqb, ltb}
-use lib.ListN.{length, getD, take, drop}
-use lib.Seq.{take-all}
+use lib.ListN.{length, getD, take, drop, drop-of-length-le}
+use lib.Seq.{take-nil, drop-cons}
+use native.Mathlib.Numerals.{add-one}
 use native.Mathlib.Omega.{arith}
-use borrow.Author.Tests.{eqb-true, eqb-false}
-use Rattle.basics.proofs.LawsLists.{map-drop}
-use Rattle.basics.specs.Lists.{every, any, distinct}
-use Rattle.basics.proofs.LawsChoice.{lt-or-le, holds-or-not, or-neither}
+use borrow.Author.Tests.{not-true, not-false, eqb-true, eqb-false}
+use Rattle.basics.proofs.LawsLists.{map-take, map-drop, ahead-none, ahead-cons}
+use Rattle.basics.specs.Lists.{any}
+use Rattle.basics.proofs.LawsChoice.{holds-or-not, or-neither}
+use Rattle.kinds.specs.declared.Number.{Number}
 use Rattle.side.specs.Table.{orderOf, loaded}
 use Rattle.rules.specs.declared.Resting.{Resting}
-use Rattle.rules.specs.Book.{numbers, ranksBefore, inRankOrder, apart, placesASide}
-use Rattle.side.proofs.rows.LawsTable.{ahead, ahead-end, ahead-next}
+use Rattle.rules.specs.Book.{apart, isUnused}
+use Rattle.inspection.specs.Inspection.{orderSound, placeSound, sideSound}
 
--- ── A test of each element ──
+-- ── A number among others ──
 
 module _ {A : Type 0} (test : A → Bool) {s : List A} where
-  pub every-end : s ≡ [] → every test s ≡ true
-  unfolding every
-  every-end e = rw e
-
   pub any-end : s ≡ [] → any test s ≡ false
   unfolding any
   any-end e = rw e
 
   module _ {x : A} {u : List A} (is : s ≡ x ∷ u) where
-    pub every-fails : test x ≡ false → every test s ≡ false
-    unfolding every
-    every-fails f = rw (is, f)
-
-    pub every-next : test x ≡ true → every test s ≡ every test u
-    unfolding every
-    every-next p = rw (is, p)
-
     pub any-found : test x ≡ true → any test s ≡ true
     unfolding any
     any-found p = rw (is, p)
@@ -46,65 +35,58 @@ module _ {A : Type 0} (test : A → Bool) {s : List A} where
     unfolding any
     any-next f = rw (is, f)
 
--- ── No number twice ──
+-- ── The orders of a side from a place on ──
 
--- the number is none of these
-abbrev pub noneOf : List ℕ → ℕ → Bool
-noneOf s k = not (any (eqb k) s)
+module _ (n : ℕ) (t : List (List ℕ)) (i : ℕ) (whole : n ≤ length t) where
+  pub from-end : n ≤ i → drop i (loaded n t) ≡ []
+  from-end l = rw (← map-drop orderOf i (take n t), ahead-none [] t n i whole l)
 
--- `found` is what a search for the number answered
-module _ (s : List ℕ) (k : ℕ) (found : Bool) (is : found ≡ any (eqb k) s) where
-  pub none-fails : found ≡ true → noneOf s k ≡ false
-  none-fails f = rw (← is, f)
+  -- the next one is the order that was read
+  pub from-next : i < n → (o : Resting) → o ≡ orderOf (getD t i []) → drop i (loaded n t) ≡ o ∷ drop (i + 1) (loaded n t)
+  from-next l o e = rw (← map-drop orderOf i (take n t), ← map-drop orderOf (i + 1) (take n t), ahead-cons [] t n i whole l, e)
 
-  pub none-passes : found ≡ false → noneOf s k ≡ true
-  none-passes f = rw (← is, f)
+-- ── A place of a side ──
 
-pub distinct-end : {s : List ℕ} → s ≡ [] → distinct s ≡ true
-unfolding distinct
-distinct-end e = rw e
+-- the first places that are behind a place, and those behind it of the first ones
+drop-take : {A : Type 0} (i n : ℕ) (s : List A) → drop i (take n s) ≡ take (n - i) (drop i s)
+drop-take zero n s = let e : n - zero ≡ n = omega arith in rw e
+drop-take (suc i) zero s = let e : zero - suc i ≡ 0 = omega arith in rw e
+drop-take (suc i) (suc n) [] = sym (take-nil (suc n - suc i))
+drop-take (suc i) (suc n) (x ∷ s) = let e : suc n - suc i ≡ n - i = omega arith in rw e (drop-take i n s)
 
--- the search for the first number goes through the others, as `others`
-module _ {s u others : List ℕ} {k : ℕ} (next : s ≡ k ∷ u) (rest : u ≡ others) (found : Bool) (is : found ≡ any (eqb k) others) where
-  pub distinct-fails : found ≡ true → distinct s ≡ false
-  unfolding distinct
-  distinct-fails f = rw (next, rest, none-fails others k found is f)
+module _ (buy : Bool) (last : Number) (others : List ℕ) (n : ℕ) (t : List (List ℕ)) (i : ℕ) where
+  pub place-unused : n ≤ i → (o : Resting) → placeSound buy last others (n - i) o (drop (i + 1) (map orderOf t)) ≡ isUnused o
+  unfolding placeSound
+  place-unused l o = let e : n - i ≡ 0 = omega arith in rw e
 
-  pub distinct-next : found ≡ false → distinct s ≡ distinct u
-  unfolding distinct
-  distinct-next f = rw (next, rest, none-passes others k found is f)
+  pub place-used : i < n → (o : Resting)
+      → placeSound buy last others (n - i) o (drop (i + 1) (map orderOf t)) ≡ orderSound buy last others o (drop (i + 1) (loaded n t))
+  unfolding placeSound
+  place-used l o =
+      let e : n - i ≡ suc (n - (i + 1)) = omega arith in
+      rw (e, map-take orderOf n t, drop-take (i + 1) n (map orderOf t))
 
--- ── The orders of a side ──
+  pub side-end : length t ≤ i → sideSound buy last others (n - i) (drop i (map orderOf t)) ≡ true
+  unfolding sideSound
+  side-end l = rw (← map-drop orderOf i t, drop-of-length-le t l)
 
--- the places after the used ones are ahead at the first of them
-pub ahead-unused : (n : ℕ) (t : List (List ℕ)) → length t ≡ placesASide → ahead placesASide t n ≡ drop n (map orderOf t)
-ahead-unused n t whole =
-    let e : take placesASide t ≡ t = take-all placesASide t (omega arith) in
-    rw e (map-drop orderOf n t)
+  -- `found` is what was found of the place
+  module _ (l : i < length t) (found : Bool)
+      (is : found ≡ placeSound buy last others (n - i) (orderOf (getD t i [])) (drop (i + 1) (map orderOf t))) where
+    side-turn : sideSound buy last others (n - i) (drop i (map orderOf t))
+        ≡ (found && sideSound buy last others (n - (i + 1)) (drop (i + 1) (map orderOf t)))
+    unfolding sideSound
+    side-turn =
+        let next : drop i t ≡ getD t i [] ∷ drop (i + 1) t = rw (add-one i) (drop-cons t i [] l) in
+        let e : n - i - 1 ≡ n - (i + 1) = omega arith in
+        rw (is, ← map-drop orderOf i t, ← map-drop orderOf (i + 1) t, next, e)
 
--- the numbers ahead are those of the side from the place on
-pub ahead-numbers : (n : ℕ) (t : List (List ℕ)) (i : ℕ) → numbers (ahead n t i) ≡ drop i (numbers (loaded n t))
-ahead-numbers n t i = ap numbers (map-drop orderOf i (take n t)) ∙ map-drop (λ (o : Resting). o .number .0) i (loaded n t)
+    pub side-fails : not found ≡ true → sideSound buy last others (n - i) (drop i (map orderOf t)) ≡ false
+    side-fails f = side-turn ∙ rw (not-true found f)
 
--- ── Rank ──
-
--- the loop compares the order at its place with the one before it
-module _ (buy : Bool) (n : ℕ) (t : List (List ℕ)) (i : ℕ) (whole : n ≤ length t) (second : 1 ≤ i) where
-  pub rank-end : n ≤ i → inRankOrder buy (ahead n t (i - 1)) ≡ true
-  unfolding inRankOrder
-  rank-end l =
-      let e : i - 1 + 1 ≡ i = omega arith in
-      ⊎-elim
-      (λ (p : i - 1 < n). rw (ahead-next n t (i - 1) whole p (orderOf (getD t (i - 1) [])) refl, e, ahead-end n t i whole l))
-      (λ (p : n ≤ i - 1). rw (ahead-end n t (i - 1) whole p))
-      (lt-or-le (i - 1) n)
-
-  pub rank-turn : i < n → (x y : Resting) → x ≡ orderOf (getD t (i - 1) []) → y ≡ orderOf (getD t i [])
-      → inRankOrder buy (ahead n t (i - 1)) ≡ (ranksBefore buy x y && inRankOrder buy (ahead n t i))
-  unfolding inRankOrder
-  rank-turn l x y ex ey =
-      let e : i - 1 + 1 ≡ i = omega arith in
-      rw (ahead-next n t (i - 1) whole (omega arith) x ex, e, ahead-next n t i whole l y ey)
+    pub side-next : not found ≡ false
+        → sideSound buy last others (n - i) (drop i (map orderOf t)) ≡ sideSound buy last others (n - (i + 1)) (drop (i + 1) (map orderOf t))
+    side-next f = side-turn ∙ rw (not-false found f)
 
 -- ── The best of two sides ──
 
@@ -127,7 +109,7 @@ module _ (n m : ℕ) (t u : List (List ℕ)) where
   apart-best wholeT wholeU some x y ex ey =
       let p : 0 < n = positive n (or-neither (eqb n 0) (eqb m 0) some .0) in
       let q : 0 < m = positive m (or-neither (eqb n 0) (eqb m 0) some .1) in
-      rw (ahead-next n t 0 wholeT p x ex, ahead-next m u 0 wholeU q y ey)
+      rw (from-next n t 0 wholeT p x ex, from-next m u 0 wholeU q y ey)
     where
       positive : (k : ℕ) → eqb k 0 ≡ false → 0 < k
       positive k h = let z : k ≡ 0 → ⊥ = eqb-false k 0 h in omega arith

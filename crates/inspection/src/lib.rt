@@ -5,17 +5,16 @@ use side::rows;
 use side::rows::PLACES;
 use side::rows::Rows;
 use side::tables::Head;
-ghost use mathlib.Core.Bool.{not};
-ghost use mathlib.Core.List.{map};
+ghost use mathlib.Core.List.{[], map};
 ghost use mathlib.Core.Path.{_≡_};
-ghost use Prim.Native.Nat.{_≤_};
+ghost use Prim.Native.Nat.{_+_, _-_, _≤_, _<_};
 ghost use lib.Dec.{eqb};
-ghost use lib.ListN.{drop};
-ghost use Rattle.basics.specs.Lists.{every, any, distinct};
+ghost use lib.ListN.{getD, drop};
+ghost use Rattle.basics.specs.Lists.{any};
 ghost use Rattle.side.specs.Table.{orderOf, loaded};
-ghost use Rattle.rules.specs.Book.{numbers, placesASide, restingInRange, isUnused, inRankOrder, apart, recordSound};
+ghost use Rattle.rules.specs.Book.{numbers, placesASide, restingInRange, apart, recordSound};
 ghost use Rattle.side.specs.Tables.{recordOn};
-ghost use Rattle.inspection.specs.Inspection.{headSound, sideSound};
+ghost use Rattle.inspection.specs.Inspection.{ranksBeforeNext, placeSound, sideSound, headSound};
 
 // ── One order ──
 
@@ -33,61 +32,24 @@ fn in_range(last: Number, o: Resting) -> bool
         & ((o.number.0 <= stamp.command.0) & (stamp.command.0 <= last.0))
 }
 
-// ── One side ──
+// ── One place ──
 
-fn all_in_range(t: &Rows, n: usize, last: Number) -> bool
+// Whether the order ranks before the one at place `next`, if there is one.
+fn ranks_before_next(t: &Rows, n: usize, next: usize, buying: bool, o: Resting) -> bool
     requires { ⌜ n ≤ placesASide ⌝ }
-    ensures { λ r. ⌜ r ≡ every (restingInRange last) (loaded n (now (t .entry))) ⌝ }
+    ensures { λ r. ⌜ r ≡ ranksBeforeNext buying o (drop next (loaded n (now (t .entry)))) ⌝ }
 {
     rows::whole(t);
-    let mut i = 0;
-    while i < n {
-        if !in_range(last, rows::row(t, i)) {
-            return false;
-        }
-        i += 1;
+    if n <= next {
+        return true;
     }
-    true
+    side::ranks_before(buying, o, rows::row(t, next))
 }
-
-// Unused places are all zero.
-fn all_unused(t: &Rows, n: usize) -> bool
-    requires { ⌜ n ≤ placesASide ⌝ }
-    ensures { λ r. ⌜ r ≡ every isUnused (drop n (map orderOf (now (t .entry)))) ⌝ }
-{
-    rows::whole(t);
-    let mut i = n;
-    while i < PLACES {
-        if !rows::is_unused(rows::row(t, i)) {
-            return false;
-        }
-        i += 1;
-    }
-    true
-}
-
-// Used places are in strict rank order.
-fn in_rank_order(t: &Rows, n: usize, buying: bool) -> bool
-    requires { ⌜ n ≤ placesASide ⌝ }
-    ensures { λ r. ⌜ r ≡ inRankOrder buying (loaded n (now (t .entry))) ⌝ }
-{
-    rows::whole(t);
-    let mut i = 1;
-    while i < n {
-        if !side::ranks_before(buying, rows::row(t, i - 1), rows::row(t, i)) {
-            return false;
-        }
-        i += 1;
-    }
-    true
-}
-
-// ── Numbers ──
 
 // Whether an order from place `from` on has the number.
 fn has_number(t: &Rows, n: usize, from: usize, number: Number) -> bool
     requires { ⌜ (n ≤ placesASide) × (from ≤ n) ⌝ }
-    ensures { λ r. ⌜ r ≡ any (eqb (number .0)) (drop from (numbers (loaded n (now (t .entry))))) ⌝ }
+    ensures { λ r. ⌜ r ≡ any (eqb (number .0)) (numbers (drop from (loaded n (now (t .entry))))) ⌝ }
 {
     rows::whole(t);
     let mut i = from;
@@ -101,33 +63,43 @@ fn has_number(t: &Rows, n: usize, from: usize, number: Number) -> bool
     false
 }
 
-// No number stands twice on a side.
-fn none_twice(t: &Rows, n: usize) -> bool
-    requires { ⌜ n ≤ placesASide ⌝ }
-    ensures { λ r. ⌜ r ≡ distinct (numbers (loaded n (now (t .entry)))) ⌝ }
+// What sound says of place `i` of a side of which the first `n` places are used. An order is compared with those behind it, and its
+// number with those of the first `m` orders of the other side.
+fn place_sound(
+    t: &Rows,
+    n: usize,
+    buying: bool,
+    last: Number,
+    other: &Rows,
+    m: usize,
+    i: usize,
+) -> bool
+    requires { ⌜ (n ≤ placesASide) × (m ≤ placesASide) × (i < placesASide) ⌝ }
+    ensures { λ r. ⌜ r ≡ placeSound buying last (numbers (loaded m (now (other .entry)))) (n - i) (orderOf (getD (now (t .entry)) i []))
+        (drop (i + 1) (map orderOf (now (t .entry)))) ⌝ }
 {
-    rows::whole(t);
-    let mut i = 0;
-    while i < n {
-        let o = rows::row(t, i);
-        if has_number(t, n, i + 1, o.number) {
-            return false;
-        }
-        i += 1;
+    let o = rows::row(t, i);
+    if n <= i {
+        return rows::is_unused(o);
     }
-    true
+    let ranged = in_range(last, o);
+    let ranked = ranks_before_next(t, n, i + 1, buying, o);
+    let again = has_number(t, n, i + 1, o.number);
+    let opposite = has_number(other, m, 0, o.number);
+    ranged & ranked & !again & !opposite
 }
 
-// No number of the first side stands on the second.
-fn none_on_both(t: &Rows, n: usize, other: &Rows, m: usize) -> bool
+// ── One side ──
+
+// The same of all places of the side.
+pub fn side_sound(t: &Rows, n: usize, buying: bool, last: Number, other: &Rows, m: usize) -> bool
     requires { ⌜ (n ≤ placesASide) × (m ≤ placesASide) ⌝ }
-    ensures { λ r. ⌜ r ≡ every (λ k. not (any (eqb k) (numbers (loaded m (now (other .entry)))))) (numbers (loaded n (now (t .entry)))) ⌝ }
+    ensures { λ r. ⌜ r ≡ sideSound buying last (numbers (loaded m (now (other .entry)))) n (map orderOf (now (t .entry))) ⌝ }
 {
     rows::whole(t);
     let mut i = 0;
-    while i < n {
-        let o = rows::row(t, i);
-        if has_number(other, m, 0, o.number) {
+    while i < PLACES {
+        if !place_sound(t, n, buying, last, other, m, i) {
             return false;
         }
         i += 1;
@@ -167,18 +139,6 @@ fn head_sound(h: Head) -> bool
         & (!held.closed | ((h.buys == 0) & (h.sells == 0)))
 }
 
-// What sound says of one side alone, and of its unused places.
-fn side_sound(t: &Rows, n: usize, buying: bool, last: Number) -> bool
-    requires { ⌜ n ≤ placesASide ⌝ }
-    ensures { λ r. ⌜ r ≡ sideSound buying last n (now (t .entry)) ⌝ }
-{
-    let ranked = in_rank_order(t, n, buying);
-    let ranged = all_in_range(t, n, last);
-    let zero = all_unused(t, n);
-    let once = none_twice(t, n);
-    ranked & ranged & zero & once
-}
-
 pub fn is_sound(h: Head, buys: &Rows, sells: &Rows) -> bool
     ensures { λ r. ⌜ r ≡ recordSound (recordOn h (now (buys .entry)) (now (sells .entry))) ⌝ }
 {
@@ -191,14 +151,9 @@ pub fn is_sound(h: Head, buys: &Rows, sells: &Rows) -> bool
     if (PLACES < n) | (PLACES < m) {
         return false;
     }
-    if !side_sound(buys, n, true, last) {
-        return false;
-    }
-    if !side_sound(sells, m, false, last) {
-        return false;
-    }
-    if !none_on_both(buys, n, sells, m) {
-        return false;
-    }
-    head_sound(h) & are_apart(buys, n, sells, m)
+    let bought = side_sound(buys, n, true, last, sells, m);
+    // The numbers of the buys were compared with all of these: for the sells none of the other side is left to compare.
+    let sold = side_sound(sells, m, false, last, buys, 0);
+    let apart = are_apart(buys, n, sells, m);
+    bought & sold & apart & head_sound(h)
 }

@@ -4,14 +4,17 @@ use book::Book;
 use book::NO_ORDERS;
 use book::Reply;
 use book::Side;
+use kinds::Number;
 use rules::Resting;
 use side::rows;
 use side::rows::PLACES;
+use side::rows::Rows;
+use side::tables;
 ghost use mathlib.Core.Bool.{false};
 ghost use mathlib.Core.Path.{_≡_};
 ghost use Prim.Native.Nat.{_<_};
 ghost use lib.ListN.{length, getD, set, replicate};
-ghost use Rattle.basics.specs.Lists.{every, firstWhere};
+ghost use Rattle.basics.specs.Lists.{firstWhere};
 ghost use Rattle.book.specs.Record.{recordIn, bookWith, placesOn, sideWith, replyOf};
 ghost use Rattle.rules.specs.Book.{placesASide, unused, isUnused};
 ghost use Rattle.rules.specs.Refusals.{firstOf, fitRefusals};
@@ -103,26 +106,15 @@ fn used_in(places: [Resting; PLACES]) -> usize
     i
 }
 
-fn all_unused(places: [Resting; PLACES]) -> bool
-    ensures { λ r. ⌜ r ≡ every isUnused places ⌝ }
-    ensures { λ _. ⌜ length places ≡ placesASide ⌝ }
-{
-    let mut i = 0;
-    while i < PLACES {
-        let o = places[i];
-        if !rows::is_unused(o) {
-            return false;
-        }
-        i += 1;
-    }
-    true
-}
-
+// Of a side without orders sound says that each place is unused, whatever the side, the last number and the other side are.
 fn is_empty(s: Side) -> bool
     ensures { λ r. ⌜ r ≡ isEmpty (placesOn s) ⌝ }
 {
     let places = s.places;
-    (s.used == 0) & all_unused(places)
+    let mut t: Rows = [[0; rows::WORDS]; PLACES];
+    tables::load(&mut t, places);
+    rows::whole(&t);
+    (s.used == 0) & inspection::side_sound(&t, 0, true, Number(0), &t, 0)
 }
 
 fn side_of(book: Book, buys: bool) -> Side

@@ -18,7 +18,7 @@ use Rattle.rules.specs.Instructions.{market, has}
 use Rattle.rules.specs.Refusals.{orderPriceInRange, orderInRange}
 use Rattle.rules.specs.Settling.{ownSide, oppositeSide}
 use Rattle.rules.specs.Working.{buying, lockingPrice}
-use Rattle.orders.proofs.LawsOlder.{older-all, away-at-most}
+use Rattle.settling.proofs.LawsOlder.{older-all, away-at-most}
 use Rattle.soundness.proofs.LawsSides.{sides-of}
 use Rattle.soundness.proofs.LawsSound.{Sound, sound-is}
 

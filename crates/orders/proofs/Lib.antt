@@ -1,4 +1,3 @@
-pub mod LawsOlder
 pub mod LawsReady
 pub mod LawsEntered
 pub mod Determined

@@ -1,22 +1,16 @@
 // The prices that an order goes by (01, How an order is worked): how far its walk goes (step 1), and the price that a Day
 // remainder seeks (step 4).
-use crate::walk;
 use judge::instructions;
 use kinds::Cents;
 use rules::Away;
 use rules::Ending;
 use rules::Order;
+use side::prices;
 ghost use mathlib.Core.Path.{_≡_};
 ghost use Prim.Native.Nat.{_<_};
 ghost use Rattle.kinds.specs.Kinds.{largest};
 ghost use Rattle.rules.specs.Working.{buying, lockingPrice, oneCentLessAggressive, adjusted, seeks};
 ghost use Rattle.orders.specs.Bound.{farthest, boundOf};
-
-pub fn locking_price(buy: bool, away: Away) -> Cents
-    ensures { λ r. ⌜ r ≡ lockingPrice buy away ⌝ }
-{
-    if buy { away.offer } else { away.bid }
-}
 
 // ── Step 1: how far the walk goes ──
 
@@ -40,11 +34,11 @@ pub(crate) fn bound_of(o: Order, away: Away) -> Cents
 {
     let buy = o.side == 0;
     let limit = limit_of(o);
-    let locking = locking_price(buy, away);
+    let locking = prices::locking_price(buy, away);
     if instructions::has(o.word, rules::ISO) | (locking.0 == 0) {
         return limit;
     }
-    if walk::within(buy, locking, limit) {
+    if prices::within(buy, locking, limit) {
         return limit;
     }
     locking
@@ -81,11 +75,11 @@ pub(crate) fn seek(o: Order, away: Away) -> Ending
 {
     let buy = o.side == 0;
     let price = o.price;
-    let locking = locking_price(buy, away);
+    let locking = prices::locking_price(buy, away);
     if instructions::has(o.word, rules::ISO) | (locking.0 == 0) {
         return Ending::Rests(price);
     }
-    let crosses = !walk::within(buy, locking, price);
+    let crosses = !prices::within(buy, locking, price);
     let displayed = instructions::has(o.word, rules::DISPLAYED);
     if displayed & ((price.0 == locking.0) | crosses) {
         return adjust(o, less_aggressive(buy, locking));

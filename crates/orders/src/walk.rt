@@ -2,18 +2,18 @@
 use kinds::Cents;
 use kinds::Shares;
 use rules::Resting;
+use side::prices;
 use side::rows;
 use side::rows::Index;
 use side::rows::PLACES;
 use side::rows::Rows;
-ghost use mathlib.Core.Bool.{not};
 ghost use mathlib.Core.List.{[], map};
 ghost use mathlib.Core.Path.{_≡_};
 ghost use Prim.Native.Nat.{_+_, _-_, _<_};
 ghost use lib.ListN.{length, getD, set};
 ghost use Rattle.side.specs.Table.{side, Holds};
 ghost use Rattle.rules.specs.Book.{placesASide};
-ghost use Rattle.rules.specs.Working.{beyond, smaller};
+ghost use Rattle.rules.specs.Working.{smaller};
 ghost use Rattle.orders.specs.Walk.{mostTakings, isWithin, taking, takingRow, takingIn, laid, laidAt, walkedOf, takingsOf};
 
 // Room for the takings of one walk: an order gives once at most.
@@ -80,13 +80,6 @@ pub(crate) fn taking_at(took: &Takings, i: usize) -> Taking
 
 // ── The walk ──
 
-// Whether a price is not beyond a bound. By values and not by ways, so that it compiles to no branch.
-pub fn within(buying: bool, bound: Cents, price: Cents) -> bool
-    ensures { λ r. ⌜ r ≡ not (beyond buying bound price) ⌝ }
-{
-    !((buying & (bound.0 < price.0)) | (!buying & (price.0 < bound.0)))
-}
-
 // Takes from the order at a rank what it gives, as the next taking. One that gives nothing is no taking.
 fn take_from(took: &mut Takings, count: usize, left: Shares, place: usize, o: Resting) -> Taken
     requires { ⌜ (count < mostTakings) × (place < placesASide) ⌝ }
@@ -145,7 +138,7 @@ pub(crate) fn walk(
             break;
         }
         let o = rows::at(x, t, n, at);
-        if !within(buying, bound, o.price) {
+        if !prices::within(buying, bound, o.price) {
             break;
         }
         let taken = take_from(took, count, left, at, o);

@@ -10,6 +10,7 @@ use kinds::Shares;
 use rules::Away;
 use rules::Ending;
 use rules::Order;
+use side::prices;
 use side::rows;
 use side::rows::Index;
 use side::rows::Rows;
@@ -62,7 +63,7 @@ fn meets(x: &Index, t: &Rows, n: usize, buy: bool, price: Cents) -> bool
         return false;
     }
     let best = rows::at(x, t, n, 0);
-    walk::within(buy, price, best.price)
+    prices::within(buy, price, best.price)
 }
 
 // Step 5, of an order that is Post Only.

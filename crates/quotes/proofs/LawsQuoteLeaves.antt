@@ -20,7 +20,7 @@ use Rattle.rules.specs.Working.{lockingPrice}
 use Rattle.rules.proofs.LawsCommands.{quote-does}
 use Rattle.rules.proofs.LawsEvents.{told-long}
 use Rattle.side.specs.Looking.{priceBound, Older}
-use Rattle.orders.proofs.LawsOlder.{older-all, away-at-most}
+use Rattle.settling.proofs.LawsOlder.{older-all, away-at-most}
 use Rattle.soundness.proofs.LawsKept.{locking-ranged}
 use Rattle.soundness.proofs.LawsSides.{sides-of}
 use Rattle.soundness.proofs.LawsSound.{sound-is}

@@ -20,7 +20,7 @@ use Rattle.rules.specs.declared.Event.{Event}
 use Rattle.rules.specs.declared.Order.{Order}
 use Rattle.rules.specs.Book.{Book, fresh, sound}
 use Rattle.rules.specs.CommandLines.{Fitting, empty, fits, orderForm, formOf, numbersOf}
-use Rattle.rules.specs.Day.{linesIn, printed, printedOf}
+use Rattle.rules.specs.Day.{cut, unendedLine, linesIn, printed, printedOf}
 use Rattle.rules.specs.EventLines.{FitsEvent, eventForm, eventNumbers, eventLine, eventLines, refusalKind, refusalForm, refusalLine}
 use Rattle.rules.specs.Step.{answerTo}
 use Rattle.rules.proofs.LawsEventReading.{eventIn-eventLine, event-kind, refusal-kind}
@@ -141,7 +141,7 @@ module _ (n : Number) where
   run-has : (b : Book) (ls : List (List ℕ)) → sound b ≡ true → (t : Tally) (x y : ℕ) → Has t x y
       → x + sumOf (executedBy n) (eventsOf b ls) ≤ largest → y + sumOf (cancelledBy n) (eventsOf b ls) ≤ largest
       → Has (afterLines (turn n) t (linesIn (printedOf b ls))) (x + sumOf (executedBy n) (eventsOf b ls)) (y + sumOf (cancelledBy n) (eventsOf b ls))
-  unfolding printedOf eventsOf linesIn afterLines sumOf
+  unfolding printedOf eventsOf cut unendedLine linesIn afterLines sumOf
   run-has b [] s t x y h p q = has-same (x + 0) (y + 0) (omega arith) (omega arith) h
   run-has b (l ∷ ls) s t x y h p q =
       let es = answerTo b l .events in

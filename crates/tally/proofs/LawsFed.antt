@@ -9,7 +9,8 @@ use native.Mathlib.Omega.{arith}
 use Rattle.basics.specs.Lists.{firstWhere}
 use Rattle.kinds.specs.declared.Number.{Number}
 use Rattle.command_lines.specs.Lines.{isLineFeed}
-use Rattle.command_lines.specs.Pieces.{Cut, cut, afterLines}
+use Rattle.command_lines.specs.Pieces.{afterLines}
+use Rattle.rules.specs.Day.{Cut, cut}
 use Rattle.command_lines.proofs.lines.LawsCut.{afterFirst, cut-line, cut-none}
 use Rattle.tally.specs.declared.TalliedPiece.{TalliedPiece}
 use Rattle.tally.specs.declared.Tally.{Tally}

@@ -15,10 +15,9 @@ use Rattle.digits.specs.Digits.{numberIn, numberAt}
 use Rattle.kinds.specs.declared.Number.{Number}
 use Rattle.command_lines.specs.Pieces.{partKept, allOf}
 use Rattle.command_lines.proofs.lines.LawsPieces.{cut-alike}
-use Rattle.rules.specs.declared.Event.{Event}
 use Rattle.rules.specs.declared.EventReading.{EventReading}
 use Rattle.rules.specs.declared.EventReading.the-variants.{UnknownKind, TrailingBytes}
-use Rattle.rules.specs.CommandLines.{digitsIn}
+use Rattle.rules.specs.CommandLines.{Making, digitsIn}
 use Rattle.rules.specs.EventLines.{executedKind, restedKind, cancelledKind, movedKind, executedFields, restedFields, cancelledFields, movedFields, withKind}
 use Rattle.rules.specs.EventReading.{executedOf, restedOf, cancelledOf, movedOf, ofFields, ofKind, eventIn}
 use Rattle.tally.specs.declared.Tally.{Tally}
@@ -34,7 +33,7 @@ readLong (value.Is kind) =
     else UnknownKind
 readLong value.Bad = UnknownKind
 
-fields-long : (fields : List ℕ) (make : List ℕ → Event) (s : List ℕ) → digitsIn (withKind fields) + 1 < length s → ofFields fields make s ≡ TrailingBytes
+fields-long : (fields : List ℕ) (make : Making fields EventReading) (s : List ℕ) → digitsIn (withKind fields) + 1 < length s → ofFields fields make s ≡ TrailingBytes
 unfolding ofFields
 fields-long fields make s l =
     let n = digitsIn (withKind fields) + 1 in

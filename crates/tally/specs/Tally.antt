@@ -13,11 +13,11 @@ use Rattle.rules.specs.declared.Event.the-variants.{Executed, Rested, Cancelled
 use Rattle.rules.specs.declared.EventReading.{EventReading}
 use Rattle.rules.specs.declared.EventReading.the-variants as reading
 use Rattle.digits.specs.Digits.{numberAt}
-use Rattle.rules.specs.Day.{linesIn}
+use Rattle.rules.specs.Day.{cut, linesIn}
 use Rattle.rules.specs.EventLines.{refusalKind}
 use Rattle.rules.specs.EventReading.{eventIn, isKind}
 use Rattle.demands.specs.Told.{cancelledBy}
-use Rattle.command_lines.specs.Pieces.{cut, partKept, afterLines, afterPieces}
+use Rattle.command_lines.specs.Pieces.{partKept, afterLines, afterPieces}
 use Rattle.tally.specs.declared.TalliedPiece.{TalliedPiece}
 use Rattle.tally.specs.declared.Stop.{Stop}
 use Rattle.tally.specs.declared.Stop.the-variants as stop

@@ -11,12 +11,13 @@ use lib.Seq.{take-at, drop-at}
 use native.Mathlib.Omega.{arith}
 use Rattle.basics.specs.Bytes.{onto}
 use Rattle.basics.proofs.LawsChoice.{holds-or-not}
-use Rattle.command_lines.specs.Pieces.{inFront, cut, allOf, carried, partKept}
+use Rattle.command_lines.specs.Pieces.{allOf, carried, partKept}
+use Rattle.rules.specs.Day.{inFront, cut}
 use Rattle.rules.specs.CommandLines.{lineFeed}
 
 -- ── The part of a line ──
 
-front-all : (c : ℕ) (whole : List (List ℕ)) (part : List ℕ) → allOf (inFront c whole part .whole) ++ inFront c whole part .part ≡ c ∷ (allOf whole ++ part)
+front-all : (c : ℕ) (whole : List (List ℕ)) (part : List ℕ) → allOf (inFront (c ∷ []) whole part .whole) ++ inFront (c ∷ []) whole part .part ≡ c ∷ (allOf whole ++ part)
 unfolding inFront allOf
 front-all c [] part = refl
 front-all c (l ∷ ls) part = refl

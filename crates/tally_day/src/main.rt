@@ -12,7 +12,8 @@ use tally::Tally;
 ghost use mathlib.Core.Path.{_≡_};
 ghost use Prim.Native.Nat.{_≤_, _<_};
 ghost use lib.ListN.{length, take};
-ghost use Rattle.command_lines.specs.Pieces.{cut, partKept, afterLines, afterPart};
+ghost use Rattle.command_lines.specs.Pieces.{partKept, afterLines, afterPart};
+ghost use Rattle.rules.specs.Day.{cut};
 ghost use Rattle.tally.specs.Tally.{turn};
 ghost use Rattle.tally_day.specs.Decimal.{isDecimal, decimalIn};
 

@@ -8,8 +8,8 @@ use lib.ListN.{length, take, drop}
 use native.Mathlib.Omega.{arith}
 use Rattle.basics.specs.Lists.{firstWhere}
 use Rattle.basics.proofs.LawsChoice.{holds-or-not}
+use Rattle.rules.specs.Day.{Cut, cut, inFront}
 use Rattle.command_lines.specs.Lines.{isLineFeed}
-use Rattle.command_lines.specs.Pieces.{Cut, cut, inFront}
 
 -- ── The first line ──
 
@@ -26,7 +26,7 @@ cut-line (c ∷ s) l =
     (λ (t : isLineFeed c ≡ false).
     let m : suc (firstWhere isLineFeed s) < suc (length s) = rw t at l in
     let e : cut s ≡ afterFirst (firstWhere isLineFeed s) s = cut-line s (omega arith) in
-    rw t (ap (λ (x : Cut). inFront c (x .whole) (x .part)) e))
+    rw t (ap (λ (x : Cut). inFront (c ∷ []) (x .whole) (x .part)) e))
     (holds-or-not (isLineFeed c))
 
 pub cut-none : (s : List ℕ) → length s ≤ firstWhere isLineFeed s → cut s ≡ record { whole = []; part = s }

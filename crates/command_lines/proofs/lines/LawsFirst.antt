@@ -17,12 +17,12 @@ use Rattle.rules.specs.declared.Body.the-variants.{Order, Cancel, Quote, Close}
 use Rattle.rules.specs.declared.Command.{Command}
 use Rattle.rules.specs.declared.Reading.{Reading}
 use Rattle.rules.specs.declared.Reading.the-variants as reading
-use Rattle.rules.specs.CommandLines.{lineFeed, headerForm, kindOf, formOf, numbersOf, digitsWithHeader, written, lineOf, commandIn}
+use Rattle.rules.specs.CommandLines.{kinds, lineFeed, headerForm, kindOf, formOf, numbersOf, digitsWithHeader, written, lineOf, commandIn}
 use Rattle.rules.proofs.LawsLines.{commandIn-is}
 use Rattle.rules.proofs.LawsUnended.{Unended, written-unended}
 use Rattle.rules.proofs.LawsWriting.{length-lineOf}
 use Rattle.command_lines.specs.declared.lines.Line.{Line}
-use Rattle.command_lines.specs.Lines.{isLineFeed, toLineFeed, firstLine, otherLine, digitsAfter}
+use Rattle.command_lines.specs.Lines.{isLineFeed, toLineFeed, firstLine, otherLine, digitsFrom, digitsAfter}
 use Rattle.command_lines.proofs.lines.LawsScanned.{unended-bad}
 
 -- ── The line feed of a command ──
@@ -63,7 +63,7 @@ first-command s n c l is = rw (command-feed s n c l is) (ap (λ (r : Reading). a
 
 -- the second digit of a command tells how many it has
 second-tells : (c : Command) → digitsAfter (getD (lineOf c) 1 0) ≡ digitsWithHeader (formOf (c .body))
-unfolding lineOf written digits digitsAfter
+unfolding lineOf written digits digitsAfter digitsFrom kinds
 second-tells c = by-body (c .body)
   where
     by-body : (b : Body) → digitsAfter (getD (lineOf (record { number = c .number; time = c .time; body = b })) 1 0) ≡ digitsWithHeader (formOf b)

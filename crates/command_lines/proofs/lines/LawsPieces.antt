@@ -1,40 +1,19 @@
 -- An input leads a state on to the same wherever it is cut into pieces, though of a part of a line no more than some bytes are kept:
 -- as long as lines that begin with the same so many bytes lead to the same. Assumes nothing.
 use Prim.Native.Nat.{ℕ, zero, suc, _≤_, _<_}
-use mathlib.Core.Bool.{true, false}
 use mathlib.Core.List.{List, [], _∷_, _++_, append-assoc, append-nil}
-use mathlib.Core.Logic.{_⊎_, inl, inr, ⊎-elim}
+use mathlib.Core.Logic.{_⊎_, inl, inr}
 use mathlib.Core.Path.{_≡_, refl, sym, ap, _∙_}
-use lib.Dec.{eqb}
 use lib.ListN.{length, take, length-append}
 use lib.Seq.{take-all, take-take, take-append-le, length-take-le}
 use native.Mathlib.Omega.{arith}
 use Rattle.basics.specs.Lists.{none, also}
 use Rattle.basics.proofs.LawsLists.{all-both}
-use Rattle.basics.proofs.LawsChoice.{holds-or-not, lt-or-le}
-use Rattle.rules.specs.CommandLines.{lineFeed}
-use Rattle.rules.specs.Day.{joined, linesIn}
+use Rattle.basics.proofs.LawsChoice.{lt-or-le}
+use Rattle.rules.specs.Day.{Cut, inFront, cut, unendedLine, linesIn}
+use Rattle.rules.proofs.LawsDay.{part-unended, cut-behind, unended-line, lines-go-on}
 use Rattle.rules.proofs.LawsUnended.{Unended}
-use Rattle.command_lines.specs.Pieces.{Cut, inFront, cut, allOf, afterLines, afterPart, afterPieces}
-
--- ── An input that goes on ──
-
--- its lines are the whole lines of what came first, and those of the part behind them with what goes on
-module _ (u : List ℕ) where
-  joined-front : (c : ℕ) (whole : List (List ℕ)) (part : List ℕ) → eqb c lineFeed ≡ false
-      → joined c (whole ++ linesIn (part ++ u)) ≡ inFront c whole part .whole ++ linesIn (inFront c whole part .part ++ u)
-  unfolding joined linesIn inFront
-  joined-front c [] part f = rw f
-  joined-front c (l ∷ ls) part f = refl
-
-  lines-go-on : (s : List ℕ) → linesIn (s ++ u) ≡ cut s .whole ++ linesIn (cut s .part ++ u)
-  unfolding linesIn cut
-  lines-go-on [] = refl
-  lines-go-on (c ∷ s) =
-      ⊎-elim
-      (λ (t : eqb c lineFeed ≡ true). rw (t, lines-go-on s))
-      (λ (t : eqb c lineFeed ≡ false). rw (t, lines-go-on s) (joined-front c (cut s .whole) (cut s .part) t))
-      (holds-or-not (eqb c lineFeed))
+use Rattle.command_lines.specs.Pieces.{allOf, afterLines, afterPart, afterPieces}
 
 -- ── Parts of a line ──
 
@@ -42,47 +21,6 @@ pub unended-take : (k : ℕ) {s : List ℕ} → Unended s → Unended (take k s)
 unended-take zero a = none
 unended-take (suc k) none = none
 unended-take (suc k) (also e a) = also e (unended-take k a)
-
-inFront-unended : (c : ℕ) (whole : List (List ℕ)) {part : List ℕ} → eqb c lineFeed ≡ false → Unended part → Unended (inFront c whole part .part)
-unfolding inFront
-inFront-unended c [] f a = also f a
-inFront-unended c (l ∷ ls) f a = a
-
-pub part-unended : (s : List ℕ) → Unended (cut s .part)
-unfolding cut
-part-unended [] = none
-part-unended (c ∷ s) =
-    ⊎-elim
-    (λ (t : eqb c lineFeed ≡ true). rw t (part-unended s))
-    (λ (t : eqb c lineFeed ≡ false). rw t (inFront-unended c (cut s .whole) t (part-unended s)))
-    (holds-or-not (eqb c lineFeed))
-
--- a part of a line in front of what was cut: it goes before the first whole line, or else before the part
-unfoldable partInFront : List ℕ → List (List ℕ) → List ℕ → Cut
-partInFront p [] part = record { whole = []; part = p ++ part }
-partInFront p (l ∷ ls) part = record { whole = (p ++ l) ∷ ls; part = part }
-
-partInFront-none : (whole : List (List ℕ)) (part : List ℕ) → record { whole = whole; part = part } ≡ partInFront [] whole part
-unfolding partInFront
-partInFront-none [] part = refl
-partInFront-none (l ∷ ls) part = refl
-
-partInFront-more : (c : ℕ) (p : List ℕ) (whole : List (List ℕ)) (part : List ℕ)
-    → inFront c (partInFront p whole part .whole) (partInFront p whole part .part) ≡ partInFront (c ∷ p) whole part
-unfolding inFront partInFront
-partInFront-more c p [] part = refl
-partInFront-more c p (l ∷ ls) part = refl
-
-cut-behind : {p : List ℕ} → Unended p → (u : List ℕ) → cut (p ++ u) ≡ partInFront p (cut u .whole) (cut u .part)
-unfolding cut
-cut-behind none u = partInFront-none (cut u .whole) (cut u .part)
-cut-behind (also {x = c} {s = p} f a) u = rw (f, cut-behind a u) (partInFront-more c p (cut u .whole) (cut u .part))
-
--- a part that the input ends with is a line with no line feed
-unended-line : (c : ℕ) (p : List ℕ) → Unended (c ∷ p) → linesIn (c ∷ p) ≡ (c ∷ p) ∷ []
-unfolding linesIn joined
-unended-line c [] (also f a) = rw f
-unended-line c (d ∷ p) (also f a) = rw (f, unended-line d p a)
 
 -- ── Parts that no piece tells apart ──
 
@@ -138,8 +76,8 @@ module _ {S : Type 0} (turn : S → List ℕ → S) (kept : ℕ) (some : 0 < kep
     parts : Alike kept (c .part) (d .part)
 
   kept-agreeing : {p q : List ℕ} → Unended p → Unended q → AsKept kept p q
-      → (whole : List (List ℕ)) {part : List ℕ} → Unended part → Agreeing (partInFront p whole part) (partInFront q whole part)
-  unfolding partInFront afterLines
+      → (whole : List (List ℕ)) {part : List ℕ} → Unended part → Agreeing (inFront p whole part) (inFront q whole part)
+  unfolding inFront afterLines
   kept-agreeing {p} {q} a c o [] {part} z = record {
     leads = λ (s : S). refl;
     parts = record { first = all-both a z; second = all-both c z; either = inr (as-kept-behind kept p q part o) };
@@ -160,15 +98,8 @@ module _ {S : Type 0} (turn : S → List ℕ → S) (kept : ℕ) (some : 0 < kep
           rw (cut-behind (a .first) u, cut-behind (a .second) u) (kept-agreeing (a .first) (a .second) o (cut u .whole) (part-unended u))
 
   -- the end of the input
-  part-is-line : (s : S) (p : List ℕ) → Unended p → afterPart turn s p ≡ afterLines turn s (linesIn p)
-  unfolding afterPart afterLines linesIn
-  part-is-line s [] a = refl
-  part-is-line s (c ∷ p) a =
-      let e : afterLines turn s (linesIn (c ∷ p)) ≡ turn s (c ∷ p) = rw (unended-line c p a) refl in
-      sym e
-
   kept-at-end : (s : S) (p q : List ℕ) → AsKept kept p q → afterPart turn s q ≡ afterPart turn s p
-  unfolding afterPart
+  unfolding unendedLine afterLines
   kept-at-end s [] q o = absurd (omega (arith, some, o .0))
   kept-at-end s (c ∷ p) [] o = absurd (omega (arith, some, o .1))
   kept-at-end s (c ∷ p) (d ∷ q) o = sym (same s (c ∷ p) (d ∷ q) (o .0) (o .1) (o .2))
@@ -189,7 +120,7 @@ module _ {S : Type 0} (turn : S → List ℕ → S) (kept : ℕ) (some : 0 < kep
   pieces-lead : (s : S) {p q : List ℕ} → Alike kept p q → (pieces : List (List ℕ))
       → afterPieces turn kept s q pieces ≡ afterLines turn s (linesIn (p ++ allOf pieces))
   unfolding afterPieces allOf
-  pieces-lead s {p} {q} a [] = alike-at-end s a ∙ part-is-line s p (a .first) ∙ ap (λ (x : List ℕ). afterLines turn s (linesIn x)) (sym (append-nil p))
+  pieces-lead s {p} {q} a [] = alike-at-end s a ∙ ap (afterLines turn s) (sym (unended-line (a .first)) ∙ ap linesIn (sym (append-nil p)))
   pieces-lead s {p} {q} a (piece ∷ pieces) =
       let u = allOf pieces in
       let c = cut (p ++ piece) in

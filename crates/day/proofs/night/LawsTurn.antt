@@ -9,7 +9,8 @@ use lib.Seq.{take-all}
 use native.Mathlib.Omega.{arith}
 use Rattle.basics.specs.Bytes.{onto}
 use Rattle.basics.specs.Choice.{if_then_else_}
-use Rattle.command_lines.specs.Pieces.{cut, carried, partKept}
+use Rattle.command_lines.specs.Pieces.{carried, partKept}
+use Rattle.rules.specs.Day.{cut}
 use Rattle.day.specs.declared.replay.Fed.{Fed}
 use Rattle.day.specs.Feed.{worked, fedBy}
 use Rattle.day.specs.Pieces.{printedAtEnd}

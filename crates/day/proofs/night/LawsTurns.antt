@@ -14,14 +14,14 @@ use Rattle.basics.specs.Bytes.{onto}
 use Rattle.basics.specs.Lists.{firstWhere}
 use Rattle.basics.proofs.LawsChoice.{holds-or-not, lt-or-le}
 use Rattle.command_lines.specs.Lines.{isLineFeed}
-use Rattle.command_lines.specs.Pieces.{Cut, cut, partKept, allOf}
+use Rattle.command_lines.specs.Pieces.{partKept, allOf}
 use Rattle.command_lines.proofs.lines.LawsCut.{cut-line, cut-none}
 use Rattle.day.specs.Feed.{Worked, worked}
 use Rattle.day.specs.Pieces.{printedAtEnd, printedOfPieces}
 use Rattle.day.proofs.replay.LawsCutAnywhere.{cut-anywhere}
 use Rattle.side.specs.Table.{Shows}
 use Rattle.rules.specs.Book.{Book, fresh}
-use Rattle.rules.specs.Day.{bookAfter, printed, printedOf, output}
+use Rattle.rules.specs.Day.{Cut, cut, bookAfter, printed, printedOf, output}
 use Rattle.rules.specs.Refusals.{leastRoom}
 use Rattle.rules.specs.Step.{answerTo}
 use Rattle.side.specs.Tables.{bookOn, headOf}

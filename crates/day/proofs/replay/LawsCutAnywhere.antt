@@ -6,12 +6,13 @@ use mathlib.Core.Path.{_≡_, sym, ap, _∙_}
 use lib.ListN.{length, take}
 use native.Mathlib.Omega.{arith}
 use Rattle.basics.specs.Lists.{none}
-use Rattle.command_lines.specs.Pieces.{cut, partKept, allOf, afterLines, afterPart, afterPieces}
+use Rattle.command_lines.specs.Pieces.{partKept, allOf, afterLines, afterPart, afterPieces}
 use Rattle.command_lines.proofs.lines.LawsScanned.{unended-bad}
-use Rattle.command_lines.proofs.lines.LawsPieces.{unended-take, part-unended, cut-alike}
+use Rattle.command_lines.proofs.lines.LawsPieces.{unended-take, cut-alike}
 use Rattle.rules.specs.Book.{Book, fresh}
-use Rattle.rules.specs.Day.{linesIn, bookAfter, printed, printedOf, output}
+use Rattle.rules.specs.Day.{cut, unendedLine, linesIn, bookAfter, printed, printedOf, output}
 use Rattle.rules.specs.Step.{answerTo}
+use Rattle.rules.proofs.LawsDay.{part-unended}
 use Rattle.rules.proofs.LawsUnended.{Unended}
 use Rattle.day.specs.Pieces.{dayBegun, printedAtEnd, printedOfPieces}
 use Rattle.day.proofs.replay.LawsLineByLine.{long-bad, answerTo-bad, printed-bad}
@@ -43,7 +44,7 @@ lines-print b out (l ∷ ls) =
 
 -- a part that the input ends with has no line feed, so it is no command
 part-prints : (b : Book) (out part : List ℕ) → Unended part → afterPart turn (day b out) part .lines ≡ out ++ printedAtEnd part
-unfolding afterPart printedAtEnd
+unfolding unendedLine afterLines printedAtEnd
 part-prints b out [] a = sym (append-nil out)
 part-prints b out (c ∷ part) a = ap (λ (s : List ℕ). out ++ s) (printed-bad b (c ∷ part) (unended-bad (c ∷ part) a))
 

@@ -12,13 +12,12 @@ use Rattle.basics.specs.Lists.{firstWhere}
 use Rattle.basics.proofs.LawsBytes.{onto-none, onto-after, onto-part}
 use Rattle.command_lines.specs.declared.lines.Line.{Line}
 use Rattle.command_lines.specs.Lines.{isLineFeed, firstLine}
-use Rattle.command_lines.specs.Pieces.{Cut, cut}
 use Rattle.command_lines.proofs.lines.LawsCut.{cut-line, cut-none}
 use Rattle.side.specs.Table.{Shows}
 use Rattle.side.proofs.rows.LawsShown.{length-side, holds-shows}
 use Rattle.rules.specs.Book.{Book}
 use Rattle.rules.specs.CommandLines.{commandIn}
-use Rattle.rules.specs.Day.{printed}
+use Rattle.rules.specs.Day.{Cut, cut, printed}
 use Rattle.rules.specs.Refusals.{leastRoom}
 use Rattle.rules.specs.Step.{Answer, answerTo}
 use Rattle.soundness.proofs.LawsKept.{answer-sound}

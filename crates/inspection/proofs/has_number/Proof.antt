@@ -1,7 +1,7 @@
 -- `inspection::has_number` meets its contract. The loop passes orders of other numbers. Assumes nothing.
 use Prim.Native.Nat.{_+_, _-_, _≤_}
 use mathlib.Core.List.{[], _∷_}
-use mathlib.Core.Path.{_≡_, sym, ap, _∙_}
+use mathlib.Core.Path.{_≡_, refl, sym, ap, _∙_}
 use lib.Dec.{eqb}
 use lib.ListN.{length, drop}
 use native.Mathlib.Omega.{arith}
@@ -11,13 +11,12 @@ use denote.Ref.{now}
 use Rattle.basics.specs.Lists.{any}
 use Rattle.rules.specs.Book.{numbers, placesASide}
 use Rattle.side.specs.Table.{loaded}
-use Rattle.side.proofs.rows.LawsTable.{ahead, ahead-end, ahead-next}
-use Rattle.inspection.proofs.LawsInspected.{any-end, any-found, any-next, ahead-numbers}
+use Rattle.inspection.proofs.LawsInspected.{any-end, any-found, any-next, from-end, from-next}
 use Rattle.inspection.proofs.has_number.Statement.{statement}
 use Rattle.inspection.proofs.has_number.Tie as tie
 
 abbrev Inv-loop : tie.InvT-loop
-Inv-loop t n from number i₀ i = (i ≤ n) × (any (eqb (number .0)) (numbers (ahead n t i)) ≡ any (eqb (number .0)) (drop from (numbers (loaded n t))))
+Inv-loop t n from number i₀ i = (i ≤ n) × (any (eqb (number .0)) (numbers (drop i (loaded n t))) ≡ any (eqb (number .0)) (numbers (drop from (loaded n t))))
 
 abbrev μ-loop : tie.MeasureT-loop
 μ-loop t n from number i₀ i = n - i
@@ -26,9 +25,7 @@ whole-requires : tie.Need-whole-requires Inv-loop μ-loop
 whole-requires c κs = search needs
 
 loop-holds : tie.Need-loop-holds Inv-loop μ-loop
-loop-holds c =
-    let a = c .before .args in
-    (search needs, ap (any (eqb (a .number .0))) (ahead-numbers (a .n) (now (a .t)) (a .from)))
+loop-holds c = (search needs, refl)
 
 row-requires : tie.Need-row-requires Inv-loop μ-loop
 row-requires c κs = search needs
@@ -39,8 +36,8 @@ returns c =
     let l = c .before .before .before .before .before .loop in
     let a = c .before .before .before .before .before .before .before .args in
     let f : length (now (a .t)) ≡ placesASide = c .before .before .before .before .before .before .whole .ensures in
-    let next : ahead (a .n) (now (a .t)) (l .i) ≡ r .result ∷ ahead (a .n) (now (a .t)) (l .i + 1) =
-    ahead-next (a .n) (now (a .t)) (l .i) (omega arith) (omega arith) (r .result) (r .ensures) in
+    let next : drop (l .i) (loaded (a .n) (now (a .t))) ≡ r .result ∷ drop (l .i + 1) (loaded (a .n) (now (a .t))) =
+    from-next (a .n) (now (a .t)) (l .i) (omega arith) (omega arith) (r .result) (r .ensures) in
     sym (any-found (eqb (a .number .0)) (ap numbers next) (eq-eqb _ _ (c .if1 .taken))) ∙ l .inv .1
 
 add-i : tie.Need-add-i Inv-loop μ-loop
@@ -55,8 +52,8 @@ loop-again c =
     let l = c .before .before .before .before .before .loop in
     let a = c .before .before .before .before .before .before .before .args in
     let f : length (now (a .t)) ≡ placesASide = c .before .before .before .before .before .before .whole .ensures in
-    let next : ahead (a .n) (now (a .t)) (l .i) ≡ r .result ∷ ahead (a .n) (now (a .t)) (l .i + 1) =
-    ahead-next (a .n) (now (a .t)) (l .i) (omega arith) (omega arith) (r .result) (r .ensures) in
+    let next : drop (l .i) (loaded (a .n) (now (a .t))) ≡ r .result ∷ drop (l .i + 1) (loaded (a .n) (now (a .t))) =
+    from-next (a .n) (now (a .t)) (l .i) (omega arith) (omega arith) (r .result) (r .ensures) in
     (omega arith, sym (any-next (eqb (a .number .0)) (ap numbers next) (ne-eqb _ _ (c .if1 .left))) ∙ l .inv .1)
 
 returns-2 : tie.Need-returns-2 Inv-loop μ-loop
@@ -64,7 +61,7 @@ returns-2 c =
     let l = c .before .loop in
     let a = c .before .before .before .args in
     let f : length (now (a .t)) ≡ placesASide = c .before .before .whole .ensures in
-    let end : ahead (a .n) (now (a .t)) (l .i) ≡ [] = ahead-end (a .n) (now (a .t)) (l .i) (omega arith) (omega arith) in
+    let end : drop (l .i) (loaded (a .n) (now (a .t))) ≡ [] = from-end (a .n) (now (a .t)) (l .i) (omega arith) (omega arith) in
     sym (any-end (eqb (a .number .0)) (ap numbers end)) ∙ l .inv .1
 
 pub has-number-spec : {M : Type 1} → statement M

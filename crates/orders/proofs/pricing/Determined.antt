@@ -3,12 +3,8 @@
 use mathlib.Core.Path.{_≡_, sym, _∙_}
 use Rattle.kinds.specs.declared.Cents.{Cents}
 use Rattle.rules.specs.declared.Ending.{Ending}
-use Rattle.orders.proofs.pricing.locking_price.Reads as locking-price
 use Rattle.orders.proofs.pricing.bound_of.Reads as bound-of
 use Rattle.orders.proofs.pricing.seek.Reads as seek
-
-pub locking-price-determined : (κs : _) (a : _) (r r′ : Cents) (s s′ : _) → locking-price.Post κs a r s → locking-price.Post κs a r′ s′ → r ≡ r′
-locking-price-determined κs a r r′ s s′ p q = p ∙ sym q
 
 pub bound-of-determined : (κs : _) (a : _) (r r′ : Cents) (s s′ : _) → bound-of.Post κs a r s → bound-of.Post κs a r′ s′ → r ≡ r′
 bound-of-determined κs a r r′ s s′ p q = p ∙ sym q

@@ -1,19 +1,14 @@
 -- Each public contract determines its result and its bytes: any two outcomes that meet it are equal. A contract is read here
 -- as the checker reads it from the source (`Post`), not from a copy. Assumes nothing.
-use mathlib.Core.Bool.{Bool}
 use mathlib.Core.Path.{_≡_, sym, _∙_}
 use denote.Ref.{now}
 use Rattle.orders.specs.declared.walk.Taking.{Taking}
 use Rattle.orders.specs.declared.walk.Walked.{Walked}
 use Rattle.orders.proofs.walk.taking_at.Reads as taking-at
-use Rattle.orders.proofs.walk.within.Reads as within
 use Rattle.orders.proofs.walk.walk.Reads as walk
 
 pub taking-at-determined : (κs : _) (a : _) (r r′ : Taking) (s s′ : _) → taking-at.Post κs a r s → taking-at.Post κs a r′ s′ → r ≡ r′
 taking-at-determined κs a r r′ s s′ p q = p ∙ sym q
-
-pub within-determined : (κs : _) (a : _) (r r′ : Bool) (s s′ : _) → within.Post κs a r s → within.Post κs a r′ s′ → r ≡ r′
-within-determined κs a r r′ s s′ p q = p ∙ sym q
 
 pub walk-determined : (κs : _) (a : _) (r r′ : Walked) (s s′ : _) → walk.Post κs a r s → walk.Post κs a r′ s′
     → (r ≡ r′) × (now (s .1 .1 .1 .1 .1 .1 .0) ≡ now (s′ .1 .1 .1 .1 .1 .1 .0))

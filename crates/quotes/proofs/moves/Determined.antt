@@ -4,7 +4,7 @@ use mathlib.Core.Path.{_≡_, sym, _∙_}
 use denote.Ref.{now}
 use Rattle.side.specs.Table.{side}
 use Rattle.side.proofs.rows.LawsShown.{shown-same}
-use Rattle.quotes.specs.declared.moves.Settled.{Settled}
+use Rattle.settling.specs.declared.Settled.{Settled}
 use Rattle.quotes.proofs.moves.move_side.Reads as move-side
 
 pub move-side-determined : (κs : _) (a : _) (r r′ : Settled) (s s′ : _) → move-side.Post κs a r s → move-side.Post κs a r′ s′

@@ -9,9 +9,9 @@ use native.Mathlib.Omega.{arith}
 use borrow.Author.Needs.{needs}
 use denote.Ref.{now}
 use Rattle.kinds.specs.declared.Number.{Number}
-use Rattle.quotes.specs.declared.moves.Settled.{Settled}
-use Rattle.quotes.specs.Moves.{settledIn}
-use Rattle.quotes.proofs.moves.LawsSettling.{anew-fit}
+use Rattle.settling.specs.declared.Settled.{Settled}
+use Rattle.settling.specs.OneByOne.{settledIn}
+use Rattle.settling.proofs.LawsSettling.{anew-fit}
 use Rattle.side.specs.Table.{Shows}
 use Rattle.rules.specs.declared.Away.{Away}
 use Rattle.rules.specs.declared.Body.the-variants as body

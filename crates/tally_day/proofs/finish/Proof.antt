@@ -7,7 +7,8 @@ use native.Mathlib.Omega.{arith}
 use borrow.Author.Needs.{needs}
 use denote.Ref.{now}
 use Rattle.kinds.specs.declared.Number.{Number}
-use Rattle.command_lines.specs.Pieces.{afterPart}
+use Rattle.command_lines.specs.Pieces.{afterLines, afterPart}
+use Rattle.rules.specs.Day.{unendedLine}
 use Rattle.tally.specs.declared.Tally.{Tally}
 use Rattle.tally.specs.Tally.{turn}
 use Rattle.tally_day.proofs.finish.Statement.{statement}
@@ -15,12 +16,12 @@ use Rattle.tally_day.proofs.finish.Tie as tie
 
 module _ (n : Number) (t : Tally) where
   no-part : (part : List ℕ) → length part ≡ 0 → t ≡ afterPart (turn n) t part
-  unfolding afterPart
+  unfolding unendedLine afterLines
   no-part [] e = refl
   no-part (c ∷ part) e = absurd (omega (arith, e))
 
   some-part : (part : List ℕ) → 0 < length part → turn n t part ≡ afterPart (turn n) t part
-  unfolding afterPart
+  unfolding unendedLine afterLines
   some-part [] l = absurd (omega (arith, l))
   some-part (c ∷ part) l = refl
 

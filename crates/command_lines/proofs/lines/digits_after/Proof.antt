@@ -1,27 +1,28 @@
 -- `command_lines::lines::digits_after` meets its contract: an arm for each kind. Assumes nothing.
 use borrow.Author.Tests.{ne-eqb}
-use Rattle.command_lines.specs.Lines.{digitsAfter}
+use Rattle.rules.specs.CommandLines.{kinds}
+use Rattle.command_lines.specs.Lines.{digitsFrom, digitsAfter}
 use Rattle.command_lines.proofs.lines.digits_after.Statement.{statement}
 use Rattle.command_lines.proofs.lines.digits_after.Tie as tie
 
 returns : tie.Need-returns
-unfolding digitsAfter
+unfolding digitsAfter digitsFrom kinds
 returns c = rw (c .match .keys1)
 
 returns-2 : tie.Need-returns-2
-unfolding digitsAfter
+unfolding digitsAfter digitsFrom kinds
 returns-2 c = rw (c .match .keys2)
 
 returns-3 : tie.Need-returns-3
-unfolding digitsAfter
+unfolding digitsAfter digitsFrom kinds
 returns-3 c = rw (c .match .keys3)
 
 returns-4 : tie.Need-returns-4
-unfolding digitsAfter
+unfolding digitsAfter digitsFrom kinds
 returns-4 c = rw (c .match .keys4)
 
 returns-5 : tie.Need-returns-5
-unfolding digitsAfter
+unfolding digitsAfter digitsFrom kinds
 returns-5 c =
     let r = c .match .rest in
     rw (ne-eqb _ _ (r .0 .0 .0 .1), ne-eqb _ _ (r .0 .0 .1), ne-eqb _ _ (r .0 .1), ne-eqb _ _ (r .1))

@@ -1,7 +1,7 @@
 -- `command_lines::reader::read_body` meets its contract: an arm for each kind. Assumes nothing.
 use borrow.Author.Needs.{needs}
 use borrow.Author.Tests.{ne-eqb}
-use Rattle.rules.specs.CommandLines.{bodyIn}
+use Rattle.rules.specs.CommandLines.{kinds, bodyFrom, bodyIn}
 use Rattle.command_lines.proofs.reader.read_body.Statement.{statement}
 use Rattle.command_lines.proofs.reader.read_body.Tie as tie
 
@@ -18,23 +18,23 @@ read-close-requires : tie.Need-read-close-requires
 read-close-requires c κs = search needs
 
 returns : tie.Need-returns
-unfolding bodyIn
+unfolding bodyIn bodyFrom kinds
 returns c = rw (c .before .match .keys1) (c .read-order .ensures)
 
 returns-2 : tie.Need-returns-2
-unfolding bodyIn
+unfolding bodyIn bodyFrom kinds
 returns-2 c = rw (c .before .match .keys2) (c .read-cancel .ensures)
 
 returns-3 : tie.Need-returns-3
-unfolding bodyIn
+unfolding bodyIn bodyFrom kinds
 returns-3 c = rw (c .before .match .keys3) (c .read-quote .ensures)
 
 returns-4 : tie.Need-returns-4
-unfolding bodyIn
+unfolding bodyIn bodyFrom kinds
 returns-4 c = rw (c .before .match .keys4) (c .read-close .ensures)
 
 returns-5 : tie.Need-returns-5
-unfolding bodyIn
+unfolding bodyIn bodyFrom kinds
 returns-5 c =
     let r = c .match .rest in
     rw (ne-eqb _ _ (r .0 .0 .0 .1), ne-eqb _ _ (r .0 .0 .1), ne-eqb _ _ (r .0 .1), ne-eqb _ _ (r .1))

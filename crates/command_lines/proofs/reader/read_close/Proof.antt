@@ -2,7 +2,7 @@
 use mathlib.Core.Path.{sym, _∙_}
 use borrow.Author.Needs.{needs}
 use borrow.Author.Tests.{not-true, not-false}
-use Rattle.rules.specs.CommandLines.{numbersFrom, closeIn}
+use Rattle.rules.specs.CommandLines.{numbersFrom, bodyOfForm}
 use Rattle.command_lines.proofs.reader.read_close.Statement.{statement}
 use Rattle.command_lines.proofs.reader.read_close.Tie as tie
 
@@ -10,13 +10,13 @@ is-ended-requires : tie.Need-is-ended-requires
 is-ended-requires c κs = search needs
 
 returns : tie.Need-returns
-unfolding closeIn
+unfolding bodyOfForm
 returns c =
     let f = sym (c .before .is-ended .ensures) ∙ not-true _ (c .if1 .taken) in
     rw f
 
 returns-2 : tie.Need-returns-2
-unfolding closeIn numbersFrom
+unfolding bodyOfForm numbersFrom
 returns-2 c =
     let t = sym (c .before .is-ended .ensures) ∙ not-false _ (c .if1 .left) in
     rw t

@@ -9,7 +9,7 @@ use borrow.Author.Tests.{not-true, not-false}
 use denote.Ref.{now}
 use Rattle.digits.specs.declared.Field.{Field}
 use Rattle.digits.proofs.LawsDigits.{field-fits}
-use Rattle.rules.specs.CommandLines.{isEnded, orderForm, orderIn}
+use Rattle.rules.specs.CommandLines.{isEnded, orderForm, bodyOfForm}
 use Rattle.rules.proofs.LawsFields.{fieldsFrom, numbers-good, numbers-bad}
 use Rattle.command_lines.proofs.reader.read_order.Statement.{statement}
 use Rattle.command_lines.proofs.reader.read_order.Tie as tie
@@ -18,7 +18,7 @@ is-ended-requires : tie.Need-is-ended-requires
 is-ended-requires c κs = search needs
 
 returns : tie.Need-returns
-unfolding orderIn
+unfolding bodyOfForm
 returns c = let e = sym (c .before .is-ended .ensures) ∙ not-true _ (c .if1 .taken) in rw e
 
 field-at-requires : tie.Need-field-at-requires
@@ -48,7 +48,7 @@ module _ (c : tie.After-field-at4) where
   are-read = rw (c .before .before .before .field-at .ensures, c .before .before .field-at2 .ensures, c .before .field-at3 .ensures, c .field-at4 .ensures) refl
 
 returns-2 : tie.Need-returns-2
-unfolding orderIn
+unfolding bodyOfForm
 returns-2 c =
     let f = c .before .before .before .before .before in
     rw (ended f, numbers-bad 0 orderForm (body f) (read f) (are-read f) (not-true _ (c .if2 .taken)))
@@ -60,7 +60,7 @@ cast-t11 : tie.Need-cast-t11
 cast-t11 c = let f = c .before .before .before .before .before .before .before in omega (arith, field-fits 2 2 (body f) (f .before .before .field-at2 .ensures))
 
 returns-3 : tie.Need-returns-3
-unfolding orderIn
+unfolding bodyOfForm
 returns-3 c =
     let f = c .before .before .before .before .before .before .before in
     rw (ended f, numbers-good 0 orderForm (body f) (read f) (are-read f) (not-false _ (c .before .before .if2 .left)))

@@ -7,7 +7,7 @@ use borrow.Author.Needs.{needs}
 use borrow.Author.Tests.{not-true, not-false}
 use denote.Ref.{now}
 use Rattle.digits.specs.declared.Field.{Field}
-use Rattle.rules.specs.CommandLines.{isEnded, quoteForm, quoteIn}
+use Rattle.rules.specs.CommandLines.{isEnded, quoteForm, bodyOfForm}
 use Rattle.rules.proofs.LawsFields.{fieldsFrom, numbers-good, numbers-bad}
 use Rattle.command_lines.proofs.reader.read_quote.Statement.{statement}
 use Rattle.command_lines.proofs.reader.read_quote.Tie as tie
@@ -16,7 +16,7 @@ is-ended-requires : tie.Need-is-ended-requires
 is-ended-requires c κs = search needs
 
 returns : tie.Need-returns
-unfolding quoteIn
+unfolding bodyOfForm
 returns c = let e = sym (c .before .is-ended .ensures) ∙ not-true _ (c .if1 .taken) in rw e
 
 field-at-requires : tie.Need-field-at-requires
@@ -40,13 +40,13 @@ module _ (c : tie.After-field-at2) where
   are-read = rw (c .before .field-at .ensures, c .field-at2 .ensures) refl
 
 returns-2 : tie.Need-returns-2
-unfolding quoteIn
+unfolding bodyOfForm
 returns-2 c =
     let f = c .before .before .before in
     rw (ended f, numbers-bad 0 quoteForm (body f) (read f) (are-read f) (not-true _ (c .if2 .taken)))
 
 returns-3 : tie.Need-returns-3
-unfolding quoteIn
+unfolding bodyOfForm
 returns-3 c =
     let f = c .before .before .before in
     rw (ended f, numbers-good 0 quoteForm (body f) (read f) (are-read f) (not-false _ (c .if2 .left)))

@@ -31,9 +31,10 @@ use Rattle.rules.specs.Working.{lockingPrice, absent, beyond}
 use Rattle.rules.proofs.LawsCommands.{not-beyond-itself}
 use Rattle.side.specs.Looking.{priceBound}
 use Rattle.rules.proofs.LawsRank.{rank-price, ranked-first, ranked-rest}
-use Rattle.quotes.specs.Moves.{goesOn, fateAt, setBelow}
-use Rattle.quotes.proofs.moves.LawsOneByOne.{Stay, SetStays}
-use Rattle.quotes.proofs.moves.LawsSettling.{Settling, settling-start, room-now, ranked-others, older-others, next-fits, settle-leaves, IsSettled, settled-all}
+use Rattle.quotes.specs.Moves.{goesOn, fateAt}
+use Rattle.settling.specs.OneByOne.{setBelow}
+use Rattle.settling.proofs.LawsOneByOne.{Stay, SetStays}
+use Rattle.settling.proofs.LawsSettling.{Settling, settling-start, room-now, ranked-others, older-others, next-fits, settle-leaves, IsSettled, settled-all}
 use Rattle.quotes.proofs.moves.move_side.Statement.{statement}
 use Rattle.quotes.proofs.moves.move_side.Tie as tie
 

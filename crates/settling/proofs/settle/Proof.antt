@@ -1,4 +1,4 @@
--- `quotes::moves::settle` meets its contract: the order stays, or is taken off, and is put back at its new rank where it is set anew. Assumes nothing.
+-- `settling::settle` meets its contract: the order stays, or is taken off, and is put back at its new rank where it is set anew. Assumes nothing.
 use Prim.Native.Nat.{ℕ, _+_, _-_, _≤_, _<_}
 use mathlib.Core.List.{List}
 use mathlib.Core.Path.{_≡_, refl, sym, ap, _∙_}
@@ -18,9 +18,9 @@ use Rattle.rules.specs.Book.{stamp, inRankOrder}
 use Rattle.rules.specs.EventLines.{eventLine, eventLines}
 use Rattle.rules.specs.Settling.{stampedAs, insert, toldBy}
 use Rattle.rules.proofs.LawsEvents.{eventLines-one, cancelled-length, moved-length}
-use Rattle.quotes.specs.Moves.{setBelow}
-use Rattle.quotes.proofs.moves.settle.Statement.{statement}
-use Rattle.quotes.proofs.moves.settle.Tie as tie
+use Rattle.settling.specs.OneByOne.{setBelow}
+use Rattle.settling.proofs.settle.Statement.{statement}
+use Rattle.settling.proofs.settle.Tie as tie
 
 -- room behind the lines is room in the part of the buffer that is lent
 behind : (len size : ℕ) (out : List ℕ) → len + size ≤ length out → size ≤ length (take (length out - len) (drop len out))

@@ -20,7 +20,7 @@ use Rattle.rules.proofs.LawsCommands.{IfSet}
 use Rattle.soundness.proofs.LawsInsert.{Added, here, later, added-insert}
 use Rattle.rules.proofs.LawsRank.{ranks-transitive, ranked-first, ranked-rest}
 use Rattle.soundness.proofs.LawsSettled.{nextPlace, staying-are}
-use Rattle.quotes.specs.Moves.{settledAt}
+use Rattle.settling.specs.OneByOne.{settledAt}
 
 -- ── What is gathered ──
 

@@ -26,10 +26,10 @@ use Rattle.rules.proofs.LawsEvents.{eventLines-append, none-long}
 use Rattle.soundness.proofs.LawsInsert.{Added, here, later, added-insert, added-length, added-all, ranked-insert}
 use Rattle.rules.proofs.LawsRank.{earlier-place, earlier-transitive, ranked-first, ranked-rest, ranked-more}
 use Rattle.soundness.proofs.LawsSettled.{nextPlace}
-use Rattle.quotes.specs.declared.moves.Settled.{Settled}
+use Rattle.settling.specs.declared.Settled.{Settled}
 use Rattle.side.specs.Looking.{Older}
-use Rattle.quotes.specs.Moves.{settledAt, afterOne, setBelow, settledIn}
-use Rattle.quotes.proofs.moves.LawsOneByOne.{Stay, SetStays, added-others, told-one, anew-one, settled-one, told-none, anew-none, settled-none}
+use Rattle.settling.specs.OneByOne.{settledAt, afterOne, setBelow, settledIn}
+use Rattle.settling.proofs.LawsOneByOne.{Stay, SetStays, added-others, told-one, anew-one, settled-one, told-none, anew-none, settled-none}
 
 -- ── One order more or fewer ──
 

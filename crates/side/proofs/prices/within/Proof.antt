@@ -1,9 +1,9 @@
--- `orders::walk::within` meets its contract, for a buy and for a sell. Assumes nothing.
+-- `side::prices::within` meets its contract, for a buy and for a sell. Assumes nothing.
 use mathlib.Core.Bool.{Bool, true, false, not, _&&_, _||_}
 use mathlib.Core.Path.{_≡_, refl}
 use Rattle.basics.specs.Choice.{if_then_else_}
-use Rattle.orders.proofs.walk.within.Statement.{statement}
-use Rattle.orders.proofs.walk.within.Tie as tie
+use Rattle.side.proofs.prices.within.Statement.{statement}
+use Rattle.side.proofs.prices.within.Tie as tie
 
 by-side : (buy above below : Bool) → not (buy && above || not buy && below) ≡ not (if buy then above else below)
 by-side true true below = refl

@@ -1,0 +1,4 @@
+pub mod LawsOneByOne
+pub mod LawsSettling
+pub mod LawsOlder
+pub mod Determined
