@@ -1,5 +1,5 @@
-//! The order book of paper 01 with request W2 of paper 02: command lines read, orders
-//! worked, hidden orders moved by a quote, event lines written.
+//! The order book of paper 01 with requests W2 and W4 of paper 02: command lines read,
+//! orders worked, shown parts refilled, hidden orders moved by a quote, event lines written.
 //!
 //! Shared by `ordinary.rs` (the program) and `days.rs` (the generator of test days).
 //! Written for speed: no allocation per command, digits by arithmetic eight at a time,
@@ -29,9 +29,11 @@ pub const CANCEL_BACK: u16 = 1 << 6;
 pub const POST_ONLY: u16 = 1 << 7;
 pub const ISO: u16 = 1 << 8;
 pub const MARKET: u16 = 1 << 9;
+/// Set in kind 05 and nowhere else.
+pub const RESERVE: u16 = 1 << 10;
 
-/// Words below this have bits 10 to 15 zero.
-const WORDS: usize = 1 << 10;
+/// Words below this have bits 11 to 15 zero.
+const WORDS: usize = 1 << 11;
 /// The answer of `lawful` for each of those words.
 static LAWFUL: [bool; WORDS] = lawful_words();
 
@@ -84,6 +86,8 @@ pub struct Order {
     pub word: u16,
     pub price: u32,
     pub shares: u32,
+    /// Kind 05 has one, kind 01 has none.
+    pub max_floor: Option<u32>,
 }
 
 /// A resting order. `rank` holds price, display and stamp, and the lower rank is first.
@@ -93,18 +97,31 @@ pub struct Resting {
     /// The number of the command that entered it.
     pub number: u32,
     pub price: u32,
-    pub shares: u32,
+    /// The shares that stand at its rank: of an order with reserve the shown part, of any
+    /// other all. Never 0 between commands.
+    pub shown: u32,
+    /// The shares that stand behind every other order at that price.
+    pub reserve: u32,
+    /// 0 for an order of kind 01.
+    pub max_floor: u32,
     pub hidden: bool,
     pub cancel_back: bool,
 }
 
+impl Resting {
+    /// Both parts.
+    pub fn shares(&self) -> u32 {
+        self.shown + self.reserve
+    }
+}
+
 /// What decides at one price and display, the lower first: the command that put the order
-/// there, and the place among that command's moves. Moves count from 1; an order has
-/// place 0 at the price where it first rests.
+/// there or refilled it, and the place among that command's moves or refills. They count
+/// from 1; an order has place 0 where it first rests.
 #[derive(Clone, Copy)]
 struct Stamp {
     command: u32,
-    place: u8, // a quote moves at most both sides, 128 orders
+    place: u8, // a quote moves at most both sides, 128 orders; an order has 64 refilled at most
 }
 
 pub struct Book {
@@ -202,10 +219,8 @@ impl Book {
             (true, false) => MIN_PRICE,
         };
 
-        // 1. The walk: how many orders execute whole, the shares of one more that executes
-        //    in part, and the remainder. It ends at the first order it may not touch.
-        let mut whole = 0;
-        let mut part = 0;
+        // 1. The walk, for its remainder alone. It ends at the first order it may not touch. Both
+        //    holdings of an order stand at one price, so neither is barred where the other is not.
         let mut remainder = order.shares;
         if word & POST_ONLY == 0 {
             let bound = match (locking == 0 || word & ISO != 0, BUY) {
@@ -217,13 +232,7 @@ impl Book {
                 if remainder == 0 || !reaches::<BUY>(bound, resting.price) {
                     break;
                 }
-                if resting.shares > remainder {
-                    part = remainder;
-                    remainder = 0;
-                    break;
-                }
-                remainder -= resting.shares;
-                whole += 1;
+                remainder -= remainder.min(resting.shares());
             }
         }
 
@@ -253,19 +262,9 @@ impl Book {
             }
         }
 
-        // Executions come first, each at the resting order's price.
-        let untouched = opposite.len() - whole;
-        for resting in opposite[untouched..].iter().rev() {
-            write_execution(events, number, resting.number, resting.price, resting.shares);
-        }
-        opposite.truncate(untouched);
-        if part > 0 {
-            let resting = &mut opposite[untouched - 1];
-            resting.shares -= part;
-            write_execution(events, number, resting.number, resting.price, part);
-        }
-
-        // Then at most one rested or cancelled line.
+        // Executions come first, then at most one rested or cancelled line, then the refills.
+        let executed = order.shares - remainder;
+        let due = if executed > 0 { execute(opposite, number, executed, events) } else { 0 };
         if remainder > 0 {
             match fate {
                 Ok(price) => {
@@ -273,14 +272,17 @@ impl Book {
                     let hidden = word & NON_DISPLAYED != 0;
                     let cancel_back = word & CANCEL_BACK != 0;
                     let rank = rank::<BUY>(price, hidden, Stamp { command: number, place: 0 });
-                    // From the best down, as most orders come near the best.
-                    let worse = own.iter().rposition(|resting| resting.rank > rank);
-                    let place = worse.map_or(0, |worse| worse + 1);
-                    own.insert(place, Resting { rank, number, price, shares: remainder, hidden, cancel_back });
+                    let shown = order.max_floor.unwrap_or(remainder).min(remainder);
+                    let reserve = remainder - shown;
+                    let max_floor = order.max_floor.unwrap_or(0);
+                    put_in(own, Resting { rank, number, price, shown, reserve, max_floor, hidden, cancel_back });
                     write_rested(events, number, price, remainder);
                 }
                 Err(reason) => write_cancelled(events, number, remainder, reason),
             }
+        }
+        if due > 0 {
+            refill(opposite, due, number, events);
         }
         Ok(())
     }
@@ -290,7 +292,7 @@ impl Book {
         for side in [&mut self.buys, &mut self.sells] {
             if let Some(place) = side.iter().position(|resting| resting.number == number) {
                 let resting = side.remove(place);
-                write_cancelled(events, number, resting.shares, Reason::ByCommand);
+                write_cancelled(events, number, resting.shares(), Reason::ByCommand);
                 return Ok(());
             }
         }
@@ -301,7 +303,7 @@ impl Book {
     fn close(&mut self, events: &mut Vec<u8>) {
         for side in [&mut self.buys, &mut self.sells] {
             for resting in side.iter().rev() {
-                write_cancelled(events, resting.number, resting.shares, Reason::Close);
+                write_cancelled(events, resting.number, resting.shares(), Reason::Close);
             }
             side.clear();
         }
@@ -319,12 +321,84 @@ fn reaches<const BUY: bool>(bound: u32, price: u32) -> bool {
 /// non-displayed; then lower stamp.
 fn rank<const BUY: bool>(price: u32, hidden: bool, stamp: Stamp) -> u64 {
     let distance = if BUY { MAX_PRICE - price } else { price };
-    (distance as u64) << 41 | (hidden as u64) << 40 | (stamp.command as u64) << 8 | stamp.place as u64
+    with_stamp((distance as u64) << 41 | (hidden as u64) << 40, stamp)
+}
+
+/// The rank with another stamp, price and display as they are.
+fn with_stamp(rank: u64, stamp: Stamp) -> u64 {
+    rank >> 40 << 40 | (stamp.command as u64) << 8 | stamp.place as u64
+}
+
+/// Puts an order in by its rank: from the best down, as most orders come near the best.
+fn put_in(side: &mut Vec<Resting>, order: Resting) {
+    let worse = side.iter().rposition(|resting| resting.rank > order.rank);
+    let place = worse.map_or(0, |worse| worse + 1);
+    side.insert(place, order);
+}
+
+/// Executes `left` shares, which the walk found there: price after price, shown parts and hidden
+/// orders by rank and then the reserves in the same order, a line for each holding that gives.
+/// Orders taken whole leave. Gives how many of the others have their shown part used up: a refill
+/// is due to each, and they are the best of the side.
+fn execute(side: &mut Vec<Resting>, incoming: u32, mut left: u32, events: &mut Vec<u8>) -> usize {
+    let mut due = 0;
+    while left > 0 {
+        let end = side.len();
+        let price = side[end - 1].price;
+        // The orders met at this price are those from `met` on.
+        let mut met = end;
+        let mut reserve = 0;
+        while left > 0 && met > 0 && side[met - 1].price == price {
+            met -= 1;
+            let resting = &mut side[met];
+            let given = left.min(resting.shown);
+            left -= given;
+            resting.shown -= given;
+            reserve += resting.reserve;
+            write_execution(events, incoming, resting.number, price, given);
+        }
+        if reserve > 0 {
+            for resting in side[met..].iter_mut().rev() {
+                let given = left.min(resting.reserve);
+                if given > 0 {
+                    left -= given;
+                    resting.reserve -= given;
+                    write_execution(events, incoming, resting.number, price, given);
+                }
+            }
+        }
+        let mut kept = met;
+        for place in met..end {
+            let resting = side[place];
+            if resting.shares() > 0 {
+                due += (resting.shown == 0) as usize;
+                side[kept] = resting;
+                kept += 1;
+            }
+        }
+        side.truncate(kept);
+    }
+    due
+}
+
+/// Refills the shown parts of the `due` best orders of a side, the best first. With its new stamp
+/// each comes to stand behind every displayed order at its price, also behind those still due.
+fn refill(side: &mut Vec<Resting>, due: usize, command: u32, events: &mut Vec<u8>) {
+    let mut stamp = Stamp { command, place: 0 };
+    for _ in 0..due {
+        let mut order = side.pop().expect("an order due is the best of its side");
+        stamp.place += 1;
+        order.rank = with_stamp(order.rank, stamp);
+        order.shown = order.max_floor.min(order.reserve);
+        order.reserve -= order.shown;
+        write_moved(events, order.number, order.price, order.shown);
+        put_in(side, order);
+    }
 }
 
 /// A quote and one side: each hidden order that would now cross the Locking Price (0 for
 /// none) is set at it with the next stamp, or cancelled if it is Cancel Back, in the order
-/// of their ranks. Displayed orders stay.
+/// of their ranks. Displayed orders stay, so none with a reserve is moved.
 fn move_hidden<const BUY: bool>(side: &mut Vec<Resting>, locking: u32, stamp: &mut Stamp, events: &mut Vec<u8>) {
     if locking == 0 {
         return;
@@ -339,17 +413,17 @@ fn move_hidden<const BUY: bool>(side: &mut Vec<Resting>, locking: u32, stamp: &m
         }
         changed = true;
         if resting.cancel_back {
-            write_cancelled(events, resting.number, resting.shares, Reason::CancelBack);
-            resting.shares = 0; // to be taken out below
+            write_cancelled(events, resting.number, resting.shown, Reason::CancelBack);
+            resting.shown = 0; // to be taken out below
         } else {
             stamp.place += 1;
             resting.price = locking;
             resting.rank = rank::<BUY>(locking, true, *stamp);
-            write_moved(events, resting.number, locking, resting.shares);
+            write_moved(events, resting.number, locking, resting.shown);
         }
     }
     if changed {
-        side.retain(|resting| resting.shares > 0);
+        side.retain(|resting| resting.shown > 0);
         side.sort_unstable_by_key(|resting| Reverse(resting.rank));
     }
 }
@@ -386,16 +460,20 @@ fn is_away_price(price: u32) -> bool {
 /// Refusals 8 and 9 of an order.
 #[inline]
 fn check_order(order: &Order) -> Result<(), Refusal> {
-    if !is_lawful(order.word) {
+    if !is_lawful(order.word) || (order.word & RESERVE != 0) != order.max_floor.is_some() {
         return Err(Refusal::UnlawfulWord);
     }
     let priced_well = if order.word & MARKET != 0 { order.price == 0 } else { is_price(order.price) };
     if order.side > 1 || !(1..=MAX_SHARES).contains(&order.shares) || !priced_well {
         return Err(Refusal::FieldOutOfRange);
     }
+    if order.max_floor.is_some_and(|max_floor| !(1..=order.shares).contains(&max_floor)) {
+        return Err(Refusal::FieldOutOfRange);
+    }
     Ok(())
 }
 
+/// The law of the word alone; which kind the word came with is not judged here.
 #[inline]
 pub fn is_lawful(word: u16) -> bool {
     (word as usize) < WORDS && LAWFUL[word as usize]
@@ -411,7 +489,7 @@ const fn lawful_words() -> [bool; WORDS] {
     table
 }
 
-/// The law for a word whose bits 10 to 15 are zero.
+/// The law for a word whose bits 11 to 15 are zero.
 const fn lawful(word: u16) -> bool {
     const fn one_of(word: u16, bits: u16) -> bool {
         (word & bits).count_ones() == 1
@@ -422,7 +500,8 @@ const fn lawful(word: u16) -> bool {
     let post_only = word & POST_ONLY == 0 || (word & DAY != 0 && word & DISPLAYED != 0 && word & ISO == 0);
     let iso = word & ISO == 0 || word & (FOK | MARKET) == 0;
     let market = word & MARKET == 0 || word & (IOC | FOK) != 0;
-    one_each && post_only && iso && market
+    let reserve = word & RESERVE == 0 || (word & DAY != 0 && word & DISPLAYED != 0);
+    one_each && post_only && iso && market && reserve
 }
 
 /// Reads the command line at the front of `input` and gives its length with the line feed.
@@ -438,18 +517,20 @@ pub fn read_command(input: &[u8]) -> Option<(Command, usize)> {
     let time = read_field(header, 10)?;
     let body = &input[18..];
     let (body, digits) = match header[1] {
-        b'1' => {
-            let body: &[u8; 23] = body.first_chunk()?;
+        kind @ (b'1' | b'5') => {
+            let fields: &[u8; 23] = body.first_chunk()?; // those that both kinds have
             // Side and word are six digits; the reader takes eight, the first two set to 0.
-            let short = [b'0', b'0', body[0], body[1], body[2], body[3], body[4], body[5]];
+            let short = [b'0', b'0', fields[0], fields[1], fields[2], fields[3], fields[4], fields[5]];
             let side_and_word = read_field(&short, 0)?;
+            let (max_floor, digits) = if kind == b'5' { (Some(read_field(body, 22)?), 30) } else { (None, 22) };
             let order = Order {
                 side: (side_and_word >> 16) as u8,
                 word: side_and_word as u16,
-                price: read_field(body, 6)?,
-                shares: read_field(body, 14)?,
+                price: read_field(fields, 6)?,
+                shares: read_field(fields, 14)?,
+                max_floor,
             };
-            (Body::Order(order), 22)
+            (Body::Order(order), digits)
         }
         b'2' => (Body::Cancel { order: read_field(body, 0)? }, 8),
         b'3' => (Body::Quote { bid: read_field(body, 0)?, offer: read_field(body, 8)? }, 16),

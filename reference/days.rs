@@ -2,7 +2,8 @@
 //! The same arguments always give the same bytes. Every day begins at the fresh book.
 //!
 //! Kinds:
-//!   plain     orders around a moving price, cancels and quotes, about 40 orders resting a side
+//!   plain     orders around a moving price, a few of them with reserve, cancels and quotes, about
+//!             40 orders resting a side
 //!   nasty     valid and damaged lines mixed; most days are closed somewhere, with more lines after
 //!             it, and the last line feed is missing now and then
 //!   full      both sides kept at or near 64 resting orders
@@ -10,6 +11,8 @@
 //!             crossed away quotes, Price Adjust at the edges of the price range
 //!   moving    quotes that move or cancel hidden orders, from one to whole sides at once, and
 //!             small orders after them that show the new ranks
+//!   reserve   orders with reserve, hidden and displayed ones at few prices, and orders that end at
+//!             or beside each edge of the walk over their holdings, so that refills come all the time
 //!   short     a few lines (at most 12, and at most LINES) of one of the kinds above
 //! The last line is the close in all but the nasty days.
 //!
@@ -35,11 +38,16 @@ const ORDINARY: u16 = DAY | DISPLAYED | PRICE_ADJUST;
 const HIDDEN: u16 = DAY | NON_DISPLAYED | PRICE_ADJUST;
 /// Day, Non-Displayed, Cancel Back: cancelled by a quote.
 const HIDDEN_BACK: u16 = DAY | NON_DISPLAYED | CANCEL_BACK;
+/// The ordinary word of kind 05.
+const RESERVED: u16 = ORDINARY | RESERVE;
+/// The ordinary words of orders that never rest.
+const TAKER: u16 = IOC | DISPLAYED | PRICE_ADJUST;
+const KILLER: u16 = FOK | DISPLAYED | PRICE_ADJUST;
 
 fn main() -> ExitCode {
     let arguments: Vec<String> = std::env::args().skip(1).collect();
     let Some((kind, seed, lines)) = read_arguments(&arguments) else {
-        eprintln!("usage: days plain|nasty|full|crossing|moving|short SEED LINES");
+        eprintln!("usage: days plain|nasty|full|crossing|moving|reserve|short SEED LINES");
         return ExitCode::from(2);
     };
     let mut output = BufWriter::with_capacity(64 * 1024, io::stdout().lock());
@@ -59,6 +67,7 @@ enum Kind {
     Full,
     Crossing,
     Moving,
+    Reserve,
     Short,
 }
 
@@ -70,6 +79,7 @@ fn read_arguments(arguments: &[String]) -> Option<(Kind, u64, u64)> {
         "full" => Kind::Full,
         "crossing" => Kind::Crossing,
         "moving" => Kind::Moving,
+        "reserve" => Kind::Reserve,
         "short" => Kind::Short,
         _ => return None,
     };
@@ -80,7 +90,17 @@ fn print_day(kind: Kind, seed: u64, lines: u64, output: &mut impl Write) -> io::
     let mut random = Random(seed);
     let (kind, lines) = match kind {
         Kind::Short => {
-            let kinds = [Kind::Plain, Kind::Nasty, Kind::Nasty, Kind::Full, Kind::Crossing, Kind::Moving, Kind::Moving];
+            let kinds = [
+                Kind::Plain,
+                Kind::Nasty,
+                Kind::Nasty,
+                Kind::Full,
+                Kind::Crossing,
+                Kind::Moving,
+                Kind::Moving,
+                Kind::Reserve,
+                Kind::Reserve,
+            ];
             (random.pick(&kinds), random.below(13).min(lines))
         }
         kind => (kind, lines),
@@ -94,7 +114,8 @@ fn print_day(kind: Kind, seed: u64, lines: u64, output: &mut impl Write) -> io::
             Kind::Plain => day.plain_line(),
             Kind::Full => day.full_line(),
             Kind::Crossing => day.crossing_line(),
-            Kind::Moving | Kind::Short => day.moving_line(),
+            Kind::Moving => day.moving_line(),
+            Kind::Reserve | Kind::Short => day.reserve_line(),
         };
         output.write_all(&line)?;
         // A refused command changes nothing and leaves its number free: the next line takes it.
@@ -145,8 +166,10 @@ struct Day {
     /// Nasty: the place of the close (none if past the day), and whether the last line feed is missing.
     close_at: u64,
     cut_end: bool,
-    /// Full: the number of orders that each side is held at, changed now and then.
+    /// Full and reserve: the number of orders that each side is held at, changed now and then.
     hold: usize,
+    /// Reserve: the number of prices that orders come at, changed with it.
+    prices: u32,
 }
 
 impl Day {
@@ -169,6 +192,7 @@ impl Day {
             close_at,
             cut_end,
             hold: PLACES,
+            prices: 1,
         }
     }
 
@@ -193,9 +217,27 @@ impl Day {
         Command { number: self.book.last_number.wrapping_add(1), time, body }
     }
 
+    /// Of kind 05 if the word has bit 10.
     fn order(&mut self, side: u8, word: u16, price: u32, shares: u32) -> Command {
         let price = if word & MARKET != 0 { 0 } else { price.clamp(MIN_PRICE, MAX_PRICE) };
-        self.command(Body::Order(Order { side, word, price, shares: shares.clamp(1, MAX_SHARES) }))
+        let shares = shares.clamp(1, MAX_SHARES);
+        let max_floor = if word & RESERVE != 0 { Some(self.max_floor(shares)) } else { None };
+        self.command(Body::Order(Order { side, word, price, shares, max_floor }))
+    }
+
+    /// Mostly one that the shares hold several times; also the least, the greatest, and one that
+    /// leaves a share to the reserve.
+    fn max_floor(&mut self, shares: u32) -> u32 {
+        let several = shares / self.random.between(2, 6);
+        let any = self.random.between(1, shares);
+        let max_floor = match self.random.below(16) {
+            0 => 1,
+            1 => shares,
+            2 => shares - 1,
+            3..=5 => any,
+            _ => several,
+        };
+        max_floor.max(1)
     }
 
     /// A quote of lawful prices: 0 stays 0, others are brought into the range.
@@ -260,7 +302,7 @@ impl Day {
                 price >= limit && price >= self.book.away_bid
             }
         };
-        self.side(1 - side).iter().filter(reached).map(|resting| resting.shares).sum()
+        self.side(1 - side).iter().filter(reached).map(|resting| resting.shares()).sum()
     }
 
     /// The price of a random opposite order, or the middle.
@@ -306,7 +348,8 @@ impl Day {
     /// An order that mostly rests.
     fn plain_maker(&mut self, side: u8) -> Command {
         let word = match self.random.below(100) {
-            0..=64 => ORDINARY,
+            0..=57 => ORDINARY,
+            58..=64 => return self.plain_reserve(side),
             65..=79 => HIDDEN,
             80..=87 => DAY | DISPLAYED | CANCEL_BACK,
             88..=97 => ORDINARY | POST_ONLY,
@@ -318,13 +361,22 @@ impl Day {
         self.order(side, word, price, shares)
     }
 
+    /// An order with reserve that shows a round lot or a few.
+    fn plain_reserve(&mut self, side: u8) -> Command {
+        let steps = self.random.between(0, 12);
+        let price = self.passive(side, steps);
+        let shares = 100 * self.random.between(5, 30);
+        let max_floor = Some(100 * self.random.between(1, 5));
+        self.command(Body::Order(Order { side, word: RESERVED, price, shares, max_floor }))
+    }
+
     /// An order that mostly executes against one to three others.
     fn plain_taker(&mut self, side: u8) -> Command {
         let word = match self.random.below(100) {
-            0..=49 => IOC | DISPLAYED | PRICE_ADJUST,
-            50..=64 => IOC | DISPLAYED | PRICE_ADJUST | MARKET,
-            65..=74 => FOK | DISPLAYED | PRICE_ADJUST,
-            75..=84 => IOC | DISPLAYED | PRICE_ADJUST | ISO,
+            0..=49 => TAKER,
+            50..=64 => TAKER | MARKET,
+            65..=74 => KILLER,
+            75..=84 => TAKER | ISO,
             _ => ORDINARY,
         };
         let steps = self.random.between(1, 4);
@@ -346,6 +398,13 @@ impl Day {
     fn nasty_full_line(&mut self) -> Vec<u8> {
         if self.printed == self.close_at {
             return self.closing_line();
+        }
+        let is_last = self.printed + 1 == self.lines;
+        if is_last && self.cut_end && self.random.percent(40) {
+            // All its digits are good: only the line feed is missing, which is cut off after this.
+            let side = self.any_side();
+            let command = self.order(side, RESERVED, self.middle, 100);
+            return write_command(&command);
         }
         if self.random.below(60) == 0 {
             self.middle = self.random.pick(&[100, 103, 500, 2000, 199_997, 200_000]);
@@ -393,7 +452,7 @@ impl Day {
             12..=24 if !self.side(side).is_empty() => self.cancel(side).expect("not empty"),
             _ => {
                 let word = self.lawful_word();
-                let word = self.random.pick(&[ORDINARY, HIDDEN, word]);
+                let word = self.random.pick(&[ORDINARY, HIDDEN, RESERVED, word, word]);
                 let price = self.middle.saturating_sub(4) + self.random.between(0, 8);
                 let shares = self.random.pick(&[1, 10, 50, 100, 1_000_000]);
                 let less = self.random.between(0, 9);
@@ -439,17 +498,37 @@ impl Day {
         const PRICES: [u32; 9] = [0, 1, 99, 100, 200_000, 200_001, 1 << 31, u32::MAX, 101];
         const SHARES: [u32; 8] = [0, 1, 1_000_000, 1_000_001, 0, 1_000_001, 1 << 24, u32::MAX];
         match body {
-            Body::Order(order) => match self.random.below(8) {
+            Body::Order(order) => match self.random.below(11) {
                 0 | 1 => order.price = self.random.pick(&PRICES),
                 2 | 3 => order.shares = self.random.pick(&SHARES),
                 4 => order.side = self.random.pick(&[2, 2, 3, 255]),
                 5 => {
-                    order.word = IOC | DISPLAYED | PRICE_ADJUST | MARKET; // a market order with a price
+                    order.word = TAKER | MARKET; // a market order with a price
                     order.price = self.random.pick(&[1, 99, 100, 2000, 200_001]);
+                    order.max_floor = None;
                 }
                 6 => {
                     let bit = self.random.below(16);
                     order.word = self.lawful_word() ^ 1 << bit;
+                }
+                // Bit 10 in kind 01, or kind 05 without it: by the word, or by the kind.
+                7 => order.word ^= RESERVE,
+                8 => {
+                    order.max_floor = match order.max_floor {
+                        Some(_) => None,
+                        None => Some(order.shares),
+                    };
+                }
+                9 => {
+                    let shares = order.shares;
+                    let max_floors = [0, 0, 1, shares, shares.wrapping_add(1), shares.wrapping_add(1), MAX_SHARES, u32::MAX];
+                    order.max_floor = Some(self.random.pick(&max_floors));
+                    if self.random.percent(90) {
+                        order.word = self.random.pick(&[RESERVED, RESERVED | ISO, RESERVED | POST_ONLY]);
+                    }
+                    if order.price == 0 {
+                        order.price = self.middle; // of a market order
+                    }
                 }
                 _ => {
                     // Just unlawful by one of the last rules, or anything.
@@ -457,17 +536,25 @@ impl Day {
                     let words = [
                         ORDINARY | POST_ONLY | ISO,
                         HIDDEN | POST_ONLY,
-                        IOC | DISPLAYED | PRICE_ADJUST | POST_ONLY,
+                        TAKER | POST_ONLY,
                         FOK | DISPLAYED | CANCEL_BACK | POST_ONLY,
-                        FOK | DISPLAYED | PRICE_ADJUST | ISO,
-                        IOC | DISPLAYED | PRICE_ADJUST | ISO | MARKET,
+                        KILLER | ISO,
+                        TAKER | ISO | MARKET,
                         ORDINARY | MARKET,
-                        anything & 0x03ff,
+                        TAKER | RESERVE,
+                        KILLER | RESERVE,
+                        HIDDEN | RESERVE,
+                        RESERVED | POST_ONLY | ISO,
+                        anything & 0x07ff,
                         anything,
                     ];
                     order.word = self.random.pick(&words);
                     if order.word & MARKET != 0 {
                         order.price = 0;
+                    }
+                    // Mostly the kind that bit 10 asks for, so that the rest of the word tells.
+                    if self.random.percent(75) {
+                        order.max_floor = if order.word & RESERVE != 0 { Some(order.shares) } else { None };
                     }
                 }
             },
@@ -488,7 +575,7 @@ impl Day {
     fn damage_text(&mut self, mut line: Vec<u8>) -> Vec<u8> {
         line.pop();
         let place = self.random.below(line.len() as u64) as usize;
-        match self.random.below(12) {
+        match self.random.below(13) {
             0 | 1 => line[place] = self.random.pick(b"g`/:@G xX-+\0\r\x7f\x80\xb0\xe1\xff"),
             2 => line.make_ascii_uppercase(),
             3 => {
@@ -519,10 +606,22 @@ impl Day {
                     line[1] = b'5';
                 }
             }
+            11 => {
+                // An order of one kind with the digits of the other: 40 with 05, 48 with 01.
+                match line.len() {
+                    40 => line[1] = b'5',
+                    48 => line[1] = b'1',
+                    _ => line.resize(48, b'0'),
+                }
+                if self.random.percent(50) {
+                    // Now as many digits as its kind has, and the bit 10 of the other one.
+                    line.resize(88 - line.len(), b'1');
+                }
+            }
             _ => {
-                // A line over 41 bytes; seldom one longer than any piece that is read.
+                // A line over 49 bytes; seldom one longer than any piece that is read.
                 let most = if self.random.below(100) == 0 { 150_000 } else { 200 };
-                let length = self.random.between(41, most);
+                let length = self.random.between(49, most);
                 while line.len() < length as usize {
                     line.push(self.random.pick(b"0123456789abcdef"));
                 }
@@ -543,7 +642,7 @@ impl Day {
         let steps = self.random.between(1, 30);
         let passive = self.passive(side, steps);
         let shares = self.random.between(1, 60);
-        let word = self.random.pick(&[ORDINARY, ORDINARY, HIDDEN, HIDDEN, HIDDEN_BACK, DAY | DISPLAYED | CANCEL_BACK, ORDINARY | POST_ONLY, ORDINARY | ISO]);
+        let word = self.random.pick(&[ORDINARY, ORDINARY, HIDDEN, HIDDEN, HIDDEN_BACK, DAY | DISPLAYED | CANCEL_BACK, ORDINARY | POST_ONLY, ORDINARY | ISO, RESERVED, RESERVED]);
         let choice = self.random.below(100);
         let command = if resting > self.hold && choice < 60 {
             self.cancel(side).expect("more than the hold rest")
@@ -563,7 +662,7 @@ impl Day {
                     let limit = self.best(1 - side).unwrap_or(passive);
                     let found = self.fillable(side, limit);
                     let shares = self.random.pick(&[1, found, found, found + 1, found.saturating_sub(1), found + 500]);
-                    let word = self.random.pick(&[ORDINARY, ORDINARY, word, IOC | DISPLAYED | PRICE_ADJUST, FOK | DISPLAYED | PRICE_ADJUST]);
+                    let word = self.random.pick(&[ORDINARY, ORDINARY, word, TAKER, KILLER]);
                     self.order(side, word, limit, shares)
                 }
                 // Post Only that meets, or Price Adjust and Cancel Back against the away price.
@@ -585,7 +684,7 @@ impl Day {
                 // Seldom, a sweep of a good part of the opposite side.
                 92 => {
                     let limit = self.opposite_price(side);
-                    self.order(side, IOC | DISPLAYED | PRICE_ADJUST, limit, 1000)
+                    self.order(side, TAKER, limit, 1000)
                 }
                 // Numbers again or too high, with any order.
                 93 => {
@@ -613,7 +712,7 @@ impl Day {
                 // Small orders at a few prices, for others to sweep.
                 let steps = self.random.between(0, 8);
                 let price = self.passive(side, steps);
-                let word = self.random.pick(&[ORDINARY, ORDINARY, HIDDEN, ORDINARY | ISO, HIDDEN_BACK]);
+                let word = self.random.pick(&[ORDINARY, ORDINARY, HIDDEN, ORDINARY | ISO, HIDDEN_BACK, RESERVED]);
                 let shares = self.random.between(1, 40);
                 if self.side(side).len() == PLACES && self.random.percent(90) {
                     self.cancel(side).expect("a full side is not empty")
@@ -637,26 +736,29 @@ impl Day {
                 };
                 let found = self.fillable(side, bound);
                 let shares = self.random.pick(&[found, found, found + 1, found.saturating_sub(1)]);
-                self.order(side, FOK | DISPLAYED | PRICE_ADJUST | market, limit, shares)
+                self.order(side, KILLER | market, limit, shares)
             }
             80..=86 => {
                 // Post Only at, one before and one past a price of the opposite side.
                 let price = self.opposite_price(side) - 1 + self.random.between(0, 2);
-                let pricing = self.random.pick(&[PRICE_ADJUST, PRICE_ADJUST, CANCEL_BACK]);
+                let pricing = self.random.pick(&[PRICE_ADJUST, PRICE_ADJUST, CANCEL_BACK, PRICE_ADJUST | RESERVE]);
                 self.order(side, DAY | DISPLAYED | POST_ONLY | pricing, price, 25)
             }
             _ => {
                 // Large orders through many: IOC, market, ISO, and Day ones with a remainder to rest.
                 let words = [
-                    IOC | DISPLAYED | PRICE_ADJUST,
+                    TAKER,
                     IOC | NON_DISPLAYED | CANCEL_BACK | MARKET,
-                    IOC | DISPLAYED | PRICE_ADJUST | ISO,
+                    TAKER | ISO,
                     ORDINARY | ISO,
                     HIDDEN | ISO,
                     ORDINARY,
                     DAY | DISPLAYED | CANCEL_BACK,
                     HIDDEN,
                     HIDDEN_BACK,
+                    RESERVED,
+                    RESERVED | ISO,
+                    DAY | DISPLAYED | CANCEL_BACK | RESERVE,
                 ];
                 let word = self.random.pick(&words);
                 let limit = self.opposite_price(side);
@@ -710,11 +812,11 @@ impl Day {
                 let limit = self.opposite_price(side);
                 let shares = self.random.between(1, 60);
                 let words = [
-                    IOC | DISPLAYED | PRICE_ADJUST,
-                    IOC | DISPLAYED | PRICE_ADJUST | ISO,
-                    IOC | DISPLAYED | PRICE_ADJUST | ISO,
+                    TAKER,
+                    TAKER | ISO,
+                    TAKER | ISO,
                     IOC | NON_DISPLAYED | CANCEL_BACK | MARKET,
-                    FOK | DISPLAYED | PRICE_ADJUST,
+                    KILLER,
                     ORDINARY,
                     HIDDEN,
                 ];
@@ -747,6 +849,8 @@ impl Day {
             ORDINARY | ISO,
             DAY | DISPLAYED | CANCEL_BACK,
             ORDINARY | POST_ONLY,
+            RESERVED,
+            RESERVED | ISO,
         ];
         let word = self.random.pick(&words);
         // Few prices, so that many orders meet at one; now and then the Locking Price itself.
@@ -786,14 +890,105 @@ impl Day {
         let (bid, offer) = quotes[choice as usize];
         self.quote(bid, offer)
     }
+
+    // Reserve days.
+
+    fn reserve_line(&mut self) -> Vec<u8> {
+        if self.printed % 250 == 0 {
+            self.hold = self.random.pick(&[3, 6, 6, 12, 24, PLACES]);
+            self.prices = self.random.between(1, 3);
+            if self.random.percent(50) {
+                self.middle = self.random.pick(&[1500, 1500, 3000, 104, 199_996]);
+            }
+        }
+        let side = self.any_side();
+        // The more orders a side is to hold, the longer it is left alone to get them.
+        let makers = if self.hold > 12 { 90 } else { 55 };
+        let command = match self.random.below(100) {
+            choice if choice < makers && self.side(side).len() < self.hold => self.reserve_maker(side),
+            0..=2 => match self.cancel(side) {
+                Some(cancel) => cancel,
+                None => self.reserve_maker(side),
+            },
+            3..=5 => self.moving_quote(),
+            6 => self.quote(0, 0),
+            7..=9 => self.reserve_maker(side), // beyond the hold: refused if the side is full
+            _ => self.reserve_taker(side),
+        };
+        write_command(&command)
+    }
+
+    fn reserve_maker(&mut self, side: u8) -> Command {
+        let words = [
+            RESERVED,
+            RESERVED,
+            RESERVED,
+            RESERVED,
+            RESERVED | ISO,
+            RESERVED | POST_ONLY,
+            DAY | DISPLAYED | CANCEL_BACK | RESERVE,
+            ORDINARY,
+            ORDINARY,
+            HIDDEN,
+            HIDDEN,
+            HIDDEN_BACK,
+        ];
+        let word = self.random.pick(&words);
+        // Nearly a whole side of them, for walks over 64 orders and their 64 reserves.
+        let word = if self.hold == PLACES && self.random.percent(95) { RESERVED } else { word };
+        let steps = self.random.between(1, self.prices);
+        let price = self.passive(side, steps);
+        let most = self.random.pick(&[3, 30, 30, 300]);
+        let shares = self.random.between(1, most);
+        self.order(side, word, price, shares)
+    }
+
+    /// An order that ends at, just short of or just past an edge of the walk over the best price
+    /// of the other side: the first shown part, all shown parts, the hidden orders behind them,
+    /// the first reserve, all of them. Or one anywhere in between, or through every price.
+    fn reserve_taker(&mut self, side: u8) -> Command {
+        let Some(best) = self.best(1 - side) else { return self.reserve_maker(1 - side) };
+        let at_best: Vec<Resting> = self.side(1 - side).iter().rev().copied().filter(|resting| resting.price == best).collect();
+        let sum = |hidden: bool| at_best.iter().filter(|resting| resting.hidden == hidden).map(|resting| resting.shown).sum::<u32>();
+        let (shown, hidden) = (sum(false), sum(true));
+        let first_reserve = at_best.iter().map(|resting| resting.reserve).find(|&reserve| reserve > 0).unwrap_or(0);
+        let all: u32 = at_best.iter().map(|resting| resting.shares()).sum();
+        let ranked = self.random.between(1, shown + hidden);
+        let any = self.random.between(1, all);
+        let edges = [
+            at_best[0].shown,
+            at_best[0].shown,
+            shown,
+            shown,
+            shown + hidden,
+            shown + hidden,
+            shown + hidden + first_reserve,
+            all,
+            ranked,
+            ranked,
+            any,
+        ];
+        let edge = self.random.pick(&edges);
+        let shares = self.random.pick(&[edge.saturating_sub(1), edge, edge, edge + 1]);
+        let through = self.random.below(20) == 0;
+        let worst = self.side(1 - side)[0].price;
+        let limit = if through { worst } else { best };
+        let shares = if through { self.fillable(side, limit) + self.random.between(0, 1) } else { shares };
+        let words = [TAKER, TAKER, TAKER, TAKER | ISO, KILLER, KILLER, TAKER | MARKET, ORDINARY, RESERVED, HIDDEN, HIDDEN_BACK | ISO];
+        let word = self.random.pick(&words);
+        self.order(side, word, limit, shares)
+    }
 }
 
 /// The line of a command, of any field values.
 fn write_command(command: &Command) -> Vec<u8> {
     let Command { number, time, body } = command;
     let line = match body {
-        Body::Order(Order { side, word, price, shares }) => {
+        Body::Order(Order { side, word, price, shares, max_floor: None }) => {
             format!("01{number:08x}{time:08x}{side:02x}{word:04x}{price:08x}{shares:08x}\n")
+        }
+        Body::Order(Order { side, word, price, shares, max_floor: Some(max_floor) }) => {
+            format!("05{number:08x}{time:08x}{side:02x}{word:04x}{price:08x}{shares:08x}{max_floor:08x}\n")
         }
         Body::Cancel { order } => format!("02{number:08x}{time:08x}{order:08x}\n"),
         Body::Quote { bid, offer } => format!("03{number:08x}{time:08x}{bid:08x}{offer:08x}\n"),

@@ -1,6 +1,6 @@
 //! An ordinary order book: command lines on standard input to its end, event lines on
-//! standard output, from the fresh book. Its law is paper 01 with W2 of paper 02; the book
-//! itself is `book.rs`.
+//! standard output, from the fresh book. Its law is paper 01 with W2 and W4 of paper 02; the
+//! book itself is `book.rs`.
 //!
 //! Compile: rustc -O --edition 2021 ordinary.rs
 
@@ -13,10 +13,11 @@ use std::process::ExitCode;
 
 /// Input is read and output written in pieces of about this size.
 const PIECE: usize = 64 * 1024;
-/// The longest command line has 40 digits and a line feed.
-const LONGEST_LINE: usize = 41;
-/// More than the event lines of any one command (a quote that moves 128 orders: 3,456 bytes).
-const ROOM: usize = 4096;
+/// The longest command line has 48 digits and a line feed.
+const LONGEST_LINE: usize = 49;
+/// More than the event lines of any one command (64 shown parts and 64 reserves taken and a
+/// remainder rested: 4,507 bytes).
+const ROOM: usize = 8192;
 
 fn main() -> ExitCode {
     let mut program = Program::new(io::stdout().lock());
@@ -54,7 +55,7 @@ impl<W: Write> Program<W> {
     fn work_input(&mut self, input: &mut impl Read) -> Result<(), String> {
         let mut buffer = vec![0; LONGEST_LINE + PIECE];
         let mut kept = 0;
-        let mut over_long = false; // inside a line over 41 bytes, its beginning dropped
+        let mut over_long = false; // inside a line over 49 bytes, its beginning dropped
         loop {
             let count = read_piece(input, &mut buffer[kept..kept + PIECE])?;
             if count == 0 {

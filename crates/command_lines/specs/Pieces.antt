@@ -10,8 +10,8 @@ use Rattle.rules.specs.Day.{cut, unendedLine}
 use Rattle.command_lines.specs.declared.lines.Read.{Read}
 use Rattle.command_lines.specs.declared.lines.Read.the-variants.{Failed, Ended, Upto}
 
--- "a line over 41 bytes" is refused whatever its bytes are, so of a part no more is kept than one byte over the longest line:
--- memory stays bounded
+-- "a line over 41 bytes", which W4 makes 49, is refused whatever its bytes are, so of a part no more is kept than one byte over the
+-- longest line: memory stays bounded
 abbrev pub partKept : ℕ
 partKept = longestLine + 1
 

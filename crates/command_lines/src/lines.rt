@@ -27,6 +27,7 @@ fn digits_after(c: u8) -> usize
         50 => rules::CANCEL_DIGITS,
         51 => rules::QUOTE_DIGITS,
         52 => rules::CLOSE_DIGITS,
+        53 => rules::RESERVE_DIGITS,
         _ => 0,
     }
 }

@@ -6,13 +6,16 @@ use kinds::Shares;
 use rules::Away;
 use rules::Body;
 use rules::BodyReading;
+use rules::Carried;
 use rules::Command;
 use rules::Order;
 use rules::Reading;
 ghost use mathlib.Core.Path.{_≡_};
 ghost use Prim.Native.Nat.{_<_};
-ghost use Rattle.rules.specs.CommandLines.{orderForm, cancelForm, quoteForm, closeForm, orderMade, cancelMade, quoteMade, closeMade};
+ghost use Rattle.rules.specs.CommandLines.{orderForm, cancelForm, quoteForm, closeForm, reserveForm};
+ghost use Rattle.rules.specs.CommandLines.{orderMade, cancelMade, quoteMade, closeMade, reserveMade};
 ghost use Rattle.rules.specs.CommandLines.{isEnded, bodyOfForm, bodyIn, commandIn};
+ghost use Rattle.command_lines.specs.Reading.{orderFields};
 
 // Whether `n` digits are followed by one line feed, and by no more.
 fn is_ended(s: &[u8], n: usize) -> bool
@@ -25,24 +28,61 @@ fn is_ended(s: &[u8], n: usize) -> bool
     s[n] == 10
 }
 
+// The fields that every order has, as an order that carries nothing, and whether all of them are good.
+struct OrderFields {
+    good: bool,
+    order: Order,
+}
+
+fn order_fields(s: &[u8]) -> OrderFields
+    ensures { λ r. ⌜ r ≡ orderFields (now (s .entry)) ⌝ }
+{
+    let side = digits::field_at(s, 0, 1);
+    let word = digits::field_at(s, 2, 2);
+    let price = digits::field_at(s, 6, 4);
+    let shares = digits::field_at(s, 14, 4);
+    OrderFields {
+        good: side.good & word.good & price.good & shares.good,
+        order: Order {
+            side: side.number as u8,
+            word: word.number as u16,
+            price: Cents(price.number),
+            shares: Shares(shares.number),
+            carried: Carried::Nothing,
+        },
+    }
+}
+
 fn read_order(s: &[u8]) -> BodyReading
     ensures { λ r. ⌜ r ≡ bodyOfForm orderForm orderMade (now (s .entry)) ⌝ }
 {
     if !is_ended(s, rules::ORDER_BODY) {
         return BodyReading::Bad;
     }
-    let side = digits::field_at(s, 0, 1);
-    let word = digits::field_at(s, 2, 2);
-    let price = digits::field_at(s, 6, 4);
-    let shares = digits::field_at(s, 14, 4);
-    if !(side.good & word.good & price.good & shares.good) {
+    let fields = order_fields(s);
+    if !fields.good {
         return BodyReading::Bad;
     }
+    let order = fields.order;
+    BodyReading::Is(Body::Order(order))
+}
+
+// An order of kind 05: the Max Floor stands after the shares (02, W4).
+fn read_reserve(s: &[u8]) -> BodyReading
+    ensures { λ r. ⌜ r ≡ bodyOfForm reserveForm reserveMade (now (s .entry)) ⌝ }
+{
+    if !is_ended(s, rules::RESERVE_BODY) {
+        return BodyReading::Bad;
+    }
+    let fields = order_fields(s);
+    let floor = digits::field_at(s, 22, 4);
+    if !(fields.good & floor.good) {
+        return BodyReading::Bad;
+    }
+    let order = fields.order;
     BodyReading::Is(Body::Order(Order {
-        side: side.number as u8,
-        word: word.number as u16,
-        price: Cents(price.number),
-        shares: Shares(shares.number),
+        carried: Carried::MaxFloor(Shares(floor.number)),
+        ..order
     }))
 }
 
@@ -94,11 +134,12 @@ fn read_body(kind: u32, s: &[u8]) -> BodyReading
         2 => read_cancel(s),
         3 => read_quote(s),
         4 => read_close(s),
+        5 => read_reserve(s),
         _ => BodyReading::Bad,
     }
 }
 
-// The command that a line is, or that it is not one of the four forms. The line from digit 18 on is handed to the body's reader.
+// The command that a line is, or that it is not one of the forms. The line from digit 18 on is handed to the body's reader.
 pub fn read_command(s: &[u8]) -> Reading
     ensures { λ r. ⌜ r ≡ commandIn (now (s .entry)) ⌝ }
 {

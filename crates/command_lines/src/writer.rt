@@ -3,6 +3,7 @@
 use kinds::Number;
 use rules::Away;
 use rules::Body;
+use rules::Carried;
 use rules::Command;
 use rules::Order;
 use rules::Reading;
@@ -11,18 +12,43 @@ ghost use mathlib.Core.List.{[], _∷_};
 ghost use Prim.Native.Nat.{_≤_, _<_};
 ghost use lib.ListN.{length};
 ghost use Rattle.basics.specs.Bytes.{onto};
-ghost use Rattle.rules.specs.CommandLines.{Fitting, headerForm, quoteForm, cancelForm, orderForm, digitsIn, written, line, kindOf, formOf, numbersOf, commandIn, lineOf};
+ghost use Rattle.rules.specs.CommandLines.{Fitting, headerForm, quoteForm, cancelForm, orderKindOf, orderFormOf, kindOf, formOf, numbersOf};
+ghost use Rattle.rules.specs.CommandLines.{digitsIn, written, line, commandIn, lineOf};
 ghost use Rattle.rules.specs.declared.Body.the-variants as body;
 ghost use Rattle.command_lines.specs.Writing.{writtenFor, bufferOf};
+
+fn order_kind(carried: Carried) -> u8
+    ensures { λ r. ⌜ r ≡ orderKindOf carried ⌝ }
+{
+    match carried {
+        Carried::Nothing => 1,
+        Carried::MaxFloor(_) => 5,
+    }
+}
 
 fn kind_of(body: Body) -> u8
     ensures { λ r. ⌜ r ≡ kindOf body ⌝ }
 {
     match body {
-        Body::Order(_) => 1,
+        Body::Order(order) => {
+            let carried = order.carried;
+            order_kind(carried)
+        }
         Body::Cancel(_) => 2,
         Body::Quote(_) => 3,
         Body::Close => 4,
+    }
+}
+
+// How many digits the body of an order has, by what it carries; its fields fit theirs.
+fn order_digits(order: Order) -> usize
+    ensures { λ r. ⌜ r ≡ digitsIn (orderFormOf (order .carried)) ⌝ }
+    ensures { λ _. ⌜ Fitting (formOf (body.Order order)) (numbersOf (body.Order order)) ⌝ }
+{
+    let carried = order.carried;
+    match carried {
+        Carried::Nothing => rules::ORDER_BODY,
+        Carried::MaxFloor(floor) => rules::RESERVE_BODY,
     }
 }
 
@@ -32,7 +58,7 @@ fn digits_in(body: Body) -> usize
     ensures { λ _. ⌜ Fitting (formOf body) (numbersOf body) ⌝ }
 {
     match body {
-        Body::Order(order) => rules::ORDER_BODY,
+        Body::Order(order) => order_digits(order),
         Body::Cancel(number) => rules::CANCEL_BODY,
         Body::Quote(away) => rules::QUOTE_BODY,
         Body::Close => rules::CLOSE_BODY,
@@ -49,14 +75,23 @@ fn write_header(out: &mut [u8], kind: u8, number: Number, time: u32)
 }
 
 fn write_order(out: &mut [u8], order: Order)
-    requires { ⌜ digitsIn orderForm < length (now out) ⌝ }
+    requires { ⌜ digitsIn (orderFormOf (order .carried)) < length (now out) ⌝ }
     ensures { λ _. ⌜ now (out .exit) ≡ onto (line (formOf (body.Order order)) (numbersOf (body.Order order))) (now (out .entry)) ⌝ }
 {
     digits::write_one(out, 0, order.side);
     digits::write_two(out, 2, order.word);
     digits::write_four(out, 6, order.price.0);
     digits::write_four(out, 14, order.shares.0);
-    out[rules::ORDER_BODY] = 10;
+    let carried = order.carried;
+    match carried {
+        Carried::Nothing => {
+            out[rules::ORDER_BODY] = 10;
+        }
+        Carried::MaxFloor(floor) => {
+            digits::write_four(out, 22, floor.0);
+            out[rules::RESERVE_BODY] = 10;
+        }
+    }
 }
 
 fn write_cancel(out: &mut [u8], number: Number)

@@ -9,7 +9,8 @@ use Rattle.kinds.specs.declared.Number.{Number}
 use Rattle.rules.specs.declared.Event.{Event}
 use Rattle.rules.specs.declared.Event.the-variants.{Cancelled}
 use Rattle.rules.specs.declared.Resting.{Resting}
-use Rattle.rules.specs.Book.{unused}
+use Rattle.kinds.specs.Kinds.{shares}
+use Rattle.rules.specs.Book.{unused, sharesLeft}
 use Rattle.rules.specs.EventLines.{byCommand}
 use Rattle.rules.specs.Commands.{isNumber}
 use Rattle.commands.specs.declared.cancels.Found.{Found}
@@ -24,4 +25,4 @@ whereIs of buys sells =
 
 -- the line of the order at a rank
 abbrev pub offLine : ℕ → List Resting → Event
-offLine at s = let h = getD s at unused in Cancelled (h .number) (h .shares) byCommand
+offLine at s = let h = getD s at unused in Cancelled (h .number) (shares (sharesLeft h)) byCommand

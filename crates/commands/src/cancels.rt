@@ -16,7 +16,8 @@ ghost use Prim.Native.Nat.{_≤_, _<_};
 ghost use lib.ListN.{length};
 ghost use Rattle.basics.specs.Bytes.{onto};
 ghost use mathlib.Core.List.{_++_};
-ghost use Rattle.basics.specs.Lists.{distinct, removeAt};
+ghost use Rattle.basics.specs.Lists.{distinct, removeAt, All};
+ghost use Rattle.side.specs.Shifts.{Countable};
 ghost use Rattle.side.specs.Table.{side, Holds, Shows};
 ghost use Rattle.rules.specs.Book.{numbers};
 ghost use Rattle.rules.specs.EventLines.{eventLine};
@@ -69,14 +70,15 @@ fn seek(x: &Index, buys: &Rows, n: usize, y: &Index, sells: &Rows, m: usize, of:
 
 // Takes the order at a rank off its side and writes its line; the length of the line.
 fn take_off(x: &mut Index, t: &Rows, n: usize, at: usize, out: &mut [u8]) -> usize
-    requires { ⌜ Holds n (now x) (now t) × (at < n) × (leastRoom ≤ length (now out)) ⌝ }
+    requires { ⌜ Holds n (now x) (now t) × (at < n) × (leastRoom ≤ length (now out)) × All Countable (side n (now x) (now t)) ⌝ }
     ensures { λ r. ⌜ r ≡ length (eventLine (offLine at (side n (now (x .entry)) (now (t .entry))))) ⌝ }
     ensures { λ _. ⌜ Shows (removeAt at (side n (now (x .entry)) (now (t .entry)))) (now (x .exit)) (now (t .entry)) ⌝ }
     ensures { λ _. ⌜ now (out .exit) ≡ onto (eventLine (offLine at (side n (now (x .entry)) (now (t .entry))))) (now (out .entry)) ⌝ }
 {
     let o = rows::at(x, t, n, at);
+    let left = rows::shares_left(o);
     shifts::remove(x, t, n, at);
-    writer::write_cancelled(out, o.number, o.shares, 1)
+    writer::write_cancelled(out, o.number, left, 1)
 }
 
 // What an accepted cancel leaves, by how many orders each side then holds.

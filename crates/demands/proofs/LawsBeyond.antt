@@ -1,6 +1,6 @@
 -- Beyond the demands: Post Only executes nothing; a closed book stays as it is, and settles every order; the numbers that act in a day
 -- are 1, 2, 3 .. to the last; and the accepted lines of a day, sent again after it, get only refusal 4. Assumes nothing.
-use Prim.Native.Nat.{ℕ, suc, _+_, _<_, _^_}
+use Prim.Native.Nat.{ℕ, suc, _+_, _≤_}
 use mathlib.Core.Bool.{true, false, true≢false}
 use mathlib.Core.List.{List, [], _∷_, _++_, append-assoc, append-nil}
 use mathlib.Core.Logic.{⊎-elim}
@@ -11,90 +11,109 @@ use native.Mathlib.Omega.{arith}
 use borrow.Author.Tests.{eqb-true}
 use Rattle.basics.specs.Lists.{All, none, also, OneOf, sumOf}
 use Rattle.basics.proofs.LawsChoice.{holds-or-not}
-use Rattle.basics.proofs.LawsLists.{all-alike, one-of-all}
+use Rattle.basics.proofs.LawsLists.{all-alike, all-both, one-of-all}
 use Rattle.kinds.specs.declared.Number.{Number}
 use Rattle.rules.specs.declared.Away.{Away}
-use Rattle.rules.specs.declared.Body.{Body}
 use Rattle.rules.specs.declared.Body.the-variants as body
 use Rattle.rules.specs.declared.Command.{Command}
 use Rattle.rules.specs.declared.Event.{Event}
+use Rattle.rules.specs.declared.Event.the-variants.{Executed, Rested, Cancelled, Moved}
+use Rattle.rules.specs.declared.EventReading.{EventReading}
+use Rattle.rules.specs.declared.EventReading.the-variants as event
 use Rattle.rules.specs.declared.Order.{Order}
 use Rattle.rules.specs.declared.Reading.{Reading}
 use Rattle.rules.specs.declared.Reading.the-variants as reading
 use Rattle.rules.specs.declared.Resting.{Resting}
 use Rattle.rules.specs.Book.{Book, fresh, sound, recordOf}
-use Rattle.rules.specs.CommandLines.{Fitting, empty, fits, orderForm, numbersOf, formOf, commandIn}
-use Rattle.rules.specs.Commands.{carriedOut, does}
+use Rattle.rules.specs.CommandLines.{commandIn}
 use Rattle.rules.specs.Day.{cut, unendedLine, linesIn, printed, bookAfter, printedOf}
-use Rattle.rules.specs.EventLines.{FitsEvent, eventLines, refusalLine}
+use Rattle.rules.specs.EventLines.{eventLine, eventLines, refusalLine}
+use Rattle.rules.specs.EventReading.{eventIn}
+use Rattle.rules.specs.Holdings.{Holding, holdings, nothing, executions, after}
 use Rattle.rules.specs.Instructions.{postOnly, has}
 use Rattle.rules.specs.Settling.{oppositeSide}
 use Rattle.rules.specs.Step.{answerTo}
-use Rattle.rules.specs.Working.{buying, nothing, walked, takings, remainder, executions, ending, lastLine, accept}
+use Rattle.rules.specs.Working.{buying, walked, takings, remainder, ending}
 use Rattle.rules.proofs.LawsCommands.{close-does}
-use Rattle.rules.proofs.LawsLines.{commandIn-is}
+use Rattle.rules.proofs.LawsEventReading.{eventIn-is}
+use Rattle.rules.proofs.LawsEvents.{executed-length, rested-length, cancelled-length, moved-length}
 use Rattle.soundness.proofs.LawsKept.{after-sound, fresh-sound}
 use Rattle.soundness.proofs.LawsSound.{sound-is}
 use Rattle.demands.specs.Beyond.{oneTo, repeated, NoExecution}
 use Rattle.demands.specs.Once.{Answering, commandNumber, endOf, actingNumbers, struckOut, acts, byLine, Call, byCall}
 use Rattle.demands.specs.Run.{Enters}
-use Rattle.demands.specs.Told.{eventsOn, eventsIn, executedIn, cancelledIn, restsOn, restingOf}
-use Rattle.demands.proofs.LawsEventLines.{events-read}
-use Rattle.demands.proofs.LawsExecutes.{acts-accepted}
+use Rattle.demands.specs.Told.{readAs, eventsOn, eventsIn, executedIn, cancelledIn, restsOn, restingOf}
+use Rattle.demands.proofs.LawsEventLines.{event-line-read}
+use Rattle.demands.proofs.LawsExecutes.{acts-accepted, acts-lines}
 use Rattle.demands.proofs.LawsFairly.{every-last}
+use Rattle.demands.proofs.LawsLinesTell.{every-refill}
 use Rattle.demands.proofs.LawsOnce.{refused-book, next-acts, by-line-keeps, end-is, by-call-keeps, repeat-refused}
 use Rattle.demands.proofs.LawsRun.{accepted-does, run-conserved}
 use Rattle.demands.proofs.LawsRuns.{Keeps}
-use Rattle.demands.proofs.LawsTold.{ending-fits, last-line-fits, header-number}
 use Rattle.demands.proofs.LawsWalked.{taken}
 
 -- ── Post Only ──
 
--- the last line of an order's work
-abbrev endOfWork : Number → Order → Book → List Event
-endOfWork n o b = lastLine n (remainder o (b .held .away) (oppositeSide (buying o) b)) (ending o (b .held .away) (oppositeSide (buying o) b))
-
 -- where nobody gives, there is no execution
-nothing-executes : (n : Number) (s : List Resting) → executions n s (nothing s) ≡ []
+nothing-executes : (n : Number) (s : List Holding) → executions n s (nothing s) ≡ []
 unfolding executions nothing
 nothing-executes n [] = refl
 nothing-executes n (h ∷ s) = nothing-executes n s
 
 -- to a Post Only order nobody gives
 post-only-executions : (n : Number) (o : Order) (away : Away) (s : List Resting) → has (o .word) postOnly ≡ true
-    → executions n s (takings o away s) ≡ []
+    → executions n (holdings s) (takings o away s) ≡ []
 unfolding walked
 post-only-executions n o away s p =
-    taken (λ (ts : List ℕ). executions n s ts ≡ []) o away s (nothing-executes n s) (rw p (nothing-executes n s))
+    taken (λ (ts : List ℕ). executions n (holdings s) ts ≡ []) o away s (nothing-executes n (holdings s)) (rw p (nothing-executes n (holdings s)))
 
--- so an accepted Post Only order has its last line alone
+-- so an accepted Post Only order has its last line alone, and on a book that is not sound those of refills
 post-only-events : (b : Book) (line : List ℕ) (c : Command) (o : Order) → acts b line ≡ true → commandIn line ≡ reading.Is c
-    → c .body ≡ body.Order o → has (o .word) postOnly ≡ true → answerTo b line .events ≡ endOfWork (c .number) o b
-unfolding does carriedOut accept
+    → c .body ≡ body.Order o → has (o .word) postOnly ≡ true → All NoExecution (answerTo b line .events)
 post-only-events b line c o t e f p =
-    rw (accepted-does b line c e t .1, f, post-only-executions (c .number) o (b .held .away) (oppositeSide (buying o) b) p) refl
-
--- .. whose fields fit their widths, on any book: they are of the line that was read, or in range
-end-of-work-fits : (n : Number) (o : Order) (b : Book) → n .0 < 2 ^ 32 → Fitting orderForm (numbersOf (body.Order o))
-    → All FitsEvent (endOfWork n o b)
-unfolding remainder
-end-of-work-fits n o b l (fits w side i (fits x word j (fits y price q (fits z size r empty)))) =
     let s = oppositeSide (buying o) b in
-    last-line-fits n (remainder o (b .held .away) s) l (omega (arith, r)) (ending-fits o (b .held .away) s q)
+    let away = b .held .away in
+    rw (acts-lines b line c o t e f, post-only-executions (c .number) o away s p)
+    (all-both (every-last (c .number) (λ price k. tt) (λ k reason. tt) (remainder o away s) (ending o away s))
+    (every-refill {P = NoExecution} (λ m price k. tt) (after s (takings o away s))))
+
+-- the line of an event that executes nothing, whatever its fields, is read as none that does: the line of an execution is longer
+read-executes-nothing : (e : Event) → NoExecution e → All NoExecution (readAs (eventIn (eventLine e)))
+read-executes-nothing e n = by-reading (eventIn (eventLine e)) refl
+  where
+    shorter : (e : Event) → NoExecution e → length (eventLine e) ≤ 27
+    shorter (Executed incoming resting price given) n = absurd n
+    shorter (Rested m price given) n = omega (arith, rested-length m price given)
+    shorter (Cancelled m given reason) n = omega (arith, cancelled-length m given reason)
+    shorter (Moved m price given) n = omega (arith, moved-length m price given)
+
+    none-longer : (d : Event) → eventLine e ≡ eventLine d → NoExecution d
+    none-longer (Executed incoming resting price given) same =
+        let long : length (eventLine e) ≡ 35 = ap length same ∙ executed-length incoming resting price given in
+        let z : ⊥ = omega (arith, long, shorter e n) in
+        z
+    none-longer (Rested m price given) same = tt
+    none-longer (Cancelled m given reason) same = tt
+    none-longer (Moved m price given) same = tt
+
+    by-reading : (r : EventReading) → eventIn (eventLine e) ≡ r → All NoExecution (readAs r)
+    by-reading (event.Is d) is = also (none-longer d (eventIn-is (eventLine e) d is .line-is)) none
+    by-reading event.UnknownKind is = none
+    by-reading event.Short is = none
+    by-reading event.TrailingBytes is = none
+    by-reading event.BadDigitOrEnding is = none
+
+lines-execute-nothing : {es : List Event} → All NoExecution es → All NoExecution (eventsIn (eventLines es))
+unfolding eventLines cut unendedLine linesIn eventsOn
+lines-execute-nothing none = none
+lines-execute-nothing (also {x = e} {s = es} n a) =
+    rw (event-line-read e (eventLines es)) (all-both (read-executes-nothing e n) (lines-execute-nothing a))
 
 -- so what is printed of it tells no execution
 pub post-only-executes-nothing : (b : Book) (line : List ℕ) (c : Command) (o : Order) → acts b line ≡ true → commandIn line ≡ reading.Is c
     → c .body ≡ body.Order o → has (o .word) postOnly ≡ true → All NoExecution (eventsIn (printed (answerTo b line)))
-unfolding printed cut unendedLine linesIn eventsOn
-post-only-executes-nothing b line c o t e f p =
-    let read = commandIn-is line c e .fits-are in
-    let asOrder : Fitting orderForm (numbersOf (body.Order o)) = subst (λ (x : Body). Fitting (formOf x) (numbersOf x)) f (read .body) in
-    let es = endOfWork (c .number) o b in
-    let fitting = end-of-work-fits (c .number) o b (header-number (read .header)) asOrder in
-    let told : eventsIn (eventLines es) ≡ es = sym (ap eventsIn (append-nil (eventLines es))) ∙ events-read [] fitting ∙ append-nil es in
-    rw (t, post-only-events b line c o t e f p, told)
-    (every-last (c .number) (λ price k. tt) (λ k reason. tt)
-    (remainder o (b .held .away) (oppositeSide (buying o) b)) (ending o (b .held .away) (oppositeSide (buying o) b)))
+unfolding printed
+post-only-executes-nothing b line c o t e f p = rw t (lines-execute-nothing (post-only-events b line c o t e f p))
 
 -- ── The close ──
 

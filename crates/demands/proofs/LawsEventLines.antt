@@ -25,13 +25,17 @@ line-read : (form ns rest : List ℕ) → eventsIn (line form ns ++ rest) ≡ re
 unfolding eventsOn
 line-read form ns rest = ap eventsOn (line-first form ns rest)
 
+pub event-line-read : (e : Event) (rest : List ℕ) → eventsIn (eventLine e ++ rest) ≡ readAs (eventIn (eventLine e)) ++ eventsIn rest
+unfolding eventLine
+event-line-read e rest = line-read (eventForm e) (eventNumbers e) rest
+
 -- event lines tell their events, and then what follows is read
 pub events-read : {es : List Event} (rest : List ℕ) → All FitsEvent es → eventsIn (eventLines es ++ rest) ≡ es ++ eventsIn rest
-unfolding eventLines eventLine
+unfolding eventLines
 events-read rest none = refl
 events-read rest (also {x = e} {s = es} f a) =
     ap eventsIn (append-assoc (eventLine e) (eventLines es) rest)
-    ∙ rw (line-read (eventForm e) (eventNumbers e) (eventLines es ++ rest), eventIn-eventLine e f, events-read rest a) refl
+    ∙ rw (event-line-read e (eventLines es ++ rest), eventIn-eventLine e f, events-read rest a) refl
 
 -- the line of a refusal tells nothing, and then what follows is read
 pub refusal-read : (k : ℕ) (rest : List ℕ) → eventsIn (refusalLine k ++ rest) ≡ eventsIn rest

@@ -8,7 +8,7 @@ use mathlib.Core.Path.{_≡_, refl}
 use lib.Dec.{eqb}
 use native.Mathlib.Omega.{arith}
 use borrow.Author.Tests.{eqb-false}
-use Rattle.basics.specs.Lists.{All, none, also, OneOf}
+use Rattle.basics.specs.Lists.{All, none, also, OneOf, Each, with}
 use Rattle.basics.proofs.LawsChoice.{holds-or-not}
 use Rattle.basics.proofs.LawsLists.{all-alike, all-both, each-there, gathered-all}
 use Rattle.kinds.specs.Kinds.{shares}
@@ -26,20 +26,23 @@ use Rattle.rules.specs.declared.Event.the-variants.{Executed, Rested, Cancelled
 use Rattle.rules.specs.declared.Order.{Order}
 use Rattle.rules.specs.declared.Reading.the-variants as reading
 use Rattle.rules.specs.declared.Resting.{Resting}
-use Rattle.rules.specs.Book.{Book, sound}
+use Rattle.rules.specs.Book.{Book, sharesLeft, sound}
 use Rattle.rules.specs.CommandLines.{commandIn}
 use Rattle.rules.specs.Instructions.{postOnly, has}
 use Rattle.rules.specs.declared.Fate.{Fate}
 use Rattle.rules.specs.declared.Fate.the-variants.{Stays, IsCancelled, IsSet}
 use Rattle.rules.specs.Settling.{toldBy, told, oppositeSide}
 use Rattle.rules.specs.Step.{answerTo}
-use Rattle.rules.specs.Working.{buying, nothing, walked, takings, remainder, executions, ending, lastLine}
+use Rattle.rules.specs.Holdings.{Holding, holdings, nothing, executions, after}
+use Rattle.rules.specs.Working.{buying, walked, takings, remainder, ending, lastLine}
 use Rattle.rules.proofs.LawsCommands.{fateBy}
+use Rattle.rules.proofs.LawsWalkOrder.{holdings-there}
 use Rattle.soundness.proofs.LawsSides.{sides-of}
 use Rattle.soundness.proofs.LawsSound.{sound-is}
 use Rattle.demands.specs.Once.{acts}
-use Rattle.demands.specs.ShareOut.{Each, with, Fair, LawfulGiving}
+use Rattle.demands.specs.ShareOut.{Fair, LawfulGiving}
 use Rattle.demands.proofs.LawsExecutes.{acts-accepted, acts-order, acts-lines, order-side}
+use Rattle.demands.proofs.LawsLinesTell.{every-refill}
 use Rattle.demands.proofs.LawsShareOut.{pricedAt, takings-lawful}
 use Rattle.demands.proofs.LawsWalked.{taken}
 
@@ -47,14 +50,14 @@ use Rattle.demands.proofs.LawsWalked.{taken}
 
 -- what holds of each execution line of an order, of each cancel and of each move of a command, or of each last line, holds of all of them
 pub every-execution : {P : Event → Type 0} (m : Number) → ((h : Resting) (t : ℕ) → P (Executed m (h .number) (h .price) (shares t)))
-    → (s : List Resting) (ts : List ℕ) → All P (executions m s ts)
+    → (s : List Holding) (ts : List ℕ) → All P (executions m s ts)
 unfolding executions
 every-execution m f [] ts = none
 every-execution m f (h ∷ s) [] = none
 every-execution m f (h ∷ s) (t ∷ ts) =
     ⊎-elim
     (λ (z : eqb t 0 ≡ true). rw z (every-execution m f s ts))
-    (λ (z : eqb t 0 ≡ false). rw z (also (f h t) (every-execution m f s ts)))
+    (λ (z : eqb t 0 ≡ false). rw z (also (f (h .of) t) (every-execution m f s ts)))
     (holds-or-not (eqb t 0))
 
 pub every-told : {P : Event → Type 0} → ((m : Number) (k : Shares) (reason : ℕ) → P (Cancelled m k reason))
@@ -65,7 +68,7 @@ every-told {P = P} gone moved c b = all-both (of-side (fateBy c true) (b .buys))
   where
     by-fate : (f : Fate) (h : Resting) → All P (toldBy f h)
     by-fate Stays h = none
-    by-fate (IsCancelled reason) h = also (gone (h .number) (h .shares) reason) none
+    by-fate (IsCancelled reason) h = also (gone (h .number) (shares (sharesLeft h)) reason) none
     by-fate (IsSet new) h = also (moved (new .number) (new .price) (new .shares)) none
 
     of-side : (fate : Resting → Fate) (s : List Resting) → All P (told fate s)
@@ -96,8 +99,8 @@ FairlyExecuted o away n s (Moved m price shares) = Unit {0}
 
 module _ (o : Order) (away : Away) (n : Number) {side : List Resting} where
   -- those of a lawful share-out
-  executions-fairly : (ts : List ℕ) {s : List Resting} → All (λ (h : Resting). OneOf h side) s → Each (LawfulGiving o away) s (pricedAt s ts)
-      → All (FairlyExecuted o away n side) (executions n s ts)
+  executions-fairly : (ts : List ℕ) {hs : List Holding} → All (λ (h : Holding). OneOf (h .of) side) hs → Each (LawfulGiving o away) hs (pricedAt hs ts)
+      → All (FairlyExecuted o away n side) (executions n hs ts)
   unfolding executions pricedAt
   executions-fairly ts none e = none
   executions-fairly [] (also p a) e = none
@@ -106,21 +109,21 @@ module _ (o : Order) (away : Away) (n : Number) {side : List Resting} where
       (λ (z : eqb t 0 ≡ true). rw z (executions-fairly ts a e))
       (λ (z : eqb t 0 ≡ false).
       let gives : 0 < t = omega (arith, eqb-false t 0 z) in
-      let own : Fairly o away n side n (h .number) (h .price) =
-      record { isIncoming = refl; whom = h; there = p; isResting = refl; atItsPrice = refl; isFair = l .fair gives } in
+      let own : Fairly o away n side n (h .of .number) (h .of .price) =
+      record { isIncoming = refl; whom = h .of; there = p; isResting = refl; atItsPrice = refl; isFair = l .fair gives } in
       rw z (also own (executions-fairly ts a e)))
       (holds-or-not (eqb t 0))
 
   -- of nothing there is none
-  nothing-fairly : (s : List Resting) → All (FairlyExecuted o away n side) (executions n s (nothing s))
+  nothing-fairly : (hs : List Holding) → All (FairlyExecuted o away n side) (executions n hs (nothing hs))
   unfolding executions nothing
   nothing-fairly [] = none
-  nothing-fairly (h ∷ s) = nothing-fairly s
+  nothing-fairly (h ∷ hs) = nothing-fairly hs
 
 -- Post Only takes nothing
-post-only-takes-nothing : (o : Order) (away : Away) (s : List Resting) → has (o .word) postOnly ≡ true → takings o away s ≡ nothing s
+post-only-takes-nothing : (o : Order) (away : Away) (s : List Resting) → has (o .word) postOnly ≡ true → takings o away s ≡ nothing (holdings s)
 unfolding walked
-post-only-takes-nothing o away s t = taken (λ (ts : List ℕ). ts ≡ nothing s) o away s refl (rw t refl)
+post-only-takes-nothing o away s t = taken (λ (ts : List ℕ). ts ≡ nothing (holdings s)) o away s refl (rw t refl)
 
 -- the executions of an accepted order
 pub order-fairly : (b : Book) (line : List ℕ) (c : Command) (o : Order) → sound b ≡ true
@@ -132,10 +135,12 @@ order-fairly b line c o s t e f =
     let side = oppositeSide (buying o) b in
     let fairly =
     ⊎-elim
-    (λ (p : has (o .word) postOnly ≡ true). rw (post-only-takes-nothing o away side p) (nothing-fairly o away n side))
+    (λ (p : has (o .word) postOnly ≡ true). rw (post-only-takes-nothing o away side p) (nothing-fairly o away n (holdings side)))
     (λ (p : has (o .word) postOnly ≡ false).
     let order = acts-order b c o (acts-accepted b line c t e) f in
     let lawful = takings-lawful o away side (order-side o (order .inRange)) p (sides-of (buying o) b (sound-is b s) .oppositeRanked) in
-    executions-fairly o away n (takings o away side) (each-there side) (lawful .each))
+    executions-fairly o away n (takings o away side) (holdings-there side) (lawful .each))
     (holds-or-not (has (o .word) postOnly)) in
-    rw (acts-lines b line c o t e f) (all-both fairly (every-last n (λ price k. tt) (λ k reason. tt) (remainder o away side) (ending o away side)))
+    let last = every-last {P = FairlyExecuted o away n side} n (λ price k. tt) (λ k reason. tt) (remainder o away side) (ending o away side) in
+    let refills = every-refill {P = FairlyExecuted o away n side} (λ m price k. tt) (after side (takings o away side)) in
+    rw (acts-lines b line c o t e f) (all-both fairly (all-both last refills))

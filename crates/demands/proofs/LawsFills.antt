@@ -1,103 +1,106 @@
--- Demand 3 determines the fills: two outcomes of an order that both meet `Executes` give each resting order the same, and execute
--- the same in all. Assumes nothing.
+-- Demand 3 determines the fills: two outcomes of an order that both meet `Executes` have the very same executions, line by line; so they give
+-- each resting order the same, and execute the same in all. Assumes nothing.
 use Prim.Native.Nat.{ℕ, _+_, _≤_, _<_}
 use mathlib.Core.Bool.{Bool, true, false, not}
 use mathlib.Core.List.{List, [], _∷_}
 use mathlib.Core.Logic.{⊎-elim}
-use mathlib.Core.Path.{_≡_, refl, sym, subst}
+use mathlib.Core.Path.{_≡_, refl, sym, ap, subst, _∙_}
+use lib.Dec.{eqb}
 use native.Mathlib.Omega.{arith}
-use Rattle.basics.specs.Lists.{sumOf, All, none, also, OneOf, first, later}
+use borrow.Author.Tests.{eqb-false}
+use Rattle.basics.specs.Choice.{if_then_else_}
+use Rattle.basics.specs.Lists.{sumOf, gathered, OneOf, Each, empty, with}
 use Rattle.basics.proofs.LawsChoice.{holds-or-not, lt-or-le}
 use Rattle.basics.proofs.LawsLists.{one-of-all}
+use Rattle.kinds.specs.declared.Cents.{Cents}
+use Rattle.kinds.specs.declared.Number.{Number}
+use Rattle.kinds.specs.Kinds.{shares}
 use Rattle.rules.specs.declared.Away.{Away}
 use Rattle.rules.specs.declared.Command.{Command}
 use Rattle.rules.specs.declared.Event.{Event}
+use Rattle.rules.specs.declared.Event.the-variants.{Executed, Rested, Cancelled, Moved}
 use Rattle.rules.specs.declared.Order.{Order}
 use Rattle.rules.specs.declared.Resting.{Resting}
-use Rattle.rules.specs.Book.{Book, ranksBefore, inRankOrder, sound}
+use Rattle.rules.specs.Book.{Book, inRankOrder, sound}
+use Rattle.rules.specs.Holdings.{Holding, size, walksBefore}
 use Rattle.rules.specs.Working.{buying}
-use Rattle.rules.proofs.LawsRank.{ranked-first, ranked-rest}
+use Rattle.rules.proofs.LawsWalkOrder.{BeforeAll, InWalkOrder, nobody, somebody, holdings-walk}
 use Rattle.soundness.proofs.LawsSides.{sides-of}
 use Rattle.soundness.proofs.LawsSound.{sound-is}
-use Rattle.demands.specs.Executes.{Tells, Executes}
-use Rattle.demands.specs.ShareOut.{opposite, Given, Each, empty, with, Fair, LawfulGiving, given}
+use Rattle.demands.specs.Executes.{executionsIn, linesOf, Executes}
+use Rattle.demands.specs.ShareOut.{opposite, Given, Beside, here, later, Fair, LawfulGiving, given}
 use Rattle.demands.specs.Told.{executedIn, givenIn, isKilled}
+use Rattle.demands.proofs.LawsShareOut.{beside-there}
 
--- ── Two ways to give, over any side in rank order ──
+-- ── Two share-outs of holdings in the order of the walk ──
 
--- some order of a side gives a share, if all give one together
-some-gives : {P : Type 0} (gives : Resting → ℕ) (s : List Resting) → 0 < sumOf gives s → ((h : Resting) → OneOf h s → 0 < gives h → P) → P
-unfolding sumOf
-some-gives gives [] l f = let z : ⊥ = omega (arith, l) in absurd z
-some-gives gives (h ∷ s) l f =
-    ⊎-elim
-    (λ (p : 0 < gives h). f h first p)
-    (λ (p : gives h ≤ 0). some-gives gives s (omega (arith, l, p)) (λ x q. f x (later q)))
-    (lt-or-le 0 (gives h))
+module _ (buy : Bool) (o : Order) (away : Away) where
+  -- some holding gives a share, if all give one together
+  some-gives : {P : Type 0} {hs : List Holding} {gs : List Given} → Each (LawfulGiving o away) hs gs → 0 < given gs
+      → ((h : Holding) (g : Given) → Beside h g hs gs → 0 < g .shares → P) → P
+  unfolding sumOf
+  some-gives empty l f = let z : ⊥ = omega (arith, l) in absurd z
+  some-gives (with {x = h} {y = g} lawful e) l f =
+      ⊎-elim
+      (λ (p : 0 < g .shares). f h g here p)
+      (λ (p : g .shares ≤ 0). some-gives e (omega (arith, l, p)) (λ x k q. f x k (later q)))
+      (lt-or-le 0 (g .shares))
 
--- an order gives no more than it holds, and gives a share only if it may
-record Within (May : Resting → Type 0) (gives : Resting → ℕ) (h : Resting) : Type 0 where
-  noMore : gives h ≤ h .shares .0
-  may : 0 < gives h → May h
+  -- none gives a share while one that the walk reaches before it, and that could lawfully give, keeps one
+  abbrev GivesByRank : List Holding → List Given → Type 0
+  GivesByRank hs gs = (better worse : Holding) (gives takes : Given) → Beside better gives hs gs → Beside worse takes hs gs
+      → walksBefore buy better worse ≡ true → 0 < takes .shares → Fair o away (better .of .price) → gives .shares ≡ size better
 
-module _ (buy : Bool) (May : Resting → Type 0) where
-  -- none gives a share while a better-ranked one that may give keeps one
-  abbrev GivesByRank : (Resting → ℕ) → List Resting → Type 0
-  GivesByRank gives s = (better worse : Resting) → OneOf better s → OneOf worse s → ranksBefore buy better worse ≡ true
-      → 0 < gives worse → May better → gives better ≡ better .shares .0
-
-  by-rank-rest : (gives : Resting → ℕ) (h : Resting) (s : List Resting) → GivesByRank gives (h ∷ s) → GivesByRank gives s
-  by-rank-rest gives h s r better worse p q = r better worse (later p) (later q)
+  later-rank : {h : Holding} {hs : List Holding} {g : Given} {gs : List Given} → GivesByRank (h ∷ hs) (g ∷ gs) → GivesByRank hs gs
+  later-rank r better worse gives takes p q = r better worse gives takes (later p) (later q)
 
   -- the first does not give less than it does otherwise: others would give a share in its stead, while it keeps one that it may give
-  first-no-less : (f g : Resting → ℕ) (h : Resting) (s : List Resting) → inRankOrder buy (h ∷ s) ≡ true
-      → GivesByRank f (h ∷ s) → Within May g h → f h + sumOf f s ≡ g h + sumOf g s → g h ≤ f h
-  first-no-less f g h s ranked r w e =
+  first-no-less : {h : Holding} {hs : List Holding} {f g : Given} {fs : List Given} (gs : List Given) → BeforeAll buy h hs → GivesByRank (h ∷ hs) (f ∷ fs)
+      → Each (LawfulGiving o away) hs fs → LawfulGiving o away h g → f .shares + given fs ≡ g .shares + given gs → g .shares ≤ f .shares
+  first-no-less {h = h} {f = f} {g = g} gs before r others w e =
       ⊎-elim
-      (λ (l : f h < g h).
-      some-gives f s (omega (arith, l, e))
-      (λ x p gives.
-      let whole = r h x first (later p) (one-of-all (ranked-first buy h s ranked) p) gives (w .may (omega (arith, l))) in
-      omega (arith, whole, w .noMore)))
-      (λ (l : g h ≤ f h). l)
-      (lt-or-le (f h) (g h))
+      (λ (l : f .shares < g .shares).
+      some-gives others (omega (arith, l, e))
+      (λ x k p gives.
+      let some : 0 < g .shares = omega (arith, l) in
+      let whole = r h x f k here (later p) (one-of-all before (beside-there p)) gives (subst (Fair o away) (w .atItsPrice some) (w .fair some)) in
+      omega (arith, whole, w .noMore, l)))
+      (λ (l : g .shares ≤ f .shares). l)
+      (lt-or-le (f .shares) (g .shares))
 
-  -- so two ways that give the same in all give the same from each
-  ways-agree : (f g : Resting → ℕ) {s : List Resting} → inRankOrder buy s ≡ true → GivesByRank f s → GivesByRank g s
-      → All (Within May f) s → All (Within May g) s → sumOf f s ≡ sumOf g s → All (λ (h : Resting). f h ≡ g h) s
-  unfolding sumOf
-  ways-agree f g ranked p q none none e = none
-  ways-agree f g ranked p q (also {x = h} {s = s} v a) (also w b) e =
-      let more = first-no-less f g h s ranked p w e in
-      let less = first-no-less g f h s ranked q v (sym e) in
-      let same : f h ≡ g h = omega (arith, more, less) in
-      also same (ways-agree f g (ranked-rest buy h s ranked) (by-rank-rest f h s p) (by-rank-rest g h s q) a b (omega (arith, same, e)))
+  -- one line, where the shares are the same and, of a line, the price
+  line-same : (n m : Number) {p q : Cents} (j k : ℕ) {es fs : List Event} → j ≡ k → (0 < j → p ≡ q) → es ≡ fs
+      → (if eqb j 0 then es else Executed n m p (shares j) ∷ es) ≡ (if eqb k 0 then fs else Executed n m q (shares k) ∷ fs)
+  line-same n m {q = q} j k {es = es} {fs = fs} e price same =
+      rw (← e)
+      (⊎-elim
+      (λ (z : eqb j 0 ≡ true). rw z same)
+      (λ (z : eqb j 0 ≡ false). rw z (rw (price (omega (arith, eqb-false j 0 z)), same) refl))
+      (holds-or-not (eqb j 0)))
+
+  -- so two share-outs that give the same in all are told by the same lines
+  lines-agree : (n : Number) {hs : List Holding} {fs gs : List Given} → InWalkOrder buy hs → GivesByRank hs fs → GivesByRank hs gs
+      → Each (LawfulGiving o away) hs fs → Each (LawfulGiving o away) hs gs → given fs ≡ given gs → linesOf n hs fs ≡ linesOf n hs gs
+  unfolding sumOf linesOf
+  lines-agree n nobody r q empty empty e = refl
+  lines-agree n (somebody {h = h} before w) r q (with {y = f} {u = fs} l others) (with {y = g} {u = gs} m more) e =
+      let least = first-no-less gs before r others m e in
+      let most = first-no-less fs before q more l (sym e) in
+      let same : f .shares ≡ g .shares = omega (arith, least, most) in
+      line-same n (h .of .number) (f .shares) (g .shares) same
+      (λ (p : 0 < f .shares). l .atItsPrice p ∙ sym (m .atItsPrice (omega (arith, p, same))))
+      (lines-agree n w (later-rank r) (later-rank q) others more (omega (arith, same, e)))
 
 -- ── Two outcomes of an order ──
 
--- what the lines of an outcome tell that a resting order gives
-abbrev givesIn : List Event → Resting → ℕ
-givesIn es h = givenIn (h .number) es
-
--- .. which is in all what the share-out that they tell gives
-told-sum : {es : List Event} {s : List Resting} {gs : List Given} → Each (Tells es) s gs → sumOf (givesIn es) s ≡ given gs
-unfolding sumOf
-told-sum empty = refl
-told-sum (with t e) = omega (arith, t .shares, told-sum e)
-
--- an order "that could lawfully give"
-abbrev MayGive : Order → Away → Resting → Type 0
-MayGive o away h = Fair o away (h .price)
-
--- who gives in a lawful share-out gives within its holding, and could lawfully give
-told-within : (o : Order) (away : Away) {es : List Event} {s : List Resting} {gs : List Given}
-    → Each (Tells es) s gs → Each (LawfulGiving o away) s gs → All (Within (MayGive o away) (givesIn es)) s
-told-within o away empty empty = none
-told-within o away {es = es} (with {x = h} t e) (with l d) =
-    also {x = h} (record { noMore = omega (arith, t .shares, l .noMore); may = lawfully }) (told-within o away e d)
-  where
-    lawfully : 0 < givesIn es h → MayGive o away h
-    lawfully p = let q = rw (t .shares) at p in subst (Fair o away) (l .atItsPrice q) (l .fair q)
+-- what an order gives is told by the executions alone
+given-executions : (n : Number) (es : List Event) → givenIn n es ≡ givenIn n (executionsIn es)
+unfolding sumOf gathered
+given-executions n [] = refl
+given-executions n (Executed incoming resting price shares ∷ es) = omega (arith, given-executions n es)
+given-executions n (Rested m price shares ∷ es) = omega (arith, given-executions n es)
+given-executions n (Cancelled m shares reason ∷ es) = omega (arith, given-executions n es)
+given-executions n (Moved m price shares ∷ es) = omega (arith, given-executions n es)
 
 module _ (stood : Book) (c : Command) (o : Order) where
   -- an order that is killed in one outcome is killed in the other ..
@@ -112,27 +115,30 @@ module _ (stood : Book) (c : Command) (o : Order) where
       (λ (k : isKilled (c .number) fs ≡ false). omega (arith, x .inAll, y .greatest k (x .shareOut) (x .isLawful)))
       (holds-or-not (isKilled (c .number) fs))
 
--- where the opposite side is in rank order (of soundness no more is needed), demand 3 determines what each of it gives, and what is executed in all
+-- where the opposite side is in rank order (of soundness no more is needed), demand 3 determines the executions, what each of the side gives, and
+-- what is executed in all
 pub ranked-fills-determined : (stood : Book) (c : Command) (o : Order) (es fs : List Event)
     → inRankOrder (not (buying o)) (opposite o stood) ≡ true → Executes stood c o es → Executes stood c o fs
     → ((h : Resting) → OneOf h (opposite o stood) → givenIn (h .number) es ≡ givenIn (h .number) fs)
     × (executedIn (c .number) es ≡ executedIn (c .number) fs)
+    × (executionsIn es ≡ executionsIn fs)
 ranked-fills-determined stood c o es fs ranked x y =
-    let away = stood .held .away in
-    let side = opposite o stood in
     let inAll : executedIn (c .number) es ≡ executedIn (c .number) fs =
     omega (arith, executed-at-most stood c o es fs x y, executed-at-most stood c o fs es y x) in
-    let sums : sumOf (givesIn es) side ≡ sumOf (givesIn fs) side =
-    omega (arith, inAll, x .inAll, y .inAll, told-sum (x .told), told-sum (y .told)) in
-    let same : All (λ (h : Resting). givesIn es h ≡ givesIn fs h) side =
-    ways-agree (not (buying o)) (MayGive o away) (givesIn es) (givesIn fs) ranked (x .inRank) (y .inRank)
-    (told-within o away (x .told) (x .isLawful .each)) (told-within o away (y .told) (y .isLawful .each)) sums in
-    (λ h p. one-of-all same p, inAll)
+    let same : executionsIn es ≡ executionsIn fs =
+    x .told
+    ∙ lines-agree (not (buying o)) o (stood .held .away) (c .number) (holdings-walk (not (buying o)) (opposite o stood) ranked)
+    (λ better worse gives takes. x .inRank {better = better} {worse = worse} {gives = gives} {takes = takes})
+    (λ better worse gives takes. y .inRank {better = better} {worse = worse} {gives = gives} {takes = takes})
+    (x .isLawful .each) (y .isLawful .each) (omega (arith, inAll, x .inAll, y .inAll))
+    ∙ sym (y .told) in
+    (λ h p. given-executions (h .number) es ∙ ap (givenIn (h .number)) same ∙ sym (given-executions (h .number) fs), inAll, same)
 
 -- .. so it does on a sound book
 pub fills-determined : (stood : Book) (c : Command) (o : Order) (es fs : List Event) → sound stood ≡ true
     → Executes stood c o es → Executes stood c o fs
     → ((h : Resting) → OneOf h (opposite o stood) → givenIn (h .number) es ≡ givenIn (h .number) fs)
     × (executedIn (c .number) es ≡ executedIn (c .number) fs)
+    × (executionsIn es ≡ executionsIn fs)
 fills-determined stood c o es fs s =
     ranked-fills-determined stood c o es fs (sides-of (buying o) stood (sound-is stood s) .oppositeRanked)

@@ -1,14 +1,14 @@
 -- Demand 3, the sums of one command: what executing, cancelling, setting anew and resting do to the shares that a side holds of an order.
 -- Assumes nothing.
-use Prim.Native.Nat.{ℕ, _+_, _-_, _≤_, min}
+use Prim.Native.Nat.{ℕ, _+_, _-_, _≤_}
 use mathlib.Core.Bool.{Bool, true, false, true≢false}
 use mathlib.Core.List.{List, [], _∷_, _++_}
 use mathlib.Core.Logic.{_≢_, ⊎-elim}
 use mathlib.Core.Path.{_≡_, refl, sym, ap, _∙_}
 use lib.Dec.{eqb}
 use native.Mathlib.Omega.{arith}
-use borrow.Author.Tests.{eq-eqb, ne-eqb, eqb-true}
-use Rattle.basics.specs.Lists.{total, sumOf, gathered}
+use borrow.Author.Tests.{eq-eqb, ne-eqb, eqb-true, eqb-false}
+use Rattle.basics.specs.Lists.{total, sumOf, gathered, Each, empty, with}
 use Rattle.basics.proofs.LawsChoice.{holds-or-not}
 use Rattle.basics.proofs.LawsLists.{gathered-sum}
 use Rattle.kinds.specs.declared.Number.{Number}
@@ -17,19 +17,20 @@ use Rattle.rules.specs.declared.Ending.{Ending}
 use Rattle.rules.specs.declared.Ending.the-variants.{Filled, Rests, Cancels}
 use Rattle.rules.specs.declared.Order.{Order}
 use Rattle.rules.specs.declared.Resting.{Resting}
-use Rattle.rules.specs.Instructions.{ioc, fok, postOnly, has}
+use Rattle.rules.specs.Book.{sharesLeft}
+use Rattle.rules.specs.Holdings.{Holding, size, holdings, executions, after}
+use Rattle.rules.specs.Instructions.{ioc, fok, has}
 use Rattle.rules.specs.declared.Fate.{Fate}
 use Rattle.rules.specs.declared.Fate.the-variants.{Stays, IsCancelled, IsSet}
 use Rattle.rules.specs.Settling.{toldBy, told, settledSide}
-use Rattle.rules.specs.Working.{buying, mayTouch, nothing, walk, smaller, walked, takings, remainder, executions, after, endingWith, ending, lastLine, remainderOf, withRemainder}
+use Rattle.rules.specs.Working.{buying, remainder, endingWith, ending, lastLine, floorOf, remainderOf, withRemainder}
 use Rattle.rules.proofs.LawsCommands.{IfSet, SameOrder}
-use Rattle.rules.proofs.LawsTakings.{nothing-total}
-use Rattle.demands.specs.ShareOut.{Each, empty, with}
+use Rattle.rules.proofs.LawsFloors.{shown-at-most}
+use Rattle.rules.proofs.LawsHoldings.{each-parts, countedAs, takenFromHoldings, heldAs, after-sum}
 use Rattle.soundness.proofs.LawsEndings.{chosen, sought-is}
 use Rattle.soundness.proofs.LawsInsert.{added-insert, added-sum}
 use Rattle.soundness.proofs.LawsSettled.{leftBy, settled-sum}
 use Rattle.demands.specs.Told.{countedIf, executedIn, cancelledBy, cancelledIn, restsOn}
-use Rattle.demands.proofs.LawsWalked.{taken, walk-at-most}
 
 -- ── What is counted under a number ──
 
@@ -46,7 +47,7 @@ counted-add n m j k =
     (λ (t : eqb (n .0) (m .0) ≡ false). rw t (omega arith))
     (holds-or-not (eqb (n .0) (m .0)))
 
-counted-none : (n m : Number) (k : ℕ) → k ≡ 0 → countedIf n m k ≡ 0
+pub counted-none : (n m : Number) (k : ℕ) → k ≡ 0 → countedIf n m k ≡ 0
 counted-none n m k z =
     ⊎-elim
     (λ (t : eqb (n .0) (m .0) ≡ true). rw t z)
@@ -61,79 +62,55 @@ counted-split n m j k l =
 -- ── What is executed ──
 
 -- none gives more than it holds
-abbrev pub NoMore : Resting → ℕ → Type 0
-NoMore h t = t ≤ h .shares .0
+abbrev pub NoMore : Holding → ℕ → Type 0
+NoMore h t = t ≤ size h
 
-nothing-no-more : (s : List Resting) → Each NoMore s (nothing s)
-unfolding nothing
-nothing-no-more [] = empty
-nothing-no-more (h ∷ s) = with {x = h} {y = 0} (omega arith) (nothing-no-more s)
-
-walk-no-more : (may : Resting → Bool) (left : ℕ) (s : List Resting) → Each NoMore s (walk may smaller left s)
-unfolding walk
-walk-no-more may left [] = empty
-walk-no-more may left (h ∷ s) =
+-- the rules' own words for what is counted under a number
+pub counted-as : (n : Number) (o : Resting) (k : ℕ) → countedAs (n .0) o k ≡ countedIf n (o .number) k
+counted-as n o k =
     ⊎-elim
-    (λ (t : may h ≡ true). rw t (with {x = h} {y = min left (h .shares .0)} (omega arith) (walk-no-more may (left - min left (h .shares .0)) s)))
-    (λ (t : may h ≡ false). rw t (nothing-no-more (h ∷ s)))
-    (holds-or-not (may h))
+    (λ (t : eqb (n .0) (o .number .0) ≡ true). rw (t, eq-eqb (o .number .0) (n .0) (sym (eqb-true (n .0) (o .number .0) t))) refl)
+    (λ (t : eqb (n .0) (o .number .0) ≡ false).
+    rw (t, ne-eqb (o .number .0) (n .0) (λ (e : o .number .0 ≡ n .0). eqb-false (n .0) (o .number .0) t (sym e))) refl)
+    (holds-or-not (eqb (n .0) (o .number .0)))
 
--- what holds of no takings and of those of a walk holds of what an order would take
-walks : (P : List ℕ → Type 0) (o : Order) (away : Away) (s : List Resting) → P (nothing s)
-    → P (walk (λ (h : Resting). mayTouch o away (h .price)) smaller (o .shares .0) s) → P (walked o away s)
-unfolding walked
-walks P o away s p q =
-    ⊎-elim
-    (λ (t : has (o .word) postOnly ≡ true). rw t p)
-    (λ (t : has (o .word) postOnly ≡ false). rw t q)
-    (holds-or-not (has (o .word) postOnly))
+held-rests : (n : Number) (s : List Resting) → heldAs (n .0) s ≡ restsOn n s
+unfolding sumOf
+held-rests n [] = refl
+held-rests n (h ∷ s) = omega (arith, counted-as n h (sharesLeft h), held-rests n s)
 
-pub takings-no-more : (o : Order) (away : Away) (s : List Resting) → Each NoMore s (takings o away s)
-takings-no-more o away s =
-    taken (Each NoMore s) o away s (nothing-no-more s)
-    (walks (Each NoMore s) o away s (nothing-no-more s) (walk-no-more (λ (h : Resting). mayTouch o away (h .price)) (o .shares .0) s))
-
-pub takings-at-most : (o : Order) (away : Away) (s : List Resting) → total (takings o away s) ≤ o .shares .0
-takings-at-most o away s =
-    taken AtMost o away s none (walks AtMost o away s none (walk-at-most (λ (h : Resting). mayTouch o away (h .price)) (o .shares .0) s))
-  where
-    AtMost : List ℕ → Type 0
-    AtMost ts = total ts ≤ o .shares .0
-
-    none : AtMost (nothing s)
-    none = omega (arith, nothing-total s)
-
--- what executions say of n, as the incoming order and as a resting one, with what the side still holds of it
-pub executions-sum : (n m : Number) {s : List Resting} {ts : List ℕ} → Each NoMore s ts
-    → executedIn n (executions m s ts) + restsOn n (after s ts) ≡ countedIf n m (total ts) + restsOn n s
-unfolding executions after sumOf total
-executions-sum n m empty = omega (arith, counted-none n m 0 refl)
-executions-sum n m (with {x = h} {y = t} {u = ts} l e) =
-    let ih = executions-sum n m e in
+-- what executions say of n, as the incoming order and as a resting one ..
+executed-taken : (n m : Number) {hs : List Holding} {ts : List ℕ} → Each NoMore hs ts
+    → executedIn n (executions m hs ts) ≡ countedIf n m (total ts) + takenFromHoldings (n .0) hs ts
+unfolding executions takenFromHoldings sumOf total
+executed-taken n m empty = omega (arith, counted-none n m 0 refl)
+executed-taken n m (with {x = h} {y = t} {u = ts} l e) =
+    let ih = executed-taken n m e in
     let a = counted-add n m t (total ts) in
-    let b = counted-split n (h .number) t (h .shares .0) l in
+    let b = counted-as n (h .of) t in
     ⊎-elim
     (λ (z : eqb t 0 ≡ true).
     let z′ : t ≡ 0 = eqb-true t 0 z in
     let c = counted-none n m t z′ in
-    let d = counted-none n (h .number) t z′ in
-    ⊎-elim
-    (λ (k : eqb (h .shares .0 - t) 0 ≡ true).
-    let f = counted-none n (h .number) (h .shares .0 - t) (eqb-true (h .shares .0 - t) 0 k) in
-    rw (z, k) (omega (arith, ih, a, b, c, d, f)))
-    (λ (k : eqb (h .shares .0 - t) 0 ≡ false). rw (z, k) (omega (arith, ih, a, b, c, d)))
-    (holds-or-not (eqb (h .shares .0 - t) 0)))
-    (λ (z : eqb t 0 ≡ false).
-    ⊎-elim
-    (λ (k : eqb (h .shares .0 - t) 0 ≡ true).
-    let f = counted-none n (h .number) (h .shares .0 - t) (eqb-true (h .shares .0 - t) 0 k) in
-    rw (z, k) (omega (arith, ih, a, b, f)))
-    (λ (k : eqb (h .shares .0 - t) 0 ≡ false). rw (z, k) (omega (arith, ih, a, b)))
-    (holds-or-not (eqb (h .shares .0 - t) 0)))
+    let d = counted-none n (h .of .number) t z′ in
+    rw z (omega (arith, ih, a, b, c, d)))
+    (λ (z : eqb t 0 ≡ false). rw z (omega (arith, ih, a, b)))
     (holds-or-not (eqb t 0))
 
+-- .. with what the side still holds of it
+pub executions-sum : (n m : Number) (s : List Resting) (ts : List ℕ) → Each NoMore (holdings s) ts
+    → executedIn n (executions m (holdings s) ts) + restsOn n (after s ts) ≡ countedIf n m (total ts) + restsOn n s
+executions-sum n m s ts e =
+    omega (
+      arith,
+      executed-taken n m e,
+      after-sum (n .0) s ts (each-parts s ts e),
+      held-rests n s,
+      held-rests n (after s ts),
+    )
+
 -- .. and they cancel nothing
-pub executions-cancel-none : (n m : Number) (s : List Resting) (ts : List ℕ) → cancelledIn n (executions m s ts) ≡ 0
+pub executions-cancel-none : (n m : Number) (s : List Holding) (ts : List ℕ) → cancelledIn n (executions m s ts) ≡ 0
 unfolding executions sumOf
 executions-cancel-none n m [] ts = refl
 executions-cancel-none n m (h ∷ s) [] = refl
@@ -154,13 +131,13 @@ told-sum n m k buy fate same s =
     omega (
       arith,
       gathered-sum (λ (h : Resting). toldBy (fate h) h) (cancelledBy n) s,
-      settled-sum (λ (h : Resting). countedIf n (h .number) (h .shares .0)) cut (λ h anew. refl) fate (λ h. by-fate (fate h) h (same h)) m k buy s,
+      settled-sum (λ (h : Resting). countedIf n (h .number) (sharesLeft h)) cut (λ h anew. refl) fate (λ h. by-fate (fate h) h (same h)) m k buy s,
     )
   where
-    by-fate : (f : Fate) (h : Resting) → IfSet (SameOrder h) f → restsOn n (leftBy f h) + cancelledIn n (toldBy f h) ≡ countedIf n (h .number) (h .shares .0)
+    by-fate : (f : Fate) (h : Resting) → IfSet (SameOrder h) f → restsOn n (leftBy f h) + cancelledIn n (toldBy f h) ≡ countedIf n (h .number) (sharesLeft h)
     by-fate Stays h i = omega arith
     by-fate (IsCancelled reason) h i = omega arith
-    by-fate (IsSet new) h i = rw (i .number, i .shares) (omega arith)
+    by-fate (IsSet new) h i = rw (i .number, i .left) (omega arith)
 
 -- .. and nothing is executed
 pub told-execute-none : (n : Number) (fate : Resting → Fate) (s : List Resting) → executedIn n (told fate s) ≡ 0
@@ -185,7 +162,13 @@ pub ending-sum : (n m : Number) (o : Order) (left : ℕ) (e : Ending) (own : Lis
 unfolding sumOf
 ending-sum n m o left Filled own f = omega (arith, counted-none n m left (f refl))
 ending-sum n m o left (Rests price) own f =
-    omega (arith, added-sum (λ (h : Resting). countedIf n (h .number) (h .shares .0)) (added-insert (buying o) (remainderOf m o left price) own))
+    let rests = remainderOf m o left price in
+    let whole : sharesLeft rests ≡ left = omega (arith, shown-at-most (floorOf (o .carried)) left) in
+    omega (
+      arith,
+      ap (countedIf n m) whole,
+      added-sum (λ (h : Resting). countedIf n (h .number) (sharesLeft h)) (added-insert (buying o) rests own),
+    )
 ending-sum n m o left (Cancels reason) own f = omega arith
 
 -- ── An order of which something is left is not filled ──

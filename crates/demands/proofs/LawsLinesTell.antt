@@ -1,17 +1,16 @@
--- What the event lines of one order tell: between whom its executions are, what each resting order gives and at which price, whether the
--- order is killed; and that orders of a ranked side rank as they stand. Assumes nothing.
-use Prim.Native.Nat.{ℕ, zero, suc, _+_, _≤_, _<_}
-use mathlib.Core.Bool.{Bool, true, false, not, _&&_, _||_, true≢false}
+-- What the event lines of one order tell: between whom its executions are, which share-out they tell, whether the order is killed; what its
+-- refills do not tell; and that orders of a ranked side rank as they stand. Assumes nothing.
+use Prim.Native.Nat.{ℕ, zero, suc, _≤_, _<_}
+use mathlib.Core.Bool.{Bool, true, false, not, _&&_, or-true, true≢false}
 use mathlib.Core.List.{List, [], _∷_, _++_, append-nil}
 use mathlib.Core.Logic.{_≢_, ⊎-elim}
-use mathlib.Core.Path.{_≡_, refl, sym, _∙_}
+use mathlib.Core.Path.{_≡_, refl, sym, ap, _∙_}
 use lib.Dec.{eqb}
-use lib.ListN.{length, getD}
 use native.Mathlib.Omega.{arith}
-use borrow.Author.Tests.{eq-eqb, ne-eqb, eqb-true, eqb-false, not-true}
-use Rattle.basics.specs.Lists.{any, distinct, total, sumOf, All, none, also, OneOf, first, later}
-use Rattle.basics.proofs.LawsChoice.{holds-or-not, and-left, and-right, or-neither}
-use Rattle.basics.proofs.LawsLists.{all-alike, one-of-all}
+use borrow.Author.Tests.{eq-eqb, eqb-true, eqb-false, not-true}
+use Rattle.basics.specs.Lists.{any, distinct, total, sumOf, gathered, All, none, also, OneOf, first, later, Each, empty, with}
+use Rattle.basics.proofs.LawsChoice.{holds-or-not, by-choice, and-left, and-right, or-neither}
+use Rattle.basics.proofs.LawsLists.{all-alike, one-of-all, each-there, gathered-append, gathered-all}
 use Rattle.kinds.specs.declared.Cents.{Cents}
 use Rattle.kinds.specs.declared.Number.{Number}
 use Rattle.kinds.specs.declared.Shares.{Shares}
@@ -20,54 +19,84 @@ use Rattle.rules.specs.declared.Away.{Away}
 use Rattle.rules.specs.declared.Ending.{Ending}
 use Rattle.rules.specs.declared.Ending.the-variants.{Filled, Rests, Cancels}
 use Rattle.rules.specs.declared.Event.{Event}
-use Rattle.rules.specs.declared.Event.the-variants.{Executed, Rested, Cancelled, Moved}
+use Rattle.rules.specs.declared.Event.the-variants.{Executed, Moved}
+use Rattle.rules.specs.declared.Fate.{Fate}
 use Rattle.rules.specs.declared.Order.{Order}
 use Rattle.rules.specs.declared.Resting.{Resting}
-use Rattle.rules.specs.Book.{numbers, ranksBefore, inRankOrder, unused}
+use Rattle.rules.specs.Book.{numbers, ranksBefore, inRankOrder}
 use Rattle.rules.specs.Commands.{isNumber}
 use Rattle.rules.specs.EventLines.{fokKilled}
+use Rattle.rules.specs.Holdings.{Holding, executions}
 use Rattle.rules.specs.Instructions.{ioc, fok, has}
-use Rattle.rules.specs.Working.{executions, endingWith, lastLine}
+use Rattle.rules.specs.Settling.{toldBy, told}
+use Rattle.rules.specs.Working.{endingWith, lastLine, refillFate}
 use Rattle.rules.proofs.LawsRank.{ranks-not-itself, ranked-first, ranked-rest, ranks-transitive}
-use Rattle.soundness.proofs.LawsSides.{bothSides, Sides, all-holding, sides-thinned}
-use Rattle.soundness.proofs.LawsThinned.{thinned-none, thinned-same}
-use Rattle.demands.specs.Executes.{Tells, Between}
-use Rattle.demands.specs.ShareOut.{Given, Each, empty, with}
-use Rattle.demands.specs.Told.{executedIn, givenIn, cancelledIn, pricesIn, isKilled}
 use Rattle.soundness.proofs.LawsEndings.{chosen, sought-is}
+use Rattle.soundness.proofs.LawsNumbers.{oneIf, fewer-distinct}
+use Rattle.soundness.proofs.LawsSides.{bothSides, sides-sum, Sides}
+use Rattle.demands.specs.Executes.{executionIn, executionsIn, linesOf, Between}
+use Rattle.demands.specs.Told.{executedBy, givenBy, cancelledBy, executedIn, givenIn, cancelledIn, kills, isKilled}
 use Rattle.demands.proofs.LawsHeld.{counted-same, counted-other, NoMore}
 use Rattle.demands.proofs.LawsShareOut.{pricedAt}
 
+-- ── Lines of one kind ──
+
+-- whoever is refilled is told by a move: what holds of each move holds of the lines of the refills
+pub every-refill : {P : Event → Type 0} → ((m : Number) (price : Cents) (k : Shares) → P (Moved m price k)) → (s : List Resting) → All P (told refillFate s)
+unfolding told
+every-refill {P = P} f s = gathered-all (λ (h : Resting). toldBy (refillFate h) h) (all-alike (λ h p. by-refill h) (each-there s))
+  where
+    by-refill : (h : Resting) → All P (toldBy (refillFate h) h)
+    by-refill h = by-choice (λ (x : Fate). All P (toldBy x h)) (eqb (h .shares .0) 0) (λ t. also (f _ _ _) none) (λ t. none)
+
+-- lines that count for nothing add up to nothing, and lines of which none passes a test pass it not together
+all-nothing : {A : Type 0} (count : A → ℕ) {es : List A} → All (λ (e : A). count e ≡ 0) es → sumOf count es ≡ 0
+unfolding sumOf
+all-nothing count none = refl
+all-nothing count (also z a) = omega (arith, z, all-nothing count a)
+
+none-passes : {A : Type 0} (test : A → Bool) {es : List A} → All (λ (e : A). test e ≡ false) es → any test es ≡ false
+unfolding any
+none-passes test none = refl
+none-passes test (also t a) = rw t (none-passes test a)
+
+-- refills execute nothing, give nothing, cancel nothing and kill nobody
+pub refills-execute-none : (n : Number) (s : List Resting) → executedIn n (told refillFate s) ≡ 0
+refills-execute-none n s = all-nothing (executedBy n) (every-refill (λ m price k. refl) s)
+
+pub refills-give-none : (n : Number) (s : List Resting) → givenIn n (told refillFate s) ≡ 0
+refills-give-none n s = all-nothing (givenBy n) (every-refill (λ m price k. refl) s)
+
+pub refills-cancel-none : (n : Number) (s : List Resting) → cancelledIn n (told refillFate s) ≡ 0
+refills-cancel-none n s = all-nothing (cancelledBy n) (every-refill (λ m price k. refl) s)
+
+pub refills-kill-none : (n : Number) (s : List Resting) → isKilled n (told refillFate s) ≡ false
+refills-kill-none n s = none-passes (kills n) (every-refill (λ m price k. refl) s)
+
 -- ── Executions are between the incoming order and the side ──
 
--- a longer side has it too
-between-more : (n : Number) (h : Resting) (s : List Resting) (e : Event) → Between n s e → Between n (h ∷ s) e
+-- whoever stands on a side is found there by its number
+found : {h : Resting} {s : List Resting} → OneOf h s → any (isNumber (h .number)) s ≡ true
 unfolding any
-between-more n h s (Executed incoming resting price shares) b = (b .0, rw (b .1) (or-true (isNumber resting h)), b .2)
-  where
-    or-true : (t : Bool) → (t || true) ≡ true
-    or-true true = refl
-    or-true false = refl
-between-more n h s (Rested m price shares) b = tt
-between-more n h s (Cancelled m shares reason) b = tt
-between-more n h s (Moved m price shares) b = tt
+found {h = h} first = rw (eq-eqb (h .number .0) (h .number .0) refl) refl
+found {h = h} (later {y = x} p) = rw (found p) (or-true (isNumber (h .number) x))
 
-pub executions-between : (n : Number) (s : List Resting) (ts : List ℕ) → All (Between n s) (executions n s ts)
-unfolding executions any
-executions-between n [] ts = none
-executions-between n (h ∷ s) [] = none
-executions-between n (h ∷ s) (t ∷ ts) =
-    let others = all-alike (between-more n h s) (executions-between n s ts) in
+some : (t : ℕ) → t ≢ 0 → 1 ≤ t
+some zero n = absurd (n refl)
+some (suc t) n = omega arith
+
+pub executions-between : (n : Number) {side : List Resting} {hs : List Holding} → All (λ (h : Holding). OneOf (h .of) side) hs → (ts : List ℕ)
+    → All (Between n side) (executions n hs ts)
+unfolding executions
+executions-between n none ts = none
+executions-between n (also p a) [] = none
+executions-between n {side = side} (also {x = h} p a) (t ∷ ts) =
     ⊎-elim
-    (λ (z : eqb t 0 ≡ true). rw z others)
+    (λ (z : eqb t 0 ≡ true). rw z (executions-between n a ts))
     (λ (z : eqb t 0 ≡ false).
-    let own : Between n (h ∷ s) (Executed n (h .number) (h .price) (shares t)) = (refl, rw (eq-eqb (h .number .0) (h .number .0) refl) refl, some t (eqb-false t 0 z)) in
-    rw z (also own others))
+    let own : Between n side (Executed n (h .of .number) (h .of .price) (shares t)) = (refl, found p, some t (eqb-false t 0 z)) in
+    rw z (also own (executions-between n a ts)))
     (holds-or-not (eqb t 0))
-  where
-    some : (t : ℕ) → t ≢ 0 → 1 ≤ t
-    some zero n = absurd (n refl)
-    some (suc t) n = omega arith
 
 pub last-between : (n : Number) (s : List Resting) (left : ℕ) (e : Ending) → All (Between n s) (lastLine n left e)
 last-between n s left Filled = none
@@ -103,117 +132,72 @@ unfolding distinct
 once-rest h s d = and-right (not (any (eqb (h .number .0)) (numbers s))) (onceEach s) d
 
 -- numbers that stand once over both sides stand once on the opposite one
-one-side : (buy : Bool) (s : List Resting) → onceEach (bothSides buy [] s) ≡ true → onceEach s ≡ true
-one-side true s d = d
-one-side false s d = rw append-nil at d
-
 pub opposite-once : {buy : Bool} {last : Number} {own opposite : List Resting} → Sides buy last own opposite → onceEach opposite ≡ true
-opposite-once {buy = buy} {last = last} {own = own} {opposite = opposite} sides =
-    one-side buy opposite (sides-thinned sides (thinned-none own) (thinned-same (all-holding last (sides .oppositeInRange))) .once)
+opposite-once {buy = buy} {own = own} {opposite = opposite} sides =
+    fewer-distinct (bothSides buy own opposite) opposite (λ n. omega (arith, sides-sum (oneIf n) buy own opposite)) (sides .once)
 
--- ── What execution lines tell of the resting orders ──
+-- ── What execution lines tell ──
 
--- lines tell nothing of a number as a resting one
-pub record Silent (es : List Event) (n : Number) : Type 0 where
-  gives : givenIn n es ≡ 0
-  prices : pricesIn n es ≡ []
-
--- a line that names another number adds nothing
-other-gives : (n m r : Number) (p : Cents) (k : Shares) (es : List Event) → n .0 ≢ r .0 → givenIn n (Executed m r p k ∷ es) ≡ givenIn n es
-unfolding sumOf
-other-gives n m r p k es d = omega (arith, counted-other n r (k .0) d)
-
-other-prices : (n m r : Number) (p : Cents) (k : Shares) (es : List Event) → n .0 ≢ r .0 → pricesIn n (Executed m r p k ∷ es) ≡ pricesIn n es
-unfolding pricesIn
-other-prices n m r p k es d = rw (ne-eqb (n .0) (r .0) d) refl
-
--- .. and one that names it adds its shares and its price
-same-gives : (n m : Number) (p : Cents) (k : Shares) (es : List Event) → givenIn n (Executed m n p k ∷ es) ≡ k .0 + givenIn n es
-unfolding sumOf
-same-gives n m p k es = omega (arith, counted-same n n (k .0) refl)
-
-same-prices : (n m : Number) (p : Cents) (k : Shares) (es : List Event) → pricesIn n (Executed m n p k ∷ es) ≡ p ∷ pricesIn n es
-unfolding pricesIn
-same-prices n m p k es = rw (eq-eqb (n .0) (n .0) refl) refl
-
--- executions of others tell nothing of a number
-silent-executions : (n m : Number) (fs : List Event) {s : List Resting} (ts : List ℕ) → Silent fs n → NoneIs n s → Silent (executions m s ts ++ fs) n
-unfolding executions
-silent-executions n m fs ts q none = q
-silent-executions n m fs [] q (also d a) = q
-silent-executions n m fs (t ∷ ts) q (also {x = h} {s = s} d a) =
-    let ih = silent-executions n m fs ts q a in
-    let es = executions m s ts ++ fs in
+-- the executions are the lines of the share-out that is taken, each at its holding's price
+lines-of-taken : (m : Number) (hs : List Holding) (ts : List ℕ) → executionsIn (executions m hs ts) ≡ linesOf m hs (pricedAt hs ts)
+unfolding executions linesOf pricedAt gathered
+lines-of-taken m [] ts = refl
+lines-of-taken m (h ∷ hs) [] = refl
+lines-of-taken m (h ∷ hs) (t ∷ ts) =
     ⊎-elim
-    (λ (z : eqb t 0 ≡ true). rw z ih)
+    (λ (z : eqb t 0 ≡ true). rw z (lines-of-taken m hs ts))
     (λ (z : eqb t 0 ≡ false).
-    rw z (record {
-      gives = other-gives n m (h .number) (h .price) (shares t) es d ∙ ih .gives;
-      prices = other-prices n m (h .number) (h .price) (shares t) es d ∙ ih .prices;
-    }))
+    rw z (ap (λ (es : List Event). Executed m (h .of .number) (h .of .price) (shares t) ∷ es) (lines-of-taken m hs ts)))
     (holds-or-not (eqb t 0))
 
--- what is told of orders is told still when a line names another one
-tells-others : (m r : Number) (p : Cents) (k : Shares) {es : List Event} {s : List Resting} {gs : List Given}
-    → NoneIs r s → Each (Tells es) s gs → Each (Tells (Executed m r p k ∷ es)) s gs
-tells-others m r p k none empty = empty
-tells-others m r p k {es = es} (also d a) (with {x = h} {y = g} l e) =
-    let d′ : h .number .0 ≢ r .0 = λ (z : h .number .0 ≡ r .0). d (sym z) in
-    with {x = h} {y = g}
-    (record { shares = other-gives (h .number) m r p k es d′ ∙ l .shares; price = rw (other-prices (h .number) m r p k es d′) (l .price) })
-    (tells-others m r p k a e)
+-- no other line of an order is one of them
+last-no-execution : (m : Number) (left : ℕ) (e : Ending) → executionsIn (lastLine m left e) ≡ []
+unfolding gathered
+last-no-execution m left Filled = refl
+last-no-execution m left (Rests price) = refl
+last-no-execution m left (Cancels reason) = refl
 
--- an order that gives nothing, and one that gives t shares
-tells-none : (es : List Event) (h : Resting) (t : ℕ) → t ≡ 0 → Silent es (h .number) → Tells es h (record { shares = t; price = h .price })
-tells-none es h t z q = record { shares = q .gives ∙ sym z; price = rw (q .prices) none }
+refills-no-execution : (s : List Resting) → executionsIn (told refillFate s) ≡ []
+unfolding gathered
+refills-no-execution s = none-gathered (every-refill (λ m price k. refl) s)
+  where
+    none-gathered : {es : List Event} → All (λ (e : Event). executionIn e ≡ []) es → executionsIn es ≡ []
+    none-gathered none = refl
+    none-gathered (also z a) = rw z (none-gathered a)
 
-tells-gives : (m : Number) (es : List Event) (h : Resting) (t : ℕ) → Silent es (h .number)
-    → Tells (Executed m (h .number) (h .price) (shares t) ∷ es) h (record { shares = t; price = h .price })
-tells-gives m es h t q = record {
-  shares = omega (arith, same-gives (h .number) m (h .price) (shares t) es, q .gives);
-  price = rw (same-prices (h .number) m (h .price) (shares t) es, q .prices) (also refl none);
-}
+pub lines-told : (m : Number) (hs : List Holding) (ts : List ℕ) (left : ℕ) (e : Ending) (s : List Resting)
+    → executionsIn (executions m hs ts ++ (lastLine m left e ++ told refillFate s)) ≡ linesOf m hs (pricedAt hs ts)
+lines-told m hs ts left e s =
+    gathered-append executionIn (executions m hs ts) (lastLine m left e ++ told refillFate s)
+    ∙ rw (gathered-append executionIn (lastLine m left e) (told refillFate s), last-no-execution m left e, refills-no-execution s)
+    (append-nil (executionsIn (executions m hs ts)) ∙ lines-of-taken m hs ts)
 
--- execution lines tell what each gives, at its price
-pub tells-executions : (m : Number) (fs : List Event) → ((n : Number) → Silent fs n) → {s : List Resting} {ts : List ℕ} → Each NoMore s ts → onceEach s ≡ true
-    → Each (Tells (executions m s ts ++ fs)) s (pricedAt s ts)
-unfolding executions pricedAt
-tells-executions m fs q empty d = empty
-tells-executions m fs q (with {x = h} {y = t} {s = s} {u = ts} l e) d =
-    let es = executions m s ts ++ fs in
-    let others = once-first h s d in
-    let silent = silent-executions (h .number) m fs ts (q (h .number)) others in
-    let ih = tells-executions m fs q e (once-rest h s d) in
-    ⊎-elim
-    (λ (z : eqb t 0 ≡ true). rw z (with (tells-none es h t (eqb-true t 0 z) silent) ih))
-    (λ (z : eqb t 0 ≡ false). rw z (with (tells-gives m es h t silent) (tells-others m (h .number) (h .price) (shares t) others ih)))
-    (holds-or-not (eqb t 0))
-
--- .. and of the incoming order, which is none of them, what is taken in all
-pub executed-total : (m : Number) {s : List Resting} {ts : List ℕ} → Each NoMore s ts → NoneIs m s → executedIn m (executions m s ts) ≡ total ts
+-- .. and of the incoming order, which is none of the side, what is taken in all
+pub executed-total : (m : Number) {hs : List Holding} {ts : List ℕ} → Each NoMore hs ts → All (λ (h : Holding). m .0 ≢ h .of .number .0) hs
+    → executedIn m (executions m hs ts) ≡ total ts
 unfolding executions sumOf total
 executed-total m empty none = refl
 executed-total m (with {x = h} {y = t} {u = ts} l e) (also d a) =
     let ih = executed-total m e a in
     ⊎-elim
     (λ (z : eqb t 0 ≡ true). rw z (omega (arith, ih, eqb-true t 0 z)))
-    (λ (z : eqb t 0 ≡ false). rw z (omega (arith, ih, counted-same m m t refl, counted-other m (h .number) t d)))
+    (λ (z : eqb t 0 ≡ false). rw z (omega (arith, ih, counted-same m m t refl, counted-other m (h .of .number) t d)))
     (holds-or-not (eqb t 0))
 
 -- ── The last line ──
 
--- it tells nothing of any resting order, and executes nothing
-pub last-silent : (m : Number) (left : ℕ) (e : Ending) (n : Number) → Silent (lastLine m left e) n
-unfolding sumOf pricesIn
-last-silent m left Filled n = record { gives = refl; prices = refl }
-last-silent m left (Rests price) n = record { gives = refl; prices = refl }
-last-silent m left (Cancels reason) n = record { gives = refl; prices = refl }
-
+-- it executes nothing, and nobody gives by it
 pub last-executes-none : (n m : Number) (left : ℕ) (e : Ending) → executedIn n (lastLine m left e) ≡ 0
 unfolding sumOf
 last-executes-none n m left Filled = refl
 last-executes-none n m left (Rests price) = refl
 last-executes-none n m left (Cancels reason) = refl
+
+pub last-gives-none : (n m : Number) (left : ℕ) (e : Ending) → givenIn n (lastLine m left e) ≡ 0
+unfolding sumOf
+last-gives-none n m left Filled = refl
+last-gives-none n m left (Rests price) = refl
+last-gives-none n m left (Cancels reason) = refl
 
 -- ── Kills ──
 
@@ -223,15 +207,15 @@ isKill Filled = false
 isKill (Rests price) = false
 isKill (Cancels reason) = eqb reason fokKilled
 
--- the last line kills exactly by that ending
-pub last-kills : (m : Number) (left : ℕ) (e : Ending) → isKilled m (lastLine m left e) ≡ isKill e
+-- the last line kills exactly by that ending, and none behind it does
+pub last-kills : (m : Number) (left : ℕ) (e : Ending) (s : List Resting) → isKilled m (lastLine m left e ++ told refillFate s) ≡ isKill e
 unfolding any
-last-kills m left Filled = refl
-last-kills m left (Rests price) = refl
-last-kills m left (Cancels reason) =
+last-kills m left Filled s = refills-kill-none m s
+last-kills m left (Rests price) s = refills-kill-none m s
+last-kills m left (Cancels reason) s =
     ⊎-elim
     (λ (t : eqb reason fokKilled ≡ true). rw (eq-eqb (m .0) (m .0) refl, t) refl)
-    (λ (t : eqb reason fokKilled ≡ false). rw (eq-eqb (m .0) (m .0) refl, t) refl)
+    (λ (t : eqb reason fokKilled ≡ false). rw (eq-eqb (m .0) (m .0) refl, t) (refills-kill-none m s))
     (holds-or-not (eqb reason fokKilled))
 
 -- .. and then cancels what is left
@@ -242,7 +226,7 @@ kill-cancels m left (Rests price) k = absurd (true≢false (sym k))
 kill-cancels m left (Cancels reason) k = omega (arith, counted-same m m left refl)
 
 -- executions kill nobody
-pub executions-kill-none : (n m : Number) (s : List Resting) (ts : List ℕ) (fs : List Event) → isKilled n (executions m s ts ++ fs) ≡ isKilled n fs
+pub executions-kill-none : (n m : Number) (s : List Holding) (ts : List ℕ) (fs : List Event) → isKilled n (executions m s ts ++ fs) ≡ isKilled n fs
 unfolding executions any
 executions-kill-none n m [] ts fs = refl
 executions-kill-none n m (h ∷ s) [] fs = refl
@@ -281,14 +265,6 @@ abbrev pub place : {A : Type 0} {x : A} {s : List A} → OneOf x s → ℕ
 place first = zero
 place (later p) = suc (place p)
 
-pub place-at : {s : List Resting} {x : Resting} (p : OneOf x s) → getD s (place p) unused ≡ x
-place-at first = refl
-place-at (later p) = place-at p
-
-pub place-in : {s : List Resting} {x : Resting} (p : OneOf x s) → place p < length s
-place-in first = omega arith
-place-in (later p) = omega (arith, place-in p)
-
 -- on a side in rank order, who ranks before another stands before it
 pub stands-before : (buy : Bool) {s : List Resting} {x y : Resting} → inRankOrder buy s ≡ true → (p : OneOf x s) (q : OneOf y s)
     → ranksBefore buy x y ≡ true → place p < place q
@@ -297,10 +273,3 @@ stands-before buy r first (later q) b = omega arith
 stands-before buy {x = x} {y = y} r (later {s = s} p) first b =
     never-before-itself buy x (ranks-transitive buy x y x b (one-of-all (ranked-first buy y s r) p))
 stands-before buy r (later {y = h} {s = s} p) (later q) b = omega (arith, stands-before buy (ranked-rest buy h s r) p q b)
-
--- what is told of one of a side is what is taken at its place
-pub told-at : {es : List Event} {s : List Resting} {ts : List ℕ} {x : Resting} → Each NoMore s ts → Each (Tells es) s (pricedAt s ts) → (p : OneOf x s)
-    → givenIn (x .number) es ≡ getD ts (place p) 0
-unfolding pricedAt
-told-at (with m n) (with l e) first = l .shares
-told-at (with m n) (with l e) (later p) = told-at n e p

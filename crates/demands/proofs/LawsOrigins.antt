@@ -1,6 +1,6 @@
 -- Where the resting orders after a command come from: each stood there before and keeps its price, or the command set it anew, or it is
 -- what rests of the order that the command enters. Assumes nothing.
-use Prim.Native.Nat.{ℕ, _+_, _≤_, _<_}
+use Prim.Native.Nat.{ℕ, _+_, _<_}
 use mathlib.Core.Bool.{Bool, true, false}
 use mathlib.Core.List.{List, [], _++_}
 use mathlib.Core.Logic.{_≢_, ⊎-elim}
@@ -20,20 +20,22 @@ use Rattle.rules.specs.declared.Order.{Order}
 use Rattle.rules.specs.declared.Reading.{Reading}
 use Rattle.rules.specs.declared.Reading.the-variants as reading
 use Rattle.rules.specs.declared.Resting.{Resting}
-use Rattle.rules.specs.Book.{Book}
+use Rattle.rules.specs.declared.Stamp.{Stamp}
+use Rattle.rules.specs.Book.{Book, stamp}
 use Rattle.rules.specs.CommandLines.{commandIn}
 use Rattle.rules.specs.Commands.{cancel, quote, close, carriedOut, does}
 use Rattle.rules.specs.declared.Fate.the-variants.{Stays, IsSet}
-use Rattle.rules.specs.Settling.{settledSide, ownSide, oppositeSide, settled, bothSettled}
+use Rattle.rules.specs.Holdings.{after}
+use Rattle.rules.specs.Settling.{stampedAs, refilled, settledSide, firstMove, ownSide, oppositeSide, settled, bothSettled}
 use Rattle.rules.specs.Step.{answerTo}
-use Rattle.rules.specs.Working.{withShares, buying, takings, remainder, after, ending, remainderOf, withRemainder, accept}
-use Rattle.rules.proofs.LawsCommands.{fateBy, IfSet, SameOrder, set-same}
+use Rattle.rules.specs.Working.{buying, takings, remainder, ending, remainderOf, withRemainder, refillFate}
+use Rattle.rules.proofs.LawsCommands.{fateBy, IfSet, SameOrder, set-same, order-does}
+use Rattle.rules.proofs.LawsWalkOrder.{after-are, RefillSays, refill-says}
 use Rattle.soundness.proofs.LawsAccepted.{InOrder}
 use Rattle.soundness.proofs.LawsInsert.{added-insert, added-all}
-use Rattle.soundness.proofs.LawsSettled.{settled-are}
-use Rattle.soundness.proofs.LawsSides.{all-holding, sides-of}
+use Rattle.soundness.proofs.LawsSettled.{setPlace, settled-are}
+use Rattle.soundness.proofs.LawsSides.{sides-of}
 use Rattle.soundness.proofs.LawsSound.{Sound}
-use Rattle.soundness.proofs.LawsThinned.{thinned-after, thinned-all}
 use Rattle.demands.specs.Once.{commandNumber, acts}
 use Rattle.demands.proofs.LawsExecutes.{acts-accepted}
 use Rattle.demands.proofs.LawsLinesTell.{onceEach, once-first, once-rest, opposite-once}
@@ -51,7 +53,7 @@ pub data Comes (b : Book) (n : Number) (buy : Bool) (x : Resting) : Body → Typ
   rests : {o : Order} → buying o ≡ buy → ending o (b .held .away) (oppositeSide buy b) ≡ Rests (x .price) → x .number ≡ n → Comes b n buy x (body.Order o)
 
 module _ (b : Book) (isSound : Sound b) (n : Number) (time : ℕ) where
-  -- an order: on its own side, and on the opposite one, where fewer shares change neither number nor price
+  -- an order: on its own side, and on the opposite one, where neither fewer shares nor a refill change number or price
   same-comes : (o : Order) (buy : Bool) → All (λ x. Comes b n buy x (body.Order o)) (ownSide buy b)
   same-comes o buy = all-alike (λ h p. stayed h p refl refl refl) (each-there (ownSide buy b))
 
@@ -62,26 +64,35 @@ module _ (b : Book) (isSound : Sound b) (n : Number) (time : ℕ) where
   own-comes o buy t left (Rests price) i =
       added-all (rests t i refl) (added-insert (buying o) (remainderOf n o left price) (ownSide buy b)) (same-comes o buy)
 
-  opposite-comes : (o : Order) (buy : Bool) (ts : List ℕ) → All (λ x. Comes b n buy x (body.Order o)) (after (ownSide buy b) ts)
-  opposite-comes o buy ts = thinned-all fewer (thinned-after ts (all-holding (b .held .last) (sides-of buy b isSound .ownInRange))) (same-comes o buy)
+  opposite-comes : (o : Order) (buy : Bool) (k : ℕ)
+      → All (λ x. Comes b n buy x (body.Order o)) (settledSide n k buy refillFate (after (ownSide buy b) (takings o (b .held .away) (ownSide buy b))))
+  opposite-comes o buy k =
+      let side = ownSide buy b in
+      let left = after side (takings o (b .held .away) side) in
+      let came : All (λ x. Comes b n buy x (body.Order o)) left =
+      after-are o (b .held .away) side (λ h t r p g kept. stayed h p refl refl refl) in
+      settled-are refillFate n k buy left (λ h p e. one-of-all came p)
+      (λ h new p e. subst (λ (x : Resting). Comes b n buy (stampedAs (stamp n (setPlace refillFate k p)) x) (body.Order o))
+      (subst (RefillSays h) e (refill-says h) .1) (same (one-of-all came p)))
     where
-      fewer : (h : Resting) (left : ℕ) → 1 ≤ left → left ≤ h .shares .0 → Comes b n buy h (body.Order o) → Comes b n buy (withShares left h) (body.Order o)
-      fewer h left l m (stayed g p a i e) = stayed g p a i e
-      fewer h left l m (anew g new p a i e) = anew g new p a i e
-      fewer h left l m (rests t e i) = rests t e i
+      same : {h : Resting} {anew : Stamp} → Comes b n buy h (body.Order o) → Comes b n buy (stampedAs anew (refilled h)) (body.Order o)
+      same (stayed g p a i e) = stayed g p a i e
+      same (anew g new p a i e) = anew g new p a i e
+      same (rests t e i) = rests t e i
 
   accept-comes : (o : Order) (buy : Bool) → All (λ x. Comes b n buy x (body.Order o)) (ownSide buy (does n time (body.Order o) b .book))
-  unfolding does carriedOut accept
   accept-comes o true =
-      ⊎-elim
+      rw (order-does n time b o .0)
+      (⊎-elim
       (λ (t : buying o ≡ true). rw t (own-comes o true t (remainder o (b .held .away) (b .sells)) (ending o (b .held .away) (b .sells)) refl))
-      (λ (t : buying o ≡ false). rw t (opposite-comes o true (takings o (b .held .away) (b .buys))))
-      (holds-or-not (buying o))
+      (λ (t : buying o ≡ false). rw t (opposite-comes o true firstMove))
+      (holds-or-not (buying o)))
   accept-comes o false =
-      ⊎-elim
-      (λ (t : buying o ≡ true). rw t (opposite-comes o false (takings o (b .held .away) (b .sells))))
+      rw (order-does n time b o .0)
+      (⊎-elim
+      (λ (t : buying o ≡ true). rw t (opposite-comes o false firstMove))
       (λ (t : buying o ≡ false). rw t (own-comes o false t (remainder o (b .held .away) (b .buys)) (ending o (b .held .away) (b .buys)) refl))
-      (holds-or-not (buying o))
+      (holds-or-not (buying o)))
 
   -- every other command
   settled-comes : (c : Body) (buy : Bool) (k : ℕ) → All (λ x. Comes b n buy x c) (settledSide n k buy (fateBy c buy) (ownSide buy b))

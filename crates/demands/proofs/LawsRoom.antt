@@ -1,5 +1,5 @@
--- The lines of an accepted command fit the room that refusal 1 asks for: at most 64 executions and one line more, or one line
--- for each order of the book that is cancelled or set anew. Assumes nothing.
+-- The lines of an accepted command fit the room that refusal 1 asks for: at most two executions and a refill for each of 64 orders and one
+-- line more, or one line for each order of the book that is cancelled or set anew. Assumes nothing.
 use Prim.Native.Nat.{ℕ, _+_, _*_, _≤_}
 use mathlib.Core.Bool.{Bool, true, false, _&&_}
 use mathlib.Core.List.{List, _++_}
@@ -15,15 +15,17 @@ use Rattle.rules.specs.declared.Order.{Order}
 use Rattle.rules.specs.declared.Reading.{Reading}
 use Rattle.rules.specs.declared.Reading.the-variants as reading
 use Rattle.rules.specs.Book.{Book, BookRecord, placesASide, bookIn, sound, placesSound, recordSound}
-use Rattle.rules.specs.Commands.{carriedOut, does}
+use Rattle.rules.specs.Commands.{does}
 use Rattle.rules.specs.EventLines.{eventLines}
+use Rattle.rules.specs.Holdings.{holdings, executions, after}
 use Rattle.rules.specs.Refusals.{leastRoom, firstOf, lineRefusals, refusals}
 use Rattle.rules.specs.Settling.{told, oppositeSide}
 use Rattle.rules.specs.Step.{doneBy}
-use Rattle.rules.specs.Working.{takings, remainder, ending, executions, lastLine, buying, accept}
-use Rattle.rules.proofs.LawsCommands.{fateBy, does-tells}
+use Rattle.rules.specs.Working.{buying, takings, remainder, ending, lastLine, refillFate}
+use Rattle.rules.proofs.LawsCommands.{fateBy, order-does, does-tells}
 use Rattle.rules.proofs.LawsEvents.{eventLines-append, none-long, executions-long, told-long, last-long}
 use Rattle.rules.proofs.LawsRefusals.{fit-facts}
+use Rattle.rules.proofs.LawsWalkOrder.{holdings-length, after-length}
 use Rattle.soundness.proofs.LawsSound.{sound-is}
 
 -- ── A command ──
@@ -36,20 +38,26 @@ opposite-fits true b s = sound-is b s .sellsFit
 opposite-fits false b s = sound-is b s .buysFit
 
 does-long : (n : Number) (time : ℕ) (b : Book) → sound b ≡ true → (c : Body) → length (eventLines (does n time c b .events)) ≤ leastRoom
-unfolding does carriedOut accept
 does-long n time b isSound = does-tells n time b (λ (c : Body) (es : List Event). length (eventLines es) ≤ leastRoom) order-long settled-long
   where
     order-long : (o : Order) → length (eventLines (does n time (body.Order o) b .events)) ≤ leastRoom
     order-long o =
         let s = oppositeSide (buying o) b in
         let ts = takings o (b .held .away) s in
+        let es = executions n (holdings s) ts in
         let left = remainder o (b .held .away) s in
         let end = ending o (b .held .away) s in
-        omega (
+        let last = lastLine n left end in
+        let long = both-long es last (35 * length (holdings s)) 27 (executions-long n (holdings s) ts) (last-long n left end) in
+        let refills = told-long refillFate (after s ts) in
+        rw (order-does n time b o .1)
+        (omega (
           arith,
           opposite-fits (buying o) b isSound,
-          both-long (executions n s ts) (lastLine n left end) (35 * length s) 27 (executions-long n s ts) (last-long n left end),
-        )
+          holdings-length s,
+          after-length s ts,
+          both-long (es ++ last) (told refillFate (after s ts)) (35 * length (holdings s) + 27) (27 * length (after s ts)) long refills,
+        ))
 
     settled-long : (c : Body) → length (eventLines (told (fateBy c true) (b .buys) ++ told (fateBy c false) (b .sells))) ≤ leastRoom
     settled-long c =

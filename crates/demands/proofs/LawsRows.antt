@@ -1,7 +1,7 @@
 -- The rows 4 to 11 of the table of refusals (01, What the machine says back): the table gives a row's number on a command exactly if
 -- the row applies to it. Assumes nothing.
 use Prim.Native.Nat.{ℕ, _+_, _≤_, _<_}
-use mathlib.Core.Bool.{Bool, true, false, not, _&&_, _||_, or-true, true≢false}
+use mathlib.Core.Bool.{Bool, true, false, not, _&&_, _||_, Bool·beq, or-true, true≢false}
 use mathlib.Core.List.{List, [], _∷_, _++_}
 use mathlib.Core.Logic.{_≢_, _⊎_, inl, inr, ⊎-elim}
 use mathlib.Core.Path.{_≡_, refl, sym, ap, _∙_}
@@ -19,6 +19,8 @@ use Rattle.kinds.specs.Kinds.{number, lowestPrice, highestPrice, fewestShares, 
 use Rattle.rules.specs.declared.Away.{Away}
 use Rattle.rules.specs.declared.Body.{Body}
 use Rattle.rules.specs.declared.Body.the-variants as body
+use Rattle.rules.specs.declared.Carried.{Carried}
+use Rattle.rules.specs.declared.Carried.the-variants.{Nothing, MaxFloor}
 use Rattle.rules.specs.declared.Command.{Command}
 use Rattle.rules.specs.declared.Ending.{Ending}
 use Rattle.rules.specs.declared.Ending.the-variants.{Filled, Rests, Cancels}
@@ -26,11 +28,11 @@ use Rattle.rules.specs.declared.Order.{Order}
 use Rattle.rules.specs.declared.Resting.{Resting}
 use Rattle.rules.specs.Book.{Book, BookRecord, bookIn, awayInRange, opening, closing, placesASide}
 use Rattle.rules.specs.Commands.{isNumber}
-use Rattle.rules.specs.Instructions.{market, has, lawful}
-use Rattle.rules.specs.Refusals.{Refusal, isClose, untimely, orderPriceInRange, orderInRange, isResting, isRest, restsOnFullSide, headerRefusals, bodyRefusals}
+use Rattle.rules.specs.Instructions.{market, reserve, has, lawful}
+use Rattle.rules.specs.Refusals.{Refusal, isClose, untimely, carriesFloor, orderLawful, orderPriceInRange, carriedInRange, orderInRange, isResting, isRest, restsOnFullSide, headerRefusals, bodyRefusals}
 use Rattle.rules.specs.Working.{ending}
 use Rattle.demands.specs.ShareOut.{opposite}
-use Rattle.demands.specs.ExactlyWhen.{own, NeitherNoneNorInRange, AppliesTo, seen, tooHigh, isClosed, beforeTheLast, beforeTheOpening, fromTheClosingOn, afterTheClosing, unlawful, noSide, sharesOutside, limitOutside, marketPriced, bidOutside, offerOutside, notResting, sideFull}
+use Rattle.demands.specs.ExactlyWhen.{own, NeitherNoneNorInRange, AppliesTo, seen, tooHigh, isClosed, beforeTheLast, beforeTheOpening, fromTheClosingOn, afterTheClosing, unlawful, reserveWithNoFloor, floorWithNoReserve, noSide, sharesOutside, limitOutside, marketPriced, floorOutside, bidOutside, offerOutside, notResting, sideFull}
 
 -- a table gives a number, in one of its rows
 pub data Gives : ℕ → List Refusal → Type 0 where
@@ -130,16 +132,45 @@ module _ (r : BookRecord) (c : Command) (o : Order) (is : c .body ≡ body.Order
       (λ (t : has (o .word) market ≡ false). limitOutside o is t (is-outside lowestPrice highestPrice (o .price .0) (rw t at h)))
       (holds-or-not (has (o .word) market))
 
+  floor-applies : (x : Carried) → o .carried ≡ x → carriedInRange (o .shares) x ≡ false → AppliesTo r c 9
+  floor-applies Nothing e h = absurd (true≢false h)
+  floor-applies (MaxFloor floor) e h = floorOutside o is floor e (is-outside 1 (o .shares .0) (floor .0) h)
+
   range-applies : orderInRange o ≡ false → AppliesTo r c 9
   range-applies h =
+      let sized = leb (o .side) 1 && sharesInRange (o .shares) in
       ⊎-elim
-      (λ (t : (leb (o .side) 1 && sharesInRange (o .shares)) ≡ false).
+      (λ (t : (sized && orderPriceInRange o) ≡ false).
       ⊎-elim
-      (λ (u : leb (o .side) 1 ≡ false). let l = leb-false (o .side) 1 u in noSide o is (omega (arith, l)) (omega (arith, l)))
-      (λ (u : sharesInRange (o .shares) ≡ false). sharesOutside o is (is-outside fewestShares mostShares (o .shares .0) u))
-      (either-fails (leb (o .side) 1) (sharesInRange (o .shares)) t))
+      (λ (u : sized ≡ false).
+      ⊎-elim
+      (λ (v : leb (o .side) 1 ≡ false). let l = leb-false (o .side) 1 v in noSide o is (omega (arith, l)) (omega (arith, l)))
+      (λ (v : sharesInRange (o .shares) ≡ false). sharesOutside o is (is-outside fewestShares mostShares (o .shares .0) v))
+      (either-fails (leb (o .side) 1) (sharesInRange (o .shares)) u))
       price-applies
-      (either-fails (leb (o .side) 1 && sharesInRange (o .shares)) (orderPriceInRange o) h)
+      (either-fails sized (orderPriceInRange o) t))
+      (floor-applies (o .carried) refl)
+      (either-fails (sized && orderPriceInRange o) (carriedInRange (o .shares) (o .carried)) h)
+
+  -- a word that is unlawful, or whose bit 10 does not go with what is carried: row 8 applies
+  floor-word-applies : (x : Carried) → o .carried ≡ x → Bool·beq (has (o .word) reserve) (carriesFloor x) ≡ false → AppliesTo r c 8
+  floor-word-applies Nothing e h = reserveWithNoFloor o is e (unlike-none (has (o .word) reserve) h)
+    where
+      unlike-none : (t : Bool) → Bool·beq t false ≡ false → t ≡ true
+      unlike-none true h = refl
+      unlike-none false h = absurd (true≢false h)
+  floor-word-applies (MaxFloor floor) e h = floorWithNoReserve o is floor e (unlike-some (has (o .word) reserve) h)
+    where
+      unlike-some : (t : Bool) → Bool·beq t true ≡ false → t ≡ false
+      unlike-some true h = absurd (true≢false h)
+      unlike-some false h = refl
+
+  word-applies : orderLawful o ≡ false → AppliesTo r c 8
+  word-applies h =
+      ⊎-elim
+      (λ (t : lawful (o .word) ≡ false). unlawful o is t)
+      (floor-word-applies (o .carried) refl)
+      (either-fails (lawful (o .word)) (Bool·beq (has (o .word) reserve) (carriesFloor (o .carried))) h)
 
 -- ── 10: no order of that number rests ──
 
@@ -187,7 +218,7 @@ module _ (r : BookRecord) (c : Command) where
   -- 8 to 11: what a body gives applies
   body-applies : (b : Body) → c .body ≡ b → {k : ℕ} → Gives k (bodyRefusals (bookIn r) b) → AppliesTo r c k
   unfolding bodyRefusals bookIn restsOnFullSide
-  body-applies (body.Order o) is (here t) = unlawful o is (not-true (lawful (o .word)) t)
+  body-applies (body.Order o) is (here t) = word-applies r c o is (not-true (orderLawful o) t)
   body-applies (body.Order o) is (later (here t)) = range-applies r c o is (not-true (orderInRange o) t)
   body-applies (body.Order o) is (later (later (here t))) =
       let rest = isRest (ending o (r .held .away) (opposite o (bookIn r))) in
@@ -213,7 +244,7 @@ module _ (r : BookRecord) (c : Command) where
   gives-applies (later (later (later (here t)))) = untimely-applies r c t
   gives-applies (later (later (later (later g)))) = body-applies (c .body) refl g
 
-  -- what gives 7; what the body gives; and what of it gives 9
+  -- what gives 7; what the body gives; and what of it gives 8 and 9
   by-time : untimely (bookIn r) c ≡ true → Gives 7 (commandRefusals (bookIn r) c)
   unfolding headerRefusals
   by-time t = later (later (later (here t)))
@@ -221,6 +252,10 @@ module _ (r : BookRecord) (c : Command) where
   by-its-body : {k : ℕ} (b : Body) → c .body ≡ b → Gives k (bodyRefusals (bookIn r) b) → Gives k (commandRefusals (bookIn r) c)
   unfolding headerRefusals
   by-its-body b is g = rw is (later (later (later (later g))))
+
+  by-word : (o : Order) → c .body ≡ body.Order o → orderLawful o ≡ false → Gives 8 (commandRefusals (bookIn r) c)
+  unfolding bodyRefusals
+  by-word o is t = by-its-body (body.Order o) is (here (ap not t))
 
   by-range : (o : Order) → c .body ≡ body.Order o → orderInRange o ≡ false → Gives 9 (commandRefusals (bookIn r) c)
   unfolding bodyRefusals
@@ -243,14 +278,19 @@ module _ (r : BookRecord) (c : Command) where
       by-time (rw (from-too-late (c .body) (c .time) l n) (or-true (ltb (c .time) (r .held .time) || ltb (c .time) opening)))
   applies-gives (afterTheClosing l) =
       by-time (rw (after-too-late (c .body) (c .time) l) (or-true (ltb (c .time) (r .held .time) || ltb (c .time) opening)))
-  applies-gives (unlawful o is t) = by-its-body (body.Order o) is (here (ap not t))
+  applies-gives (unlawful o is t) = by-word o is (rw t refl)
+  applies-gives (reserveWithNoFloor o is e t) = by-word o is (rw (e, t) (and-none (lawful (o .word))))
+  applies-gives (floorWithNoReserve o is floor e t) = by-word o is (rw (e, t) (and-none (lawful (o .word))))
   applies-gives (noSide o is n m) = by-range o is (rw (lt-leb (o .side) 1 (omega (arith, n, m))) refl)
   applies-gives (sharesOutside o is out) =
       by-range o is (rw (not-within fewestShares mostShares (o .shares .0) out, and-none (leb (o .side) 1)) refl)
   applies-gives (limitOutside o is t out) =
-      by-range o is (rw (t, not-within lowestPrice highestPrice (o .price .0) out) (and-none (leb (o .side) 1 && sharesInRange (o .shares))))
+      by-range o is (rw (t, not-within lowestPrice highestPrice (o .price .0) out, and-none (leb (o .side) 1 && sharesInRange (o .shares))) refl)
   applies-gives (marketPriced o is t n) =
-      by-range o is (rw (t, ne-eqb (o .price .0) 0 n) (and-none (leb (o .side) 1 && sharesInRange (o .shares))))
+      by-range o is (rw (t, ne-eqb (o .price .0) 0 n, and-none (leb (o .side) 1 && sharesInRange (o .shares))) refl)
+  applies-gives (floorOutside o is floor e out) =
+      by-range o is
+      (rw (e, not-within 1 (o .shares .0) (floor .0) out) (and-none (leb (o .side) 1 && sharesInRange (o .shares) && orderPriceInRange o)))
   applies-gives (bidOutside away is out) = by-away away is (rw (away-not-within (away .bid) out) refl)
   applies-gives (offerOutside away is out) = by-away away is (rw (away-not-within (away .offer) out) (and-none (awayInRange (away .bid))))
   applies-gives (notResting n is a) = by-its-body (body.Cancel n) is (here (ap not (found-on-neither n (bookIn r .buys) (bookIn r .sells) a)))

@@ -1,15 +1,16 @@
 -- Every execution is at the price at which the resting order was last told to stand, and that price is fair: within the incoming limit
 -- and, unless the order is an ISO, the away quote then held. Assumes nothing.
 use Prim.Native.Nat.{ℕ, _<_}
-use mathlib.Core.Bool.{Bool, true, false}
+use mathlib.Core.Bool.{Bool, true, false, not}
 use mathlib.Core.List.{List, [], _∷_, _++_, append-assoc, append-nil}
 use mathlib.Core.Logic.{_≢_}
 use mathlib.Core.Path.{_≡_, refl, sym, ap, _∙_, subst, subst₂}
 use lib.Dec.{eqb}
 use native.Mathlib.Omega.{arith}
-use borrow.Author.Tests.{eq-eqb, ne-eqb}
+use borrow.Author.Tests.{eq-eqb, ne-eqb, eqb-true}
 use Rattle.basics.specs.Choice.{if_then_else_}
 use Rattle.basics.specs.Lists.{gathered, All, none, also, OneOf, first, later}
+use Rattle.basics.proofs.LawsChoice.{by-choice}
 use Rattle.basics.proofs.LawsLists.{all-alike, all-both, one-of-all, each-there, gathered-all}
 use Rattle.kinds.specs.Kinds.{cents}
 use Rattle.kinds.specs.declared.Cents.{Cents}
@@ -27,15 +28,18 @@ use Rattle.rules.specs.declared.Reading.the-variants as reading
 use Rattle.rules.specs.declared.Resting.{Resting}
 use Rattle.rules.specs.Book.{Book, fresh, sound}
 use Rattle.rules.specs.CommandLines.{commandIn}
-use Rattle.rules.specs.Commands.{carriedOut, does}
+use Rattle.rules.specs.Commands.{does}
 use Rattle.rules.specs.Day.{printed, bookAfter, printedOf}
 use Rattle.rules.specs.Settling as settling
 use Rattle.rules.specs.declared.Fate.{Fate}
 use Rattle.rules.specs.declared.Fate.the-variants.{Stays, IsCancelled, IsSet}
 use Rattle.rules.specs.Settling.{told, ownSide, oppositeSide}
 use Rattle.rules.specs.Step.{answerTo}
-use Rattle.rules.specs.Working.{buying, takings, remainder, executions, ending, lastLine, accept}
-use Rattle.rules.proofs.LawsCommands.{fateBy, IfSet, SameOrder, set-same, never-set, does-tells}
+use Rattle.rules.specs.Holdings.{Holding, holdings, executions, reducedBy, after}
+use Rattle.rules.specs.Working.{buying, takings, remainder, ending, lastLine, refillFate}
+use Rattle.rules.proofs.LawsCommands.{fateBy, IfSet, SameOrder, set-same, never-set, order-does, does-tells}
+use Rattle.rules.proofs.LawsFloors.{refill-same}
+use Rattle.rules.proofs.LawsWalkOrder.{after-are}
 use Rattle.soundness.proofs.LawsKept.{answer-sound, fresh-sound, after-sound}
 use Rattle.soundness.proofs.LawsSides.{sides-of}
 use Rattle.soundness.proofs.LawsSound.{Sound, sound-is}
@@ -56,11 +60,21 @@ use Rattle.demands.proofs.LawsTold.{line-told}
 abbrev Quiet : Number → Event → Type 0
 Quiet n e = (before : Cents) → priceTold n e before ≡ before
 
+-- an event leaves the order of a number at a price
+abbrev Leaves : Number → Cents → Event → Type 0
+Leaves n price e = priceTold n e price ≡ price
+
 -- after such events it stands where it stood, and of two runs of events the second goes on from the first
 quiet-told : (n : Number) (before : Cents) {es : List Event} → All (Quiet n) es → lastTold n before es ≡ before
 unfolding lastTold
 quiet-told n before none = refl
 quiet-told n before (also {x = e} q a) = rw (q before) (quiet-told n before a)
+
+-- .. and so after events of which each leaves it where it stands
+leaves-told : (n : Number) (price : Cents) {es : List Event} → All (Leaves n price) es → lastTold n price es ≡ price
+unfolding lastTold
+leaves-told n price none = refl
+leaves-told n price (also {x = e} q a) = rw q (leaves-told n price a)
 
 told-append : (n : Number) (before : Cents) (es fs : List Event) → lastTold n before (es ++ fs) ≡ lastTold n (lastTold n before es) fs
 unfolding lastTold
@@ -75,7 +89,7 @@ told-other : (n m : Number) (price before : Cents) → n .0 ≢ m .0 → (if eqb
 told-other n m price before d = rw (ne-eqb (n .0) (m .0) d) refl
 
 -- executions tell no price
-executions-quiet : (n m : Number) (s : List Resting) (ts : List ℕ) → All (Quiet n) (executions m s ts)
+executions-quiet : (n m : Number) (s : List Holding) (ts : List ℕ) → All (Quiet n) (executions m s ts)
 executions-quiet n m s ts = every-execution m (λ h t before. refl) s ts
 
 -- the last line of an order tells no price of another
@@ -122,16 +136,44 @@ abbrev StandAsTold : List Event → Book → Type 0
 StandAsTold es b = (buy : Bool) → All (λ (h : Resting). standsAt (h .number) es ≡ h .price) (ownSide buy b)
 
 module _ (b : Book) (isSound : Sound b) (n : Number) (next : b .held .last .0 < n .0) (time : ℕ) where
-  -- events tell nothing of one that stays
-  stays-quiet : (buy : Bool) (h : Resting) → OneOf h (ownSide buy b) → (c : Body) → fateBy c buy h ≡ Stays → All (Quiet (h .number)) (does n time c b .events)
-  unfolding does carriedOut accept
-  stays-quiet buy h p = does-tells n time b (λ (c : Body) (es : List Event). fateBy c buy h ≡ Stays → All (Quiet (h .number)) es) order-quiet both-quiet
+  -- whoever is left by an order on the opposite side has the number and the price of one that stood there
+  left-stood : {P : Resting → Type 0} (o : Order) → ((g : Resting) → OneOf g (ownSide (not (buying o)) b) → (x : Resting) → x .number ≡ g .number
+      → x .price ≡ g .price → P x) → All P (after (oppositeSide (buying o) b) (takings o (b .held .away) (oppositeSide (buying o) b)))
+  left-stood o f =
+      after-are o (b .held .away) (oppositeSide (buying o) b)
+      (λ g t r p gives kept. f g (subst (OneOf g) (opposite-own (buying o)) p) (reducedBy t r g) refl refl)
     where
-      order-quiet : (o : Order) → fateBy (body.Order o) buy h ≡ Stays → All (Quiet (h .number)) (does n time (body.Order o) b .events)
-      order-quiet o alone =
+      opposite-own : (buy : Bool) → oppositeSide buy b ≡ ownSide (not buy) b
+      opposite-own true = refl
+      opposite-own false = refl
+
+  -- events leave one that stays where it stands; if an order refills it, they tell its price once more
+  stays-left : (buy : Bool) (h : Resting) → OneOf h (ownSide buy b) → (c : Body) → fateBy c buy h ≡ Stays
+      → All (Leaves (h .number) (h .price)) (does n time c b .events)
+  unfolding told
+  stays-left buy h p = does-tells n time b (λ (c : Body) (es : List Event). fateBy c buy h ≡ Stays → All (Leaves (h .number) (h .price)) es) order-leaves both-leave
+    where
+      quiet-leaves : {es : List Event} → All (Quiet (h .number)) es → All (Leaves (h .number) (h .price)) es
+      quiet-leaves a = all-alike (λ e quiet. quiet (h .price)) a
+
+      refill-leaves : (x : Resting) → (h .number .0 ≡ x .number .0 → x .price ≡ h .price) → All (Leaves (h .number) (h .price)) (settling.toldBy (refillFate x) x)
+      refill-leaves x same =
+          by-choice (λ (f : Fate). All (Leaves (h .number) (h .price)) (settling.toldBy f x)) (eqb (x .shares .0) 0)
+          (λ t. also
+          (by-choice (λ (price : Cents). price ≡ h .price) (eqb (h .number .0) (x .number .0))
+          (λ e. same (eqb-true (h .number .0) (x .number .0) e)) (λ e. refl)) none)
+          (λ t. none)
+
+      order-leaves : (o : Order) → fateBy (body.Order o) buy h ≡ Stays → All (Leaves (h .number) (h .price)) (does n time (body.Order o) b .events)
+      order-leaves o alone =
           let s = oppositeSide (buying o) b in
-          all-both (executions-quiet (h .number) n s (takings o (b .held .away) s))
-          (last-quiet (h .number) n (remainder o (b .held .away) s) (ending o (b .held .away) s) (another-number b isSound n next buy p))
+          let ts = takings o (b .held .away) s in
+          let last = last-quiet (h .number) n (remainder o (b .held .away) s) (ending o (b .held .away) s) (another-number b isSound n next buy p) in
+          let refills = gathered-all (λ (x : Resting). settling.toldBy (refillFate x) x)
+          (all-alike refill-leaves
+          (left-stood o (λ g q x number price is. price ∙ ap (λ (y : Resting). y .price)
+          (sym (one-number b isSound buy (not (buying o)) p q (is ∙ ap (λ (m : Number). m .0) number) .1))))) in
+          rw (order-does n time b o .1) (all-both (quiet-leaves (all-both (executions-quiet (h .number) n (holdings s) ts) last)) refills)
 
       side-quiet : (c : Body) → fateBy c buy h ≡ Stays → (side : Bool) → All (Quiet (h .number)) (told (fateBy c side) (ownSide side b))
       side-quiet c alone side =
@@ -141,8 +183,8 @@ module _ (b : Book) (isSound : Sound b) (n : Number) (next : b .held .last .0 < 
           let same = one-number b isSound buy side p q e in
           subst₂ (λ (s : Bool) (z : Resting). fateBy c s z ≡ Stays) (same .0) (same .1) alone) (each-there (ownSide side b)))
 
-      both-quiet : (c : Body) → fateBy c buy h ≡ Stays → All (Quiet (h .number)) (told (fateBy c true) (b .buys) ++ told (fateBy c false) (b .sells))
-      both-quiet c alone = all-both (side-quiet c alone true) (side-quiet c alone false)
+      both-leave : (c : Body) → fateBy c buy h ≡ Stays → All (Leaves (h .number) (h .price)) (told (fateBy c true) (b .buys) ++ told (fateBy c false) (b .sells))
+      both-leave c alone = quiet-leaves (all-both (side-quiet c alone true) (side-quiet c alone false))
 
   -- one that is set anew is told its new price, whatever was told of it before
   anew-told : (buy : Bool) (h new : Resting) → OneOf h (ownSide buy b) → (before : Cents) (c : Body) → fateBy c buy h ≡ IsSet new
@@ -168,12 +210,22 @@ module _ (b : Book) (isSound : Sound b) (n : Number) (next : b .held .last .0 < 
   -- and one that comes to rest is told where
   rested-told : (o : Order) (price : Cents) (buy : Bool) → buying o ≡ buy → ending o (b .held .away) (oppositeSide buy b) ≡ Rests price → (before : Cents)
       → lastTold n before (does n time (body.Order o) b .events) ≡ price
-  unfolding does carriedOut accept
   rested-told o price buy t e before =
-      let s = oppositeSide buy b in
-      rw t
-      (told-append n before (executions n s (takings o (b .held .away) s)) (lastLine n (remainder o (b .held .away) s) (ending o (b .held .away) s))
-      ∙ last-told n (remainder o (b .held .away) s) (ending o (b .held .away) s) price e (lastTold n before (executions n s (takings o (b .held .away) s))))
+      let s = oppositeSide (buying o) b in
+      let ts = takings o (b .held .away) s in
+      let left = remainder o (b .held .away) s in
+      let es = executions n (holdings s) ts in
+      let last = lastLine n left (ending o (b .held .away) s) in
+      let rests : ending o (b .held .away) s ≡ Rests price = rw t e in
+      let quiet : All (Quiet n) (told refillFate (after s ts)) =
+      told-quiet refillFate refill-same n
+      (left-stood o (λ g q x number at is.
+      absurd (another-number b isSound n next (not (buying o)) q (sym (is ∙ ap (λ (m : Number). m .0) number))))) in
+      rw (order-does n time b o .1)
+      (told-append n before (es ++ last) (told refillFate (after s ts))
+      ∙ quiet-told n (lastTold n before (es ++ last)) quiet
+      ∙ told-append n before es last
+      ∙ last-told n left (ending o (b .held .away) s) price rests (lastTold n before es))
 
   -- so each that stands afterwards stands where it was last told to
   comes-told : (es : List Event) → StandAsTold es b → (c : Body) (buy : Bool) (x : Resting) → Comes b n buy x c
@@ -181,8 +233,8 @@ module _ (b : Book) (isSound : Sound b) (n : Number) (next : b .held .last .0 < 
   comes-told es stand c buy x (stayed h p a i e) =
       rw (i, e)
       (told-append (h .number) (cents 0) es (does n time c b .events)
-      ∙ quiet-told (h .number) (standsAt (h .number) es) (stays-quiet buy h p c a)
-      ∙ one-of-all (stand buy) p)
+      ∙ ap (λ (price : Cents). lastTold (h .number) price (does n time c b .events)) (one-of-all (stand buy) p)
+      ∙ leaves-told (h .number) (h .price) (stays-left buy h p c a))
   comes-told es stand c buy x (anew h new p a i e) =
       rw (i, e) (told-append (h .number) (cents 0) es (does n time c b .events) ∙ anew-told buy h new p (standsAt (h .number) es) c a)
   comes-told es stand (body.Order o) buy x (rests t e i) =

@@ -1,7 +1,7 @@
 -- Demand 3, the sums: over any run from a fresh book, for each accepted order, shares entered equal shares executed plus cancelled,
 -- both summed from the event lines, plus those still resting. Assumes nothing.
 use Prim.Native.Nat.{ℕ, _+_, _≤_, _<_}
-use mathlib.Core.Bool.{Bool, true, false}
+use mathlib.Core.Bool.{Bool, true, false, not}
 use mathlib.Core.List.{List, [], _∷_, _++_}
 use mathlib.Core.Logic.{_≢_, ⊎-elim}
 use mathlib.Core.Path.{_≡_, refl, _∙_, subst}
@@ -19,22 +19,25 @@ use Rattle.rules.specs.declared.Order.{Order}
 use Rattle.rules.specs.declared.Reading.{Reading}
 use Rattle.rules.specs.declared.Reading.the-variants as reading
 use Rattle.rules.specs.declared.Resting.{Resting}
-use Rattle.rules.specs.Book.{Book, fresh, sound}
+use Rattle.rules.specs.Book.{Book, fresh, sharesLeft, sound}
 use Rattle.rules.specs.CommandLines.{commandIn}
 use Rattle.rules.specs.Commands.{withAway, shut, cancel, quote, close, begun, carriedOut, does}
 use Rattle.rules.specs.Day.{bookAfter}
 use Rattle.rules.specs.declared.Fate.{Fate}
 use Rattle.rules.specs.Settling.{told, Done, onHeld, firstMove, settled, bothSettled}
 use Rattle.rules.specs.Step.{doneBy, answer, answerTo}
-use Rattle.rules.specs.Working.{buying, takings, remainder, executions, after, ending, lastLine, withRemainder, accept}
+use Rattle.rules.specs.Holdings.{holdings, executions, after}
+use Rattle.rules.specs.Working.{buying, takings, remainder, ending, lastLine, withRemainder, worked, refillFate, accept}
 use Rattle.rules.proofs.LawsCommands.{fateBy, IfSet, SameOrder, set-same}
+use Rattle.rules.proofs.LawsFloors.{refill-same}
+use Rattle.rules.proofs.LawsTakings.{takings-at-most, takings-within}
 use Rattle.soundness.proofs.LawsKept.{answer-sound, fresh-sound}
 use Rattle.soundness.proofs.LawsSides.{InRange, sides-of}
 use Rattle.soundness.proofs.LawsSound.{sound-is}
 use Rattle.demands.specs.Once.{commandNumber, acts, byLine}
 use Rattle.demands.specs.Run.{eventsOf, Enters, now, later}
 use Rattle.demands.specs.Told.{executedBy, cancelledBy, countedIf, executedIn, cancelledIn, restsOn, restingOf}
-use Rattle.demands.proofs.LawsHeld.{counted-same, counted-other, counted-split, takings-no-more, takings-at-most, executions-sum, executions-cancel-none, told-sum, told-execute-none, ending-sum, ending-leaves}
+use Rattle.demands.proofs.LawsHeld.{counted-same, counted-other, counted-split, executions-sum, executions-cancel-none, told-sum, told-execute-none, ending-sum, ending-leaves}
 use Rattle.demands.proofs.LawsOnce.{refused-book, refused-events, next-acts, answer-rises}
 
 -- ── One command ──
@@ -55,7 +58,7 @@ split-entered n m o away s = counted-split n m (total (takings o away s)) (o .sh
 -- an order worked against the opposite side, with its own side
 work-sum : (n m : Number) (o : Order) (away : Away) (own opposite : List Resting)
     → restsOn n own + restsOn n opposite + countedIf n m (o .shares .0)
-    ≡ goneIn n (executions m opposite (takings o away opposite) ++ lastLine m (remainder o away opposite) (ending o away opposite))
+    ≡ goneIn n (executions m (holdings opposite) (takings o away opposite) ++ lastLine m (remainder o away opposite) (ending o away opposite))
     + (restsOn n (withRemainder m o (remainder o away opposite) (ending o away opposite) own) + restsOn n (after opposite (takings o away opposite)))
 work-sum n m o away own opposite =
     let ts = takings o away opposite in
@@ -63,18 +66,18 @@ work-sum n m o away own opposite =
     let end = ending o away opposite in
     omega (
       arith,
-      gone-append n (executions m opposite ts) (lastLine m left end),
-      executions-sum n m (takings-no-more o away opposite),
-      executions-cancel-none n m opposite ts,
+      gone-append n (executions m (holdings opposite) ts) (lastLine m left end),
+      executions-sum n m opposite ts (takings-within o away opposite),
+      executions-cancel-none n m (holdings opposite) ts,
       ending-sum n m o left end own (ending-leaves o away opposite),
       split-entered n m o away opposite,
     )
 
-accept-sum : (n m : Number) (time : ℕ) (o : Order) (b : Book)
+worked-sum : (n m : Number) (time : ℕ) (o : Order) (b : Book)
     → restingOf n b + countedIf n m (o .shares .0)
-    ≡ goneIn n (does m time (body.Order o) b .events) + restingOf n (does m time (body.Order o) b .book)
-unfolding does carriedOut accept
-accept-sum n m time o b =
+    ≡ goneIn n (worked m o (begun m time b) .events) + restingOf n (worked m o (begun m time b) .book)
+unfolding worked
+worked-sum n m time o b =
     ⊎-elim
     (λ (t : buying o ≡ true). rw t (work-sum n m o (b .held .away) (b .buys) (b .sells)))
     (λ (t : buying o ≡ false). rw t (omega (arith, work-sum n m o (b .held .away) (b .sells) (b .buys))))
@@ -92,6 +95,14 @@ settled-balance n fate same false d =
     let s = d .book .sells in
     let sum = told-sum n (d .book .held .last) (firstMove + d .moves) false fate same s in
     omega (arith, gone-append n (d .events) (told fate s), sum, told-execute-none n fate s)
+
+-- .. so the refills of an order lose none
+accept-sum : (n m : Number) (time : ℕ) (o : Order) (b : Book)
+    → restingOf n b + countedIf n m (o .shares .0)
+    ≡ goneIn n (does m time (body.Order o) b .events) + restingOf n (does m time (body.Order o) b .book)
+unfolding does carriedOut accept
+accept-sum n m time o b =
+    omega (arith, worked-sum n m time o b, settled-balance n refillFate refill-same (not (buying o)) (worked m o (begun m time b)))
 
 -- .. and so of both sides, by the fates of a command
 both-balance : (n : Number) (c : Body) (d : Done)
@@ -196,7 +207,7 @@ unfolding sumOf
 above-none n l none = refl
 above-none n l (also {x = h} r a) =
     let other : n .0 ≢ h .number .0 = λ (z : n .0 ≡ h .number .0). omega (arith, z, r .upToLast) in
-    omega (arith, counted-other n (h .number) (h .shares .0) other, above-none n l a)
+    omega (arith, counted-other n (h .number) (sharesLeft h) other, above-none n l a)
 
 above-rests-none : (n : Number) (b : Book) → sound b ≡ true → b .held .last .0 < n .0 → restingOf n b ≡ 0
 above-rests-none n b s l =

@@ -1,15 +1,15 @@
 -- What the program prints, read back line by line, tells the very events of the book, since every field of an event fits its
 -- width; and the lines of refusals tell none. Assumes nothing.
-use Prim.Native.Nat.{ℕ, _^_, _<_}
+use Prim.Native.Nat.{ℕ, _^_, _≤_, _<_}
 use mathlib.Core.Bool.{Bool, true, false}
 use mathlib.Core.List.{List, [], _∷_, _++_, append-nil}
 use mathlib.Core.Logic.{⊎-elim}
 use mathlib.Core.Path.{_≡_, refl, sym, ap, _∙_}
 use lib.Dec.{eqb}
 use native.Mathlib.Omega.{arith}
-use Rattle.basics.specs.Lists.{All, none, also}
-use Rattle.basics.proofs.LawsChoice.{holds-or-not}
-use Rattle.basics.proofs.LawsLists.{all-alike, all-both, gathered-all}
+use Rattle.basics.specs.Lists.{All, none, also, Each, empty, with}
+use Rattle.basics.proofs.LawsChoice.{holds-or-not, by-choice}
+use Rattle.basics.proofs.LawsLists.{all-alike, all-both, one-of-all, gathered-all}
 use Rattle.kinds.specs.declared.Cents.{Cents}
 use Rattle.kinds.specs.declared.Number.{Number}
 use Rattle.kinds.specs.Kinds.{priceInRange}
@@ -17,6 +17,8 @@ use Rattle.kinds.proofs.LawsRanges.{price-highest}
 use Rattle.rules.specs.declared.Away.{Away}
 use Rattle.rules.specs.declared.Body.{Body}
 use Rattle.rules.specs.declared.Body.the-variants as body
+use Rattle.rules.specs.declared.Carried.{Carried}
+use Rattle.rules.specs.declared.Carried.the-variants.{Nothing, MaxFloor}
 use Rattle.rules.specs.declared.Ending.{Ending}
 use Rattle.rules.specs.declared.Ending.the-variants.{Filled, Rests, Cancels}
 use Rattle.rules.specs.declared.Event.{Event}
@@ -24,9 +26,9 @@ use Rattle.rules.specs.declared.Order.{Order}
 use Rattle.rules.specs.declared.Reading.{Reading}
 use Rattle.rules.specs.declared.Reading.the-variants as reading
 use Rattle.rules.specs.declared.Resting.{Resting}
-use Rattle.rules.specs.Book.{Book, sound}
-use Rattle.rules.specs.CommandLines.{Fitting, empty, fits, headerForm, orderForm, quoteForm, numbersOf, formOf, commandIn}
-use Rattle.rules.specs.Commands.{carriedOut, does}
+use Rattle.rules.specs.Book.{Book, sharesLeft, sound}
+use Rattle.rules.specs.CommandLines.{Fitting, empty, fits, headerForm, quoteForm, orderFormOf, carriedNumbers, numbersOf, formOf, commandIn}
+use Rattle.rules.specs.Commands.{does}
 use Rattle.rules.specs.Day.{cut, unendedLine, linesIn, printed, printedOf}
 use Rattle.rules.specs.EventLines.{FitsEvent, eventLines, executedKind, restedKind, cancelledKind, movedKind, iocRemainder, fokKilled, cancelledBack, noPriceInRange, postOnlyMeets}
 use Rattle.rules.specs.Instructions.{ioc, fok, has}
@@ -34,28 +36,31 @@ use Rattle.rules.specs.declared.Fate.{Fate}
 use Rattle.rules.specs.declared.Fate.the-variants.{Stays, IsCancelled, IsSet}
 use Rattle.rules.specs.Settling.{toldBy, told, oppositeSide}
 use Rattle.rules.specs.Step.{doneBy, answer, answerTo}
-use Rattle.rules.specs.Working.{buying, lockingPrice, remainder, executions, endingWith, ending, lastLine, accept}
-use Rattle.rules.proofs.LawsCommands.{fateBy, cancel-fate, quote-fate, does-tells}
+use Rattle.rules.specs.Holdings.{Holding, size, executions, after}
+use Rattle.rules.specs.Working.{buying, lockingPrice, takings, remainder, endingWith, ending, lastLine, refillFate}
+use Rattle.rules.proofs.LawsCommands.{fateBy, cancel-fate, quote-fate, order-does, does-tells}
+use Rattle.rules.proofs.LawsFloors.{shown-at-most}
 use Rattle.rules.proofs.LawsLines.{commandIn-is}
+use Rattle.rules.proofs.LawsTakings.{takings-within}
+use Rattle.rules.proofs.LawsWalkOrder.{holdings-there, after-are}
 use Rattle.soundness.proofs.LawsEndings.{chosen, sought-is}
 use Rattle.soundness.proofs.LawsKept.{answer-sound}
 use Rattle.soundness.proofs.LawsSides.{InRange, sides-of}
 use Rattle.soundness.proofs.LawsSound.{sound-is}
 use Rattle.demands.specs.Once.{acts, commandNumber, eventLinesOf, byLine}
 use Rattle.demands.specs.Run.{eventsOf}
-use Rattle.demands.specs.ShareOut.{Each, empty, with}
 use Rattle.demands.specs.Told.{eventsOn, eventsIn}
 use Rattle.demands.proofs.LawsEventLines.{events-read, refusal-read}
-use Rattle.demands.proofs.LawsHeld.{NoMore, takings-no-more}
+use Rattle.demands.proofs.LawsHeld.{NoMore}
 use Rattle.demands.proofs.LawsOnce.{refused-events, next-acts}
 
 -- ── Resting orders ──
 
--- the fields of a resting order fit in four bytes
+-- the fields of a resting order fit in four bytes, and so do both parts of it together
 record Small (h : Resting) : Type 0 where
   number : h .number .0 < 2 ^ 32
   price : h .price .0 < 2 ^ 32
-  shares : h .shares .0 < 2 ^ 32
+  left : sharesLeft h < 2 ^ 32
 
 -- a price in range does
 price-small : (p : Cents) → priceInRange p ≡ true → p .0 < 2 ^ 32
@@ -63,20 +68,26 @@ price-small p e = omega (arith, price-highest p e)
 
 -- so every resting order of a sound book is small, if its last number has four bytes
 all-small : {last : Number} → last .0 < 2 ^ 32 → {s : List Resting} → All (InRange last) s → All Small s
-all-small l a = all-alike (λ h r. record { number = omega (arith, l, r .upToLast); price = price-small (h .price) (r .priced); shares = omega (arith, r .atMost) }) a
+all-small l a = all-alike (λ h r. record { number = omega (arith, l, r .upToLast); price = price-small (h .price) (r .priced); left = omega (arith, r .atMost) }) a
 
 -- ── Executions ──
 
--- each execution is of a resting order, at its price, and none gives more than it holds
-executions-fit : (n : Number) → n .0 < 2 ^ 32 → {s : List Resting} {ts : List ℕ} → All Small s → Each NoMore s ts → All FitsEvent (executions n s ts)
+-- each execution is of a resting order, at its price, and no holding gives more than it has
+executions-fit : (n : Number) → n .0 < 2 ^ 32 → {hs : List Holding} {ts : List ℕ} → All (λ (h : Holding). Small (h .of)) hs → Each NoMore hs ts
+    → All FitsEvent (executions n hs ts)
 unfolding executions
 executions-fit n l none empty = none
 executions-fit n l (also {x = h} r a) (with {y = t} m e) =
     ⊎-elim
     (λ (z : eqb t 0 ≡ true). rw z (executions-fit n l a e))
     (λ (z : eqb t 0 ≡ false).
-    rw z (also (fits 1 executedKind (omega arith) (fits 4 (n .0) l (fits 4 (h .number .0) (r .number) (fits 4 (h .price .0) (r .price) (fits 4 t (omega (arith, r .shares)) empty))))) (executions-fit n l a e)))
+    let given : t < 2 ^ 32 = omega (arith, m, part-of h, r .left) in
+    let resting = fits 4 (h .of .number .0) (r .number) (fits 4 (h .of .price .0) (r .price) (fits 4 t given empty)) in
+    rw z (also (fits 1 executedKind (omega arith) (fits 4 (n .0) l resting)) (executions-fit n l a e)))
     (holds-or-not (eqb t 0))
+  where
+    part-of : (h : Holding) → size h ≤ sharesLeft (h .of)
+    part-of h = by-choice (λ (k : ℕ). k ≤ sharesLeft (h .of)) (h .isReserve) (λ t. omega arith) (λ t. omega arith)
 
 -- ── Cancels and moves ──
 
@@ -93,9 +104,9 @@ told-fits fate small a = gathered-all (λ (h : Resting). toldBy (fate h) h) (all
     by-fate : (f : Fate) (h : Resting) → Small h → SmallFate f → All FitsEvent (toldBy f h)
     by-fate Stays h r i = none
     by-fate (IsCancelled reason) h r i =
-        also (fits 1 cancelledKind (omega arith) (fits 4 (h .number .0) (r .number) (fits 4 (h .shares .0) (r .shares) (fits 1 reason i empty)))) none
+        also (fits 1 cancelledKind (omega arith) (fits 4 (h .number .0) (r .number) (fits 4 (sharesLeft h) (r .left) (fits 1 reason i empty)))) none
     by-fate (IsSet new) h r i =
-        let fields = fits 4 (new .number .0) (i .number) (fits 4 (new .price .0) (i .price) (fits 4 (new .shares .0) (i .shares) empty)) in
+        let fields = fits 4 (new .number .0) (i .number) (fits 4 (new .price .0) (i .price) (fits 4 (new .shares .0) (omega (arith, i .left)) empty)) in
         also (fits 1 movedKind (omega arith) fields) none
 
 -- an away quote that was read has prices of four bytes
@@ -108,8 +119,14 @@ fates-small : (c : Body) → Fitting (formOf c) (numbersOf c) → (buy : Bool) (
 fates-small (body.Order o) f buy h r = tt
 fates-small (body.Cancel of) f buy h r = cancel-fate SmallFate of h (omega arith) (λ t. tt)
 fates-small (body.Quote away) f buy h r =
-    quote-fate SmallFate away buy h (λ t. tt) (λ t b. omega arith) (λ t b. record { number = r .number; price = locking-small buy away f; shares = r .shares })
+    quote-fate SmallFate away buy h (λ t. tt) (λ t b. omega arith) (λ t b. record { number = r .number; price = locking-small buy away f; left = r .left })
 fates-small body.Close f buy h r = omega arith
+
+-- and so is that of a refill
+refill-small : (h : Resting) → Small h → SmallFate (refillFate h)
+refill-small h r =
+    by-choice SmallFate (eqb (h .shares .0) 0)
+    (λ t. record { number = r .number; price = r .price; left = omega (arith, r .left, shown-at-most (h .floor .0) (sharesLeft h)) }) (λ t. tt)
 
 -- ── The ending of an order ──
 
@@ -135,6 +152,12 @@ last-line-fits n left l m filled = none
 last-line-fits n left l m (rests p k) = also (fits 1 restedKind (omega arith) (fits 4 (n .0) l (fits 4 (p .0) k (fits 4 left m empty)))) none
 last-line-fits n left l m (cancelled reason k) = also (fits 1 cancelledKind (omega arith) (fits 4 (n .0) l (fits 4 left m (fits 1 reason k empty)))) none
 
+-- the price and the shares of an order that was read have four bytes
+pub order-small : (side word price size : ℕ) (x : Carried) → Fitting (orderFormOf x) (side ∷ word ∷ price ∷ size ∷ carriedNumbers x)
+    → (price < 2 ^ 32) × (size < 2 ^ 32)
+order-small side word price size Nothing (fits w a i (fits x b j (fits y c p (fits z d q empty)))) = (p, q)
+order-small side word price size (MaxFloor floor) (fits w a i (fits x b j (fits y c p (fits z d q rest)))) = (p, q)
+
 -- ── An accepted command ──
 
 module _ (b : Book) (s : sound b ≡ true) (l : b .held .last .0 < 2 ^ 32) (n : Number) (m : n .0 < 2 ^ 32) (time : ℕ) where
@@ -143,12 +166,21 @@ module _ (b : Book) (s : sound b ≡ true) (l : b .held .last .0 < 2 ^ 32) (n : 
   opposite-small buy = all-small l (sides-of buy b (sound-is b s) .oppositeInRange)
 
   -- no more is left of an order than it has, and one that was read has a price and shares of four bytes
-  order-fits : (o : Order) → Fitting orderForm (numbersOf (body.Order o)) → All FitsEvent (does n time (body.Order o) b .events)
-  unfolding does carriedOut accept remainder
-  order-fits o (fits w side i (fits x word j (fits y price p (fits z size q empty)))) =
+  order-fits : (o : Order) → Fitting (formOf (body.Order o)) (numbersOf (body.Order o)) → All FitsEvent (does n time (body.Order o) b .events)
+  unfolding remainder
+  order-fits o f =
       let opposite = oppositeSide (buying o) b in
-      all-both (executions-fit n m (opposite-small (buying o)) (takings-no-more o (b .held .away) opposite))
-      (last-line-fits n (remainder o (b .held .away) opposite) m (omega (arith, q)) (ending-fits o (b .held .away) opposite p))
+      let away = b .held .away in
+      let small = opposite-small (buying o) in
+      let (price, size) = order-small (o .side) (o .word) (o .price .0) (o .shares .0) (o .carried) f in
+      let reduced : All Small (after opposite (takings o away opposite)) =
+      after-are o away opposite
+      (λ h t r p g kept. let k = one-of-all small p in record { number = k .number; price = k .price; left = omega (arith, k .left) }) in
+      rw (order-does n time b o .1)
+      (all-both
+      (all-both (executions-fit n m (all-alike (λ h p. one-of-all small p) (holdings-there opposite)) (takings-within o away opposite))
+      (last-line-fits n (remainder o away opposite) m (omega (arith, size)) (ending-fits o away opposite price)))
+      (told-fits refillFate refill-small reduced))
 
   -- whatever a command that was read does, its events fit
   does-fits : (c : Body) → Fitting (formOf c) (numbersOf c) → All FitsEvent (does n time c b .events)

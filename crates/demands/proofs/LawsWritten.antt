@@ -8,7 +8,7 @@ use mathlib.Core.Path.{_≡_, refl, sym, ap, subst, _∙_}
 use lib.Dec.{eqb}
 use native.Mathlib.Omega.{arith}
 use borrow.Author.Tests.{eq-eqb, ne-eqb, eqb-true, eqb-false, not-false}
-use Rattle.basics.specs.Lists.{any, gathered, none, also, OneOf, first, later}
+use Rattle.basics.specs.Lists.{any, gathered, none, also, OneOf, first, later, Each, empty, with}
 use Rattle.basics.proofs.LawsChoice.{holds-or-not}
 use Rattle.basics.proofs.LawsLists.{map-append, all-alike, one-of-all, each-there, in-front, behind, gathered-append, gathered-all, gathered-has}
 use Rattle.kinds.specs.Kinds.{shares, number}
@@ -22,34 +22,38 @@ use Rattle.rules.specs.declared.Command.{Command}
 use Rattle.rules.specs.declared.Ending.{Ending}
 use Rattle.rules.specs.declared.Ending.the-variants.{Filled, Rests, Cancels}
 use Rattle.rules.specs.declared.Event.{Event}
-use Rattle.rules.specs.declared.Event.the-variants.{Executed, Cancelled}
+use Rattle.rules.specs.declared.Event.the-variants.{Executed, Rested, Cancelled}
 use Rattle.rules.specs.declared.Order.{Order}
 use Rattle.rules.specs.declared.Reading.the-variants as reading
 use Rattle.rules.specs.declared.Resting.{Resting}
-use Rattle.rules.specs.Book.{Book, sound}
+use Rattle.rules.specs.Book.{Book, sharesLeft, sound}
 use Rattle.rules.specs.CommandLines.{commandIn}
 use Rattle.rules.specs.Commands.{isNumber, cancelFate, cancel, quote, closeFate, close, carriedOut, does}
 use Rattle.rules.specs.Day.{printed}
 use Rattle.rules.specs.EventLines.{byCommand}
 use Rattle.rules.specs.Refusals.{firstOf, isResting, bodyRefusals}
 use Rattle.rules.specs.declared.Fate.{Fate}
-use Rattle.rules.specs.Settling.{keptBy, toldBy, staying, told, ownSide, oppositeSide, settled, bothSettled}
+use Rattle.rules.specs.Settling.{shownOf, insert, keptBy, toldBy, staying, told, ownSide, oppositeSide, settled, bothSettled}
 use Rattle.rules.specs.Step.{answerTo}
-use Rattle.rules.specs.Working.{buying, takings, remainder, executions, ending, lastLine, remainderOf, withRemainder, accept}
-use Rattle.rules.proofs.LawsCommands.{cancel-fate, cancel-does, quote-does, close-does, does-tells, does-number-and-time}
+use Rattle.rules.specs.Holdings.{Holding, holdings, executions, after}
+use Rattle.rules.specs.Working.{buying, takings, remainder, ending, lastLine, floorOf, remainderOf, withRemainder, worked, refillFate, accept}
+use Rattle.rules.proofs.LawsCommands.{cancel-fate, order-does, cancel-does, quote-does, close-does, does-tells, does-number-and-time}
+use Rattle.rules.proofs.LawsFloors.{shown-at-most}
 use Rattle.rules.proofs.LawsRefusals.{none-given}
+use Rattle.rules.proofs.LawsTakings.{takings-within}
 use Rattle.soundness.proofs.LawsInsert.{added-insert, added-new}
 use Rattle.soundness.proofs.LawsSettled.{staying-are}
+use Rattle.soundness.proofs.LawsSides.{sides-of}
 use Rattle.soundness.proofs.LawsSound.{sound-is}
 use Rattle.demands.specs.Beyond.{NoExecution}
 use Rattle.demands.specs.Once.{acts}
-use Rattle.demands.specs.ShareOut.{Each, empty, with}
 use Rattle.demands.specs.Told.{eventsIn}
 use Rattle.demands.specs.Written.{Executions, ofNobody, ofNone, ofOne, LastLine, filled, rests, isCancelled, OrderWrites, CancelWrites, closeLine, IsOrder}
-use Rattle.demands.proofs.LawsExecutes.{acts-accepted}
+use Rattle.demands.proofs.LawsExecutes.{acts-accepted, acts-lines, workLines}
 use Rattle.demands.proofs.LawsFairly.{every-told}
-use Rattle.demands.proofs.LawsHeld.{NoMore, takings-no-more}
-use Rattle.demands.proofs.LawsLinesTell.{onceEach, NoneIs, once-first, once-rest}
+use Rattle.demands.proofs.LawsGave.{refills-told}
+use Rattle.demands.proofs.LawsHeld.{NoMore}
+use Rattle.demands.proofs.LawsLinesTell.{onceEach, NoneIs, once-first, once-rest, opposite-once}
 use Rattle.demands.proofs.LawsOrigins.{another-number}
 use Rattle.demands.proofs.LawsRows.{NoneHas, has-other, either-holds}
 use Rattle.demands.proofs.LawsRun.{accepted-does}
@@ -74,7 +78,7 @@ printed-body P b line c x s t e f p = rw (line-told b line s) (after-body P b li
 -- ── An order ──
 
 -- each taking that is not nothing has its line, in turn
-executions-are : (n : Number) {s : List Resting} {ts : List ℕ} → Each NoMore s ts → Executions n s (executions n s ts)
+executions-are : (n : Number) {s : List Holding} {ts : List ℕ} → Each NoMore s ts → Executions n s (executions n s ts)
 unfolding executions
 executions-are n empty = ofNobody
 executions-are n (with {y = t} m e) =
@@ -85,32 +89,39 @@ executions-are n (with {y = t} m e) =
 
 -- the last line says what becomes of the rest, on its own side, where no order had its number
 last-line-is : (n : Number) (o : Order) (left : ℕ) (e : Ending) (side : List Resting) → NoneHas n side
-    → LastLine n (withRemainder n o left e side) (lastLine n left e)
+    → LastLine n o (withRemainder n o left e side) (lastLine n left e)
 last-line-is n o left Filled side new = filled new
 last-line-is n o left (Rests price) side new =
     let x = remainderOf n o left price in
-    rests x (added-new (added-insert (buying o) x side)) refl
+    let whole : sharesLeft x ≡ left = omega (arith, shown-at-most (floorOf (o .carried)) left) in
+    subst (λ (k : ℕ). LastLine n o (insert (buying o) x side) (Rested n price (shares k) ∷ [])) whole
+    (rests x (added-new (added-insert (buying o) x side)) refl refl (ap (shownOf (floorOf (o .carried))) (sym whole)))
 last-line-is n o left (Cancels reason) side new = isCancelled (shares left) reason new
 
 -- so of an order that is entered under a number that no order has
-accept-writes : (b : Book) (n : Number) (time : ℕ) (o : Order) → NoneHas n (ownSide (buying o) b)
-    → OrderWrites n o b (does n time (body.Order o) b .book) (does n time (body.Order o) b .events)
-unfolding does carriedOut accept
-accept-writes b n time o new =
+accept-writes : (b : Book) → sound b ≡ true → (n : Number) (time : ℕ) (o : Order) → NoneHas n (ownSide (buying o) b)
+    → OrderWrites n o b (does n time (body.Order o) b .book) (workLines n o (b .held .away) (oppositeSide (buying o) b))
+accept-writes b s n time o new =
+    let away = b .held .away in
     let side = oppositeSide (buying o) b in
-    let left = remainder o (b .held .away) side in
-    let end = ending o (b .held .away) side in
+    let ts = takings o away side in
+    let left = remainder o away side in
+    let end = ending o away side in
+    let sides = sides-of (buying o) b (sound-is b s) in
     let last = last-line-is n o left end (ownSide (buying o) b) new in
     record {
-      executions = executions n side (takings o (b .held .away) side);
+      executions = executions n (holdings side) ts;
       last = lastLine n left end;
+      refills = told refillFate (after side ts);
       inTurn = refl;
-      inRank = executions-are n (takings-no-more o (b .held .away) side);
+      inRank = executions-are n (takings-within o away side);
       atMostOne =
-          ⊎-elim
+          rw (order-does n time b o .0)
+          (⊎-elim
           (λ (t : buying o ≡ true). rw t (rw t at last))
           (λ (t : buying o ≡ false). rw t (rw t at last))
-          (holds-or-not (buying o));
+          (holds-or-not (buying o)));
+      asDue = refills-told n o away side (opposite-once sides) (sides .oppositeInRange);
     }
 
 -- no order of a sound book has the number of the next command
@@ -124,7 +135,7 @@ pub order-writes : (b : Book) (line : List ℕ) (c : Command) (o : Order) → so
 order-writes b line c o s t e f =
     let next = acts-accepted b line c t e .next in
     let new = none-new b s (c .number) (omega (arith, next)) (buying o) in
-    printed-body (OrderWrites (c .number) o b) b line c (body.Order o) s t e f (accept-writes b (c .number) (c .time) o new)
+    rw (line-told b line s, acts-lines b line c o t e f, accepted-does b line c e t .0, f) (accept-writes b s (c .number) (c .time) o new)
 
 -- ── A cancel ──
 
@@ -152,7 +163,7 @@ unfolding told gathered
 told-none n none = refl
 told-none n (also {x = h} other a) = rw (ne-eqb (h .number .0) (n .0) (λ e. other (sym e))) (told-none n a)
 
-told-one : {h : Resting} {s : List Resting} → onceEach s ≡ true → OneOf h s → told (cancelFate (h .number)) s ≡ Cancelled (h .number) (h .shares) byCommand ∷ []
+told-one : {h : Resting} {s : List Resting} → onceEach s ≡ true → OneOf h s → told (cancelFate (h .number)) s ≡ Cancelled (h .number) (shares (sharesLeft h)) byCommand ∷ []
 unfolding told gathered
 told-one {h = h} d (first {s = s}) = rw (eq-eqb (h .number .0) (h .number .0) refl, told-none (h .number) (once-first h s d)) refl
 told-one {h = h} d (later {y = y} {s = s} p) = rw (ne-eqb (y .number .0) (h .number .0) (one-of-all (once-first y s d) p)) (told-one (once-rest y s d) p)
@@ -165,7 +176,7 @@ cancel-leaves of s d h p e = record {
   gone = h;
   stood = p;
   named = e;
-  told = subst (λ (n : Number). told (cancelFate n) s ≡ Cancelled n (h .shares) byCommand ∷ []) e (told-one d p);
+  told = subst (λ (n : Number). told (cancelFate n) s ≡ Cancelled n (shares (sharesLeft h)) byCommand ∷ []) e (told-one d p);
   off =
       gathered-all (λ (x : Resting). keptBy (cancelFate of x) x)
       (all-alike
@@ -230,7 +241,7 @@ quote-held b line c away t e f =
     after-body (λ (a : Book) (es : List Event). a .held .away ≡ away) b line c (body.Quote away) t e f (rw (quote-does (c .number) (c .time) b away .0) refl)
 
 does-away : (n : Number) (time : ℕ) (x : Body) (b : Book) → ((away : Away) → x ≢ body.Quote away) → does n time x b .book .held .away ≡ b .held .away
-unfolding does carriedOut accept cancel close bothSettled settled
+unfolding does carriedOut accept worked cancel close bothSettled settled
 does-away n time (body.Order o) b other = refl
 does-away n time (body.Cancel of) b other = refl
 does-away n time (body.Quote away) b other = absurd (other away refl)
@@ -243,7 +254,7 @@ away-kept b line c t e other =
 
 -- an accepted command came to an open book, which only a close closes
 does-closed : (n : Number) (time : ℕ) (x : Body) (b : Book) → x ≢ body.Close → does n time x b .book .held .closed ≡ b .held .closed
-unfolding does carriedOut accept cancel quote bothSettled settled
+unfolding does carriedOut accept worked cancel quote bothSettled settled
 does-closed n time (body.Order o) b other = refl
 does-closed n time (body.Cancel of) b other = refl
 does-closed n time (body.Quote away) b other = refl

@@ -22,4 +22,6 @@ pub mod LawsFairly
 pub mod LawsStanding
 pub mod LawsLimits
 pub mod LawsTraded
+pub mod LawsGave
+pub mod LawsRefilled
 pub mod LawsWritten

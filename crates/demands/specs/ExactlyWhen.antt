@@ -12,16 +12,18 @@ use Rattle.basics.specs.Choice.{if_then_else_}
 use Rattle.basics.specs.Lists.{All}
 use Rattle.kinds.specs.declared.Cents.{Cents}
 use Rattle.kinds.specs.declared.Number.{Number}
+use Rattle.kinds.specs.declared.Shares.{Shares}
 use Rattle.rules.specs.declared.Away.{Away}
 use Rattle.rules.specs.declared.Body.{Body}
 use Rattle.rules.specs.declared.Body.the-variants as body
+use Rattle.rules.specs.declared.Carried.the-variants.{Nothing, MaxFloor}
 use Rattle.rules.specs.declared.Command.{Command}
 use Rattle.rules.specs.declared.Ending.the-variants.{Rests}
 use Rattle.rules.specs.declared.Order.{Order}
 use Rattle.rules.specs.declared.Resting.{Resting}
 use Rattle.rules.specs.Book.{Book, BookRecord, bookIn, recordSound}
 use Rattle.rules.specs.CommandLines.{Fits, lineOf}
-use Rattle.rules.specs.Instructions.{market, has, lawful}
+use Rattle.rules.specs.Instructions.{market, reserve, has, lawful}
 use Rattle.rules.specs.Working.{ending}
 use Rattle.demands.specs.ShareOut.{opposite}
 
@@ -47,8 +49,11 @@ pub data AppliesTo (r : BookRecord) (c : Command) : ℕ → Type 0 where
   beforeTheOpening : c .time < 34200000 → AppliesTo r c 7
   fromTheClosingOn : 57600000 ≤ c .time → c .body ≢ body.Close → AppliesTo r c 7
   afterTheClosing : 57600000 < c .time → AppliesTo r c 7
-  -- 8 "unlawful instruction word"
+  -- 8 "unlawful instruction word"; "Bit 10 is set in kind 05 and nowhere else, .. else 8" (02, W4)
   unlawful : (o : Order) → c .body ≡ body.Order o → lawful (o .word) ≡ false → AppliesTo r c 8
+  reserveWithNoFloor : (o : Order) → c .body ≡ body.Order o → o .carried ≡ Nothing → has (o .word) reserve ≡ true → AppliesTo r c 8
+  floorWithNoReserve : (o : Order) → c .body ≡ body.Order o → (floor : Shares) → o .carried ≡ MaxFloor floor
+      → has (o .word) reserve ≡ false → AppliesTo r c 8
   -- 9 "side not 0 or 1; shares outside 1 to 1,000,000; limit price outside 100 to 200,000; market price not 0; away price neither 0
   -- nor 100 to 200,000"
   noSide : (o : Order) → c .body ≡ body.Order o → o .side ≢ 0 → o .side ≢ 1 → AppliesTo r c 9
@@ -56,6 +61,9 @@ pub data AppliesTo (r : BookRecord) (c : Command) : ℕ → Type 0 where
   limitOutside : (o : Order) → c .body ≡ body.Order o → has (o .word) market ≡ false → (o .price .0 < 100) ⊎ (200000 < o .price .0)
       → AppliesTo r c 9
   marketPriced : (o : Order) → c .body ≡ body.Order o → has (o .word) market ≡ true → o .price .0 ≢ 0 → AppliesTo r c 9
+  -- "the Max Floor .., 1 to the order's shares, else refusal 9" (02, W4)
+  floorOutside : (o : Order) → c .body ≡ body.Order o → (floor : Shares) → o .carried ≡ MaxFloor floor
+      → (floor .0 < 1) ⊎ (o .shares .0 < floor .0) → AppliesTo r c 9
   bidOutside : (away : Away) → c .body ≡ body.Quote away → NeitherNoneNorInRange (away .bid) → AppliesTo r c 9
   offerOutside : (away : Away) → c .body ≡ body.Quote away → NeitherNoneNorInRange (away .offer) → AppliesTo r c 9
   -- 10 "cancel of a number that isn't resting"
@@ -67,11 +75,11 @@ pub data AppliesTo (r : BookRecord) (c : Command) : ℕ → Type 0 where
 
 -- the whole table
 pub data Applies (r : BookRecord) (line out : List ℕ) : ℕ → Type 0 where
-  -- 1 "output room below 4,096 bytes"
-  roomShort : length out < 4096 → Applies r line out 1
+  -- 1 "output room below 4,096 bytes", which W4 makes 8,192
+  roomShort : length out < 8192 → Applies r line out 1
   -- 2 "the book lent is not sound"
   notSound : recordSound r ≡ false → Applies r line out 2
-  -- 3 "the line is not one of the four forms": it is the line of no command
+  -- 3 "the line is not one of the .. forms": it is the line of no command
   noForm : ((c : Command) → Fits c → line ≢ lineOf c) → Applies r line out 3
   -- 4 to 11: the line is that of a command
   ofCommand : (c : Command) → Fits c → line ≡ lineOf c → {k : ℕ} → AppliesTo r c k → Applies r line out k

@@ -4,6 +4,7 @@ pub mod Told
 pub mod ShareOut
 pub mod Executes
 pub mod ExactlyWhen
+pub mod Refilled
 pub mod Quoted
 pub mod Beyond
 pub mod Written

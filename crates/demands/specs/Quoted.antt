@@ -7,13 +7,14 @@ use mathlib.Core.List.{List, [], _∷_, _++_}
 use mathlib.Core.Logic.{_≢_}
 use mathlib.Core.Path.{_≡_}
 use Rattle.basics.specs.Lists.{All, OneOf}
+use Rattle.kinds.specs.Kinds.{shares}
 use Rattle.kinds.specs.declared.Cents.{Cents}
 use Rattle.kinds.specs.declared.Number.{Number}
 use Rattle.rules.specs.declared.Away.{Away}
 use Rattle.rules.specs.declared.Event.{Event}
 use Rattle.rules.specs.declared.Event.the-variants.{Cancelled, Moved}
 use Rattle.rules.specs.declared.Resting.{Resting}
-use Rattle.rules.specs.Book.{ranksBefore}
+use Rattle.rules.specs.Book.{ranksBefore, sharesLeft}
 
 -- "The Locking Price is the away offer for a buy, the away bid for a sell." (01, step 4); 0 where there is none
 abbrev pub locking : Bool → Away → Cents
@@ -34,6 +35,8 @@ pub record SetAnew (buy : Bool) (n : Number) (away : Away) (h h′ : Resting) : 
   pub shares : h′ .shares ≡ h .shares
   pub displayed : h′ .displayed ≡ h .displayed
   pub back : h′ .back ≡ h .back
+  pub reserve : h′ .reserve ≡ h .reserve
+  pub floor : h′ .floor ≡ h .floor
 
 -- an order of the side before is so set anew in the side after it
 pub record IsSetAnew (buy : Bool) (n : Number) (away : Away) (after : List Resting) (h : Resting) : Type 0 where
@@ -58,7 +61,7 @@ pub record Quoted (buy : Bool) (n : Number) (away : Away) (before after : List R
   -- "One with Cancel Back is cancelled, reason 4": no order of its number is left, and it is told by `13`
   pub goes : (h : Resting) → OneOf h before → Crosses away h buy → h .back ≡ true → All (λ (x : Resting). x .number ≢ h .number) after
   pub cancelled : (h : Resting) → OneOf h before → Crosses away h buy → h .back ≡ true
-      → OneOf (Cancelled (h .number) (h .shares) 4) es
+      → OneOf (Cancelled (h .number) (shares (sharesLeft h)) 4) es
   -- nobody else stands there afterwards
   pub noneElse : (h : Resting) → OneOf h after → Stood buy n away before h
   -- "Such orders keep their order"
@@ -77,7 +80,7 @@ pub data Writes (buy : Bool) (away : Away) : List Resting → List Event → Typ
   ofMoved : {h : Resting} {s : List Resting} {es : List Event} → Crosses away h buy → h .back ≡ false → Writes buy away s es
       → Writes buy away (h ∷ s) (Moved (h .number) (locking buy away) (h .shares) ∷ es)
   ofCancelled : {h : Resting} {s : List Resting} {es : List Event} → Crosses away h buy → h .back ≡ true → Writes buy away s es
-      → Writes buy away (h ∷ s) (Cancelled (h .number) (h .shares) 4 ∷ es)
+      → Writes buy away (h ∷ s) (Cancelled (h .number) (shares (sharesLeft h)) 4 ∷ es)
 
 -- "buys first": and nothing else is written
 pub record WritesBoth (away : Away) (buys sells : List Resting) (es : List Event) : Type 0 where

@@ -14,7 +14,7 @@ use Rattle.rules.specs.declared.Event.the-variants.{Executed, Rested, Cancelled
 use Rattle.rules.specs.declared.EventReading.{EventReading}
 use Rattle.rules.specs.declared.EventReading.the-variants.{Is, UnknownKind, Short, TrailingBytes, BadDigitOrEnding}
 use Rattle.rules.specs.declared.Resting.{Resting}
-use Rattle.rules.specs.Book.{Book}
+use Rattle.rules.specs.Book.{Book, sharesLeft}
 use Rattle.rules.specs.Day.{linesIn}
 use Rattle.rules.specs.EventLines.{fokKilled}
 use Rattle.rules.specs.EventReading.{eventIn}
@@ -74,14 +74,6 @@ givenIn n es = sumOf (givenBy n) es
 abbrev pub cancelledIn : Number → List Event → ℕ
 cancelledIn n es = sumOf (cancelledBy n) es
 
--- the prices at which the order of a number gives
-unfoldable pub pricesIn : Number → List Event → List Cents
-pricesIn n [] = []
-pricesIn n (Executed incoming resting price shares ∷ es) = if eqb (n .0) (resting .0) then price ∷ pricesIn n es else pricesIn n es
-pricesIn n (Rested m price shares ∷ es) = pricesIn n es
-pricesIn n (Cancelled m shares reason ∷ es) = pricesIn n es
-pricesIn n (Moved m price shares ∷ es) = pricesIn n es
-
 -- the line that kills a Fill-or-Kill has reason 3; that it cancels "the whole order" is `killedWhole` of `Executes`
 abbrev pub kills : Number → Event → Bool
 kills n (Executed incoming resting price shares) = false
@@ -92,10 +84,10 @@ kills n (Moved m price shares) = false
 abbrev pub isKilled : Number → List Event → Bool
 isKilled n es = any (kills n) es
 
--- ── Shares still resting ──
+-- ── Shares still resting, shown and in reserve (02, W4) ──
 
 abbrev pub restsOn : Number → List Resting → ℕ
-restsOn n s = sumOf (λ (h : Resting). countedIf n (h .number) (h .shares .0)) s
+restsOn n s = sumOf (λ (h : Resting). countedIf n (h .number) (sharesLeft h)) s
 
 abbrev pub restingOf : Number → Book → ℕ
 restingOf n b = restsOn n (b .buys) + restsOn n (b .sells)

@@ -6,6 +6,7 @@ use mathlib.Core.List.{List, [], _∷_, _++_}
 use mathlib.Core.Logic.{_≢_}
 use mathlib.Core.Path.{_≡_}
 use Rattle.basics.specs.Lists.{All, OneOf}
+use Rattle.kinds.specs.Kinds.{shares}
 use Rattle.kinds.specs.declared.Number.{Number}
 use Rattle.kinds.specs.declared.Shares.{Shares}
 use Rattle.rules.specs.declared.Body.{Body}
@@ -14,34 +15,43 @@ use Rattle.rules.specs.declared.Event.{Event}
 use Rattle.rules.specs.declared.Event.the-variants.{Executed, Rested, Cancelled}
 use Rattle.rules.specs.declared.Order.{Order}
 use Rattle.rules.specs.declared.Resting.{Resting}
-use Rattle.rules.specs.Book.{Book}
+use Rattle.rules.specs.Book.{Book, sharesLeft}
+use Rattle.rules.specs.Holdings.{Holding, size}
+use Rattle.rules.specs.Settling.{shownOf}
+use Rattle.rules.specs.Working.{floorOf}
 use Rattle.demands.specs.ExactlyWhen.{own}
-use Rattle.demands.specs.ShareOut.{opposite}
+use Rattle.demands.specs.Refilled.{RefillLines}
+use Rattle.demands.specs.ShareOut.{opposite, against}
 
 -- ── An order ──
 
--- "walk the opposite side in rank order .. Each execution is at the resting order's price": one line at most of each opposite order, in
--- rank order, of a share at least and no more than it holds
-pub data Executions (n : Number) : List Resting → List Event → Type 0 where
+-- "walk the opposite side in rank order .. Each execution is at the resting order's price": one line at most of each opposite holding, in
+-- the order of the walk, of a share at least and no more than it holds
+pub data Executions (n : Number) : List Holding → List Event → Type 0 where
   ofNobody : Executions n [] []
-  ofNone : {h : Resting} {s : List Resting} {es : List Event} → Executions n s es → Executions n (h ∷ s) es
-  ofOne : {h : Resting} {s : List Resting} {es : List Event} (given : Shares) → 1 ≤ given .0 → given .0 ≤ h .shares .0 → Executions n s es
-      → Executions n (h ∷ s) (Executed n (h .number) (h .price) given ∷ es)
+  ofNone : {h : Holding} {s : List Holding} {es : List Event} → Executions n s es → Executions n (h ∷ s) es
+  ofOne : {h : Holding} {s : List Holding} {es : List Event} (given : Shares) → 1 ≤ given .0 → given .0 ≤ size h → Executions n s es
+      → Executions n (h ∷ s) (Executed n (h .of .number) (h .of .price) given ∷ es)
 
--- "then at most one `12` or `13`": nothing where it is filled; or it rests, as the line says, on its own side; or what is left of it is
--- cancelled, and no order of its number rests
-pub data LastLine (n : Number) (own : List Resting) : List Event → Type 0 where
-  filled : All (λ (h : Resting). h .number ≢ n) own → LastLine n own []
-  rests : (h : Resting) → OneOf h own → h .number ≡ n → LastLine n own (Rested n (h .price) (h .shares) ∷ [])
-  isCancelled : (left : Shares) (reason : ℕ) → All (λ (h : Resting). h .number ≢ n) own → LastLine n own (Cancelled n left reason ∷ [])
+-- "then at most one `12` or `13`": nothing where it is filled; or it rests, as the line says, on its own side, both parts counted, and shows
+-- its Max Floor, or what is left if that is less, or all of it where it has none (02, W4); or what is left of it is cancelled, and no order
+-- of its number rests
+pub data LastLine (n : Number) (o : Order) (own : List Resting) : List Event → Type 0 where
+  filled : All (λ (h : Resting). h .number ≢ n) own → LastLine n o own []
+  rests : (h : Resting) → OneOf h own → h .number ≡ n → h .floor .0 ≡ floorOf (o .carried) → h .shares .0 ≡ shownOf (h .floor .0) (sharesLeft h)
+      → LastLine n o own (Rested n (h .price) (shares (sharesLeft h)) ∷ [])
+  isCancelled : (left : Shares) (reason : ℕ) → All (λ (h : Resting). h .number ≢ n) own → LastLine n o own (Cancelled n left reason ∷ [])
 
--- the lines of an order, on the book that stood and the book that it leaves
+-- the lines of an order, on the book that stood and the book that it leaves: its executions, its last line, and then those of the refills
+-- that are due (02, W4)
 pub record OrderWrites (n : Number) (o : Order) (stood after : Book) (es : List Event) : Type 0 where
   pub executions : List Event
   pub last : List Event
-  pub inTurn : es ≡ executions ++ last
-  pub inRank : Executions n (opposite o stood) executions
-  pub atMostOne : LastLine n (own o after) last
+  pub refills : List Event
+  pub inTurn : es ≡ executions ++ (last ++ refills)
+  pub inRank : Executions n (against o stood) executions
+  pub atMostOne : LastLine n o (own o after) last
+  pub asDue : RefillLines es (opposite o stood) refills
 
 -- ── A cancel and a close ──
 
@@ -50,14 +60,14 @@ pub record CancelWrites (of : Number) (before after : List Resting) (es : List E
   pub gone : Resting
   pub stood : OneOf gone before
   pub named : gone .number ≡ of
-  pub told : es ≡ Cancelled of (gone .shares) 1 ∷ []
+  pub told : es ≡ Cancelled of (shares (sharesLeft gone)) 1 ∷ []
   pub off : All (λ (h : Resting). h .number ≢ of) after
   pub others : (h : Resting) → h .number ≢ of → OneOf h before → OneOf h after
   pub noneNew : (h : Resting) → OneOf h after → OneOf h before
 
 -- "Close cancels all buys in rank order, then all sells": a line for each, with all its shares, reason 7
 abbrev pub closeLine : Resting → Event
-closeLine h = Cancelled (h .number) (h .shares) 7
+closeLine h = Cancelled (h .number) (shares (sharesLeft h)) 7
 
 -- a command enters an order
 pub record IsOrder (x : Body) : Type 0 where

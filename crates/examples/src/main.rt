@@ -138,7 +138,7 @@ fn take_turns(
 fn run_day(day: &[u8], out: &mut [u8]) -> bool
     requires { ⌜ leastRoom ≤ length (now out) ⌝ }
 {
-    let mut input = [0u8; 139];
+    let mut input = [0u8; 147];
     let mut x: Index = [0; rows::INDEX];
     let mut buys: Rows = [[0; rows::WORDS]; rows::PLACES];
     let mut y: Index = [0; rows::INDEX];
@@ -185,7 +185,7 @@ fn input_room() -> [u8; 1048576]
 
 fn main() {
     let mut input = input_room();
-    let mut out = [0u8; 4200];
+    let mut out = [0u8; 8296];
     let end = io::read_full(STDIN_FILENO, &mut input);
     run_days(&input[..end], &mut out);
 }

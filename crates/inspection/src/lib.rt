@@ -1,5 +1,6 @@
 // Whether a book is sound (01, The book), decided on its header and two lent tables of rows, whatever they hold.
 use kinds::Number;
+use kinds::Shares;
 use rules::Resting;
 use side::rows;
 use side::rows::PLACES;
@@ -11,25 +12,52 @@ ghost use Prim.Native.Nat.{_+_, _-_, _≤_, _<_};
 ghost use lib.Dec.{eqb};
 ghost use lib.ListN.{getD, drop};
 ghost use Rattle.basics.specs.Lists.{any};
+ghost use Rattle.kinds.specs.Kinds.{shares, sharesInRange};
 ghost use Rattle.side.specs.Table.{orderOf, loaded};
-ghost use Rattle.rules.specs.Book.{numbers, placesASide, restingInRange, apart, recordSound};
+ghost use Rattle.rules.specs.Book.{numbers, placesASide, sharesLeft, floorInRange, restingInRange, apart, recordSound};
 ghost use Rattle.side.specs.Tables.{recordOn};
 ghost use Rattle.inspection.specs.Inspection.{ranksBeforeNext, placeSound, sideSound, headSound};
 
 // ── One order ──
 
-// Fields in range; numbers from 1 to the last number; a stamp set by a command from the order's own to the last.
+// A share count with room for the sum of two.
+fn wide(count: u32) -> u64
+    ensures { λ r. ⌜ r ≡ count ⌝ }
+{
+    count as u64
+}
+
+// The shares of both parts are as many as an order may have.
+fn left_in_range(o: Resting) -> bool
+    ensures { λ r. ⌜ r ≡ sharesInRange (shares (sharesLeft o)) ⌝ }
+{
+    let left = wide(o.shares.0) + wide(o.reserve.0);
+    (wide(Shares::FEWEST) <= left) & (left <= wide(Shares::MOST))
+}
+
+// No Max Floor, and then no reserve; or one no less than the shown part, of a displayed order (02, W4).
+fn floor_in_range(o: Resting) -> bool
+    ensures { λ r. ⌜ r ≡ floorInRange o ⌝ }
+{
+    let floor = o.floor;
+    let none = floor.0 == 0;
+    (none & (o.reserve.0 == 0))
+        | (!none & (o.displayed & (o.shares.0 <= floor.0) & floor.in_range()))
+}
+
+// Fields in range; numbers from 1 to the last number; a stamp set by a command from the order's own to the last; a share shown at least.
 fn in_range(last: Number, o: Resting) -> bool
     ensures { λ r. ⌜ r ≡ restingInRange last o ⌝ }
 {
     let price = o.price;
-    let shares = o.shares;
     let stamp = o.stamp;
     (1 <= o.number.0)
         & (o.number.0 <= last.0)
         & price.in_range()
-        & shares.in_range()
         & ((o.number.0 <= stamp.command.0) & (stamp.command.0 <= last.0))
+        & (1 <= o.shares.0)
+        & left_in_range(o)
+        & floor_in_range(o)
 }
 
 // ── One place ──

@@ -15,10 +15,11 @@ fn one_of(word: u16, mask: u16) -> bool
     u16::count_ones(word & mask) == 1
 }
 
-pub fn lawful(word: u16) -> bool
+// Lawful words; bit 10, which an order with reserve has set, needs Day and Displayed (02, W4).
+pub(crate) fn lawful(word: u16) -> bool
     ensures { λ r. ⌜ r ≡ lawful word ⌝ }
 {
-    (word < 1024)
+    (word < 2048)
         & one_of(word, rules::IOC + rules::FOK + rules::DAY)
         & one_of(word, rules::DISPLAYED + rules::NON_DISPLAYED)
         & one_of(word, rules::PRICE_ADJUST + rules::CANCEL_BACK)
@@ -26,4 +27,5 @@ pub fn lawful(word: u16) -> bool
             | (has(word, rules::DAY) & has(word, rules::DISPLAYED) & !has(word, rules::ISO)))
         & (!has(word, rules::ISO) | (!has(word, rules::FOK) & !has(word, rules::MARKET)))
         & (!has(word, rules::MARKET) | (has(word, rules::IOC) | has(word, rules::FOK)))
+        & (!has(word, rules::RESERVE) | (has(word, rules::DAY) & has(word, rules::DISPLAYED)))
 }

@@ -1,15 +1,17 @@
 // Which refusal a command's own fields get, against what the book last accepted (01, What the machine says back): 4 to 7 by the
-// header, 9 by an order's body or a quote's. Refusal 8 is `judge::instructions::lawful`.
+// header, 8 and 9 by an order's body, 9 by a quote's.
 pub mod instructions;
 
 use kinds::Cents;
+use kinds::Shares;
 use rules::Body;
+use rules::Carried;
 use rules::Command;
 use rules::Held;
 use rules::Order;
 ghost use mathlib.Core.Path.{_≡_};
 ghost use Rattle.rules.specs.Book.{awayInRange};
-ghost use Rattle.rules.specs.Refusals.{firstOf, isClose, headerRefusals, orderInRange};
+ghost use Rattle.rules.specs.Refusals.{firstOf, isClose, headerRefusals, carriesFloor, orderLawful, carriedInRange, orderInRange};
 ghost use Rattle.judge.specs.Judge.{bookHolding};
 
 // The session, in milliseconds after midnight Eastern.
@@ -60,14 +62,46 @@ pub fn header_refusal(h: Held, c: Command) -> u8
 
 // ── The fields of a body ──
 
-// Refusal 9 of an order: side, shares and price.
+fn carries_floor(carried: Carried) -> bool
+    ensures { λ r. ⌜ r ≡ carriesFloor carried ⌝ }
+{
+    match carried {
+        Carried::Nothing => false,
+        Carried::MaxFloor(_) => true,
+    }
+}
+
+// Refusal 8 of an order: its word is lawful, and bit 10 is set just where it carries a Max Floor.
+pub fn order_lawful(o: Order) -> bool
+    ensures { λ r. ⌜ r ≡ orderLawful o ⌝ }
+{
+    let carried = o.carried;
+    instructions::lawful(o.word)
+        & (instructions::has(o.word, rules::RESERVE) == carries_floor(carried))
+}
+
+// A Max Floor is 1 to the order's shares.
+fn carried_in_range(size: Shares, carried: Carried) -> bool
+    ensures { λ r. ⌜ r ≡ carriedInRange size carried ⌝ }
+{
+    match carried {
+        Carried::Nothing => true,
+        Carried::MaxFloor(floor) => (1 <= floor.0) & (floor.0 <= size.0),
+    }
+}
+
+// Refusal 9 of an order: side, shares, price and what it carries.
 pub fn order_in_range(o: Order) -> bool
     ensures { λ r. ⌜ r ≡ orderInRange o ⌝ }
 {
     let market = instructions::has(o.word, rules::MARKET);
     let price = o.price;
     let shares = o.shares;
-    (o.side <= 1) & shares.in_range() & ((market & (price.0 == 0)) | (!market & price.in_range()))
+    let carried = o.carried;
+    (o.side <= 1)
+        & shares.in_range()
+        & ((market & (price.0 == 0)) | (!market & price.in_range()))
+        & carried_in_range(shares, carried)
 }
 
 // Refusal 9 of a quote: an away price is 0 or in range.

@@ -17,11 +17,11 @@ use Rattle.rules.specs.declared.Body.the-variants as body
 use Rattle.rules.specs.declared.Order.{Order}
 use Rattle.rules.specs.Book.{Book}
 use Rattle.rules.specs.EventLines.{eventLines}
-use Rattle.rules.specs.Instructions.{lawful}
-use Rattle.rules.specs.Refusals.{firstOf, bodyRefusals, orderInRange, restsOnFullSide}
+use Rattle.rules.specs.Refusals.{firstOf, bodyRefusals, orderLawful, orderInRange, restsOnFullSide}
 use Rattle.rules.specs.Step.{Answer}
 use Rattle.rules.specs.Commands.{withAccepted, carriedOut, does}
 use Rattle.rules.specs.Settling.{ownSide, oppositeSide}
+use Rattle.rules.proofs.LawsCommands.{order-does}
 use Rattle.rules.specs.Working.{buying, ending, accept}
 use Rattle.side.specs.declared.tables.Head.{Head}
 use Rattle.side.specs.declared.tables.Step.{Step}
@@ -31,11 +31,11 @@ use Rattle.side.proofs.tables.LawsAnswers.{refusedWith, doneWith, body-refused,
 use Rattle.orders.specs.Orders.{stepAfter}
 
 module _ (n : Number) (time : ℕ) (o : Order) (b : Book) where
-  pub unlawful : lawful (o .word) ≡ false → bodyAnswer n time (body.Order o) b ≡ refusedWith 8 b
+  pub unlawful : orderLawful o ≡ false → bodyAnswer n time (body.Order o) b ≡ refusedWith 8 b
   unfolding bodyRefusals firstOf
   unlawful e = body-refused n time (body.Order o) b 8 (omega arith) (rw e)
 
-  pub out-of-range : lawful (o .word) ≡ true → orderInRange o ≡ false → bodyAnswer n time (body.Order o) b ≡ refusedWith 9 b
+  pub out-of-range : orderLawful o ≡ true → orderInRange o ≡ false → bodyAnswer n time (body.Order o) b ≡ refusedWith 9 b
   unfolding bodyRefusals firstOf
   out-of-range e f = body-refused n time (body.Order o) b 9 (omega arith) (rw (e, f))
 
@@ -43,7 +43,7 @@ module _ (n : Number) (time : ℕ) (o : Order) (b : Book) where
   abbrev pub matches : Bool → Match
   matches buy = matchOf o n (b .held .away) (ownSide buy b) (oppositeSide buy b)
 
-  module _ (isLawful : lawful (o .word) ≡ true) (inRange : orderInRange o ≡ true) where
+  module _ (isLawful : orderLawful o ≡ true) (inRange : orderInRange o ≡ true) where
     full : (buy : Bool) → buying o ≡ buy → isFull (ending o (b .held .away) (oppositeSide buy b)) (ownSide buy b) ≡ true
         → (bodyAnswer n time (body.Order o) b ≡ refusedWith 11 b)
         × (matches buy ≡ record { refusal = 11; events = []; own = ownSide buy b; opposite = oppositeSide buy b })
@@ -62,7 +62,9 @@ module _ (n : Number) (time : ℕ) (o : Order) (b : Book) where
         }))
         × (matches buy .refusal ≡ 0)
     unfolding bodyRefusals firstOf restsOnFullSide matchOf does carriedOut accept
-    room buy q f = (body-done n time (body.Order o) b (rw (isLawful, inRange, q, f)) ∙ rw (q, f), rw f)
+    room buy q f =
+        let d = order-does n time b o in
+        (body-done n time (body.Order o) b (rw (isLawful, inRange, q, f)) ∙ rw (d .0, d .1, q, f), rw f)
 
 -- ── In a header and two sides that are lent ──
 
@@ -101,7 +103,7 @@ module _ (h : Head) (x : List ℕ) (t : List (List ℕ)) (y : List ℕ) (u : Lis
     left-room true m own opposite wrote a e z = rw (e, z) (refl, (own, (opposite, wrote)))
     left-room false m own opposite wrote a e z = rw (e, z) (refl, (opposite, (own, wrote)))
 
-    pub left-entered : (o : Order) → lawful (o .word) ≡ true → orderInRange o ≡ true → (buy : Bool) → buying o ≡ buy → (r : Matched)
+    pub left-entered : (o : Order) → orderLawful o ≡ true → orderInRange o ≡ true → (buy : Bool) → buying o ≡ buy → (r : Matched)
         → Matches r x′ t′ y′ u′ out′ out (matches n time o book buy) → LeftBy buy (stepAfter h n time buy r) (bodyAnswer n time (body.Order o) book)
     left-entered o isLawful inRange buy q r left =
         let a = bodyAnswer n time (body.Order o) book in

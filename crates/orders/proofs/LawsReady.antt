@@ -6,7 +6,8 @@ use mathlib.Core.Path.{_≡_}
 use lib.Dec.{leb}
 use native.Mathlib.Omega.{arith}
 use borrow.Author.Tests.{eqb-true}
-use Rattle.basics.proofs.LawsChoice.{holds-or-not, and-right}
+use Rattle.basics.specs.Lists.{All}
+use Rattle.basics.proofs.LawsChoice.{holds-or-not, and-left, and-right}
 use Rattle.basics.proofs.LawsLists.{all-alike}
 use Rattle.kinds.specs.declared.Number.{Number}
 use Rattle.kinds.specs.Kinds.{highestPrice, sharesInRange}
@@ -15,9 +16,10 @@ use Rattle.orders.specs.Matching.{Ready}
 use Rattle.rules.specs.declared.Order.{Order}
 use Rattle.rules.specs.Book.{Book, stamp, sound}
 use Rattle.rules.specs.Instructions.{market, has}
-use Rattle.rules.specs.Refusals.{orderPriceInRange, orderInRange}
-use Rattle.rules.specs.Settling.{ownSide, oppositeSide}
+use Rattle.rules.specs.Refusals.{orderPriceInRange, carriedInRange, orderInRange}
+use Rattle.rules.specs.Settling.{ownSide, oppositeSide, firstMove}
 use Rattle.rules.specs.Working.{buying, lockingPrice}
+use Rattle.side.specs.Shifts.{Countable}
 use Rattle.settling.proofs.LawsOlder.{older-all, away-at-most}
 use Rattle.soundness.proofs.LawsSides.{sides-of}
 use Rattle.soundness.proofs.LawsSound.{Sound, sound-is}
@@ -29,7 +31,8 @@ locking-at-most false b s = away-at-most (b .held .away .bid) (s .bid)
 -- the limit of an order in range; a market order has none, and price 0
 limit-at-most : (o : Order) → orderInRange o ≡ true → o .price .0 ≤ highestPrice
 limit-at-most o r =
-    let priced = and-right (leb (o .side) 1 && sharesInRange (o .shares)) (orderPriceInRange o) r in
+    let fields = and-left (leb (o .side) 1 && sharesInRange (o .shares) && orderPriceInRange o) (carriedInRange (o .shares) (o .carried)) r in
+    let priced = and-right (leb (o .side) 1 && sharesInRange (o .shares)) (orderPriceInRange o) fields in
     ⊎-elim
     (λ (t : has (o .word) market ≡ true). let z : o .price .0 ≡ 0 = eqb-true (o .price .0) 0 (rw t at priced) in omega arith)
     (λ (t : has (o .word) market ≡ false). price-highest (o .price) (rw t at priced))
@@ -47,5 +50,13 @@ ready o n buy b s above inRange q =
       ownRanked = rw q (sides .ownRanked);
       older = older-all (stamp n 0) above (sides .ownInRange);
       oppositeRanked = rw q (sides .oppositeRanked);
-      workable = all-alike (λ h r. record { holds = r .holding; priced = omega (arith, price-highest (h .price) (r .priced)) }) (sides .oppositeInRange);
+      workable =
+          all-alike
+          (λ h r. record { holds = r .holding; priced = omega (arith, price-highest (h .price) (r .priced)); countable = omega (arith, r .atMost) })
+          (sides .oppositeInRange);
+      oppositeOlder = older-all (stamp n firstMove) above (sides .oppositeInRange);
     }
+
+-- the shares of its orders are numbers that four bytes hold
+pub all-countable : (buy : Bool) (b : Book) → sound b ≡ true → All Countable (ownSide buy b)
+all-countable buy b s = all-alike (λ h r. omega (arith, r .atMost)) (sides-of buy b (sound-is b s) .ownInRange)

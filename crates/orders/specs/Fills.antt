@@ -1,11 +1,11 @@
 -- A side after a walk: every order without what was taken from it, and without the orders that have nothing left.
 use Prim.Native.Nat.{ℕ, _+_}
-use mathlib.Core.Bool.{Bool, not}
+use mathlib.Core.Bool.{Bool, not, _&&_}
 use mathlib.Core.List.{List, [], _∷_}
 use lib.Dec.{eqb}
 use Rattle.basics.specs.Choice.{if_then_else_}
 use Rattle.rules.specs.declared.Resting.{Resting}
-use Rattle.rules.specs.Working.{reducedBy}
+use Rattle.side.specs.Shifts.{lessBy}
 use Rattle.orders.specs.declared.walk.Taking.{Taking}
 
 -- all that was taken from the order at rank i
@@ -16,16 +16,16 @@ takenAt i (k ∷ ks) = (if eqb (k .place) i then k .shares .0 else 0) + takenAt 
 -- the orders from rank i on without what was taken from them
 unfoldable pub lessened : ℕ → List Taking → List Resting → List Resting
 lessened i ks [] = []
-lessened i ks (h ∷ s) = reducedBy (takenAt i ks) h ∷ lessened (i + 1) ks s
+lessened i ks (h ∷ s) = lessBy (takenAt i ks) h ∷ lessened (i + 1) ks s
 
--- an order has something left
+-- an order has something left, shown or in reserve
 abbrev pub keeps : Resting → Bool
-keeps h = not (eqb (h .shares .0) 0)
+keeps h = not (eqb (h .shares .0) 0 && eqb (h .reserve .0) 0)
 
 -- "whoever keeps none leaves the book"
-unfoldable pub keeping : List Resting → List Resting
-keeping [] = []
-keeping (h ∷ s) = if keeps h then h ∷ keeping s else keeping s
+unfoldable pub keepers : List Resting → List Resting
+keepers [] = []
+keepers (h ∷ s) = if keeps h then h ∷ keepers s else keepers s
 
 abbrev pub afterTakings : List Taking → List Resting → List Resting
-afterTakings ks s = keeping (lessened 0 ks s)
+afterTakings ks s = keepers (lessened 0 ks s)

@@ -5,3 +5,5 @@ pub mod Fills
 pub mod Walking
 pub mod Matching
 pub mod Orders
+pub mod Cursor
+pub mod Refills

@@ -9,6 +9,7 @@ use Rattle.basics.specs.Bytes.{onto}
 use Rattle.basics.specs.Choice.{if_then_else_}
 use Rattle.basics.specs.Lists.{All}
 use Rattle.kinds.specs.declared.Number.{Number}
+use Rattle.kinds.specs.declared.Shares.{Shares}
 use Rattle.kinds.specs.Kinds.{largest}
 use Rattle.rules.specs.declared.Away.{Away}
 use Rattle.rules.specs.declared.Ending.{Ending}
@@ -20,9 +21,12 @@ use Rattle.side.specs.Table.{Shows}
 use Rattle.rules.specs.Book.{placesASide, stamp, inRankOrder}
 use Rattle.rules.specs.EventLines.{eventLines}
 use Rattle.rules.specs.Refusals.{isRest}
-use Rattle.rules.specs.Working.{buying, lockingPrice, takings, remainder, ending, executions, lastLine, withRemainder, after}
+use Rattle.rules.specs.Holdings.{holdings, executions, after}
+use Rattle.rules.specs.Settling.{firstMove, told, settledSide}
+use Rattle.rules.specs.Working.{buying, lockingPrice, takings, remainder, ending, lastLine, withRemainder, refillFate}
 use Rattle.side.specs.Looking.{priceBound, Older}
 use Rattle.orders.specs.Walking.{Workable}
+use Rattle.orders.specs.declared.matching.Finished.{Finished}
 use Rattle.orders.specs.declared.matching.Matched.{Matched}
 
 pub record Match : Type 0 where
@@ -41,9 +45,12 @@ matchOf o number away own opposite =
     if isFull (ending o away opposite) own then record { refusal = 11; events = []; own = own; opposite = opposite }
     else record {
       refusal = 0;
-      events = executions number opposite (takings o away opposite) ++ lastLine number (remainder o away opposite) (ending o away opposite);
+      events =
+          (executions number (holdings opposite) (takings o away opposite)
+          ++ lastLine number (remainder o away opposite) (ending o away opposite))
+          ++ told refillFate (after opposite (takings o away opposite));
       own = withRemainder number o (remainder o away opposite) (ending o away opposite) own;
-      opposite = after opposite (takings o away opposite);
+      opposite = settledSide number firstMove (not (buying o)) refillFate (after opposite (takings o away opposite));
     }
 
 -- the same in numbers
@@ -60,6 +67,13 @@ matched m = record {
 abbrev pub Matches : Matched → List ℕ → List (List ℕ) → List ℕ → List (List ℕ) → List ℕ → List ℕ → Match → Type 0
 Matches r x t y u out′ out m =
     (r ≡ matched m) × (Shows (m .own) x t × (Shows (m .opposite) y u × (out′ ≡ onto (eventLines (m .events)) out)))
+
+-- what the end of an order's work leaves, in numbers
+abbrev pub finished : Number → Shares → Ending → Bool → List Resting → Finished
+finished n left end buy s = record {
+  opposite = length (settledSide n firstMove buy refillFate s);
+  length = length (eventLines (lastLine n (left .0) end ++ told refillFate s));
+}
 
 -- a price at which an order would rest is below the bound of levels
 abbrev pub restsBelow : Ending → Type 0
@@ -81,3 +95,4 @@ pub record Ready (o : Order) (n : Number) (away : Away) (own opposite : List Res
   pub older : All (Older (stamp n 0)) own
   pub oppositeRanked : inRankOrder (not (buying o)) opposite ≡ true
   pub workable : All Workable opposite
+  pub oppositeOlder : All (Older (stamp n firstMove)) opposite

@@ -2,11 +2,12 @@
 use Prim.Native.Nat.{ℕ}
 use mathlib.Core.List.{List}
 use lib.ListN.{getD}
+use Rattle.kinds.specs.Kinds.{shares}
 use Rattle.kinds.specs.declared.Number.{Number}
 use Rattle.rules.specs.declared.Event.{Event}
 use Rattle.rules.specs.declared.Event.the-variants.{Executed, Cancelled}
 use Rattle.rules.specs.declared.Resting.{Resting}
-use Rattle.rules.specs.Book.{unused}
+use Rattle.rules.specs.Book.{unused, sharesLeft}
 use Rattle.orders.specs.declared.walk.Taking.{Taking}
 
 -- an execution against the order at the taking's rank, at the taking's price
@@ -14,4 +15,4 @@ abbrev pub executionOf : Number → List Resting → Taking → Event
 executionOf n s k = Executed n (getD s (k .place) unused .number) (k .price) (k .shares)
 
 abbrev pub cancelledFor : ℕ → Resting → Event
-cancelledFor reason h = Cancelled (h .number) (h .shares) reason
+cancelledFor reason h = Cancelled (h .number) (shares (sharesLeft h)) reason

@@ -1,7 +1,7 @@
 -- What a walk takes, as a list (01, Some places and their forms: "a loop over ranked resting orders, left by break with
--- remaining shares and the place where it stopped"). The walk itself is `Working.walk`, place by place; a taking is what one
--- order gives of it.
-use Prim.Native.Nat.{ℕ, suc, _+_, _-_, _<_}
+-- remaining shares and the place where it stopped"). The walk itself is `walk` of rules, part by part; a taking is what one
+-- part gives of it.
+use Prim.Native.Nat.{ℕ, _+_, _*_, _-_, _<_, min, max}
 use mathlib.Core.Bool.{Bool, not, _||_}
 use mathlib.Core.List.{List, [], _∷_, _++_, map}
 use lib.Dec.{eqb}
@@ -10,51 +10,56 @@ use Rattle.basics.specs.Choice.{if_then_else_}
 use Rattle.basics.specs.Lists.{total}
 use Rattle.kinds.specs.declared.Cents.{Cents}
 use Rattle.kinds.specs.Kinds.{cents, shares}
-use Rattle.rules.specs.declared.Resting.{Resting}
 use Rattle.rules.specs.Book.{placesASide}
-use Rattle.rules.specs.Working.{beyond, walk, smaller}
+use Rattle.rules.specs.Holdings.{walk}
+use Rattle.rules.specs.Working.{beyond}
+use Rattle.orders.specs.declared.cursor.Part.{Part}
 use Rattle.orders.specs.declared.walk.Taking.{Taking}
 use Rattle.orders.specs.declared.walk.Walked.{Walked}
 
 abbrev pub mostTakings : ℕ
-mostTakings = placesASide
+mostTakings = 2 * placesASide
 
--- an order's price is not beyond a bound
-abbrev pub isWithin : Bool → Cents → Resting → Bool
-isWithin buy bound h = not (beyond buy bound (h .price))
+-- the price of a part is not beyond a bound
+abbrev pub isWithin : Bool → Cents → Part → Bool
+isWithin buy bound p = not (beyond buy bound (p .price))
+
+-- "for the smaller of the two sizes"
+abbrev pub partGives : ℕ → Part → ℕ
+partGives left p = min left (p .shares .0)
 
 -- ── Takings ──
 
--- an order at rank i that gives something is a taking, one that gives nothing is none
-unfoldable pub taking : ℕ → Resting → ℕ → List Taking
-taking i h g = if eqb g 0 then [] else record { place = i; price = h .price; shares = shares g } ∷ []
+-- a part that gives something is a taking, one that gives nothing is none
+unfoldable pub taking : Part → ℕ → List Taking
+taking p g = if eqb g 0 then [] else record { place = p .place; price = p .price; shares = shares g } ∷ []
 
--- the takings of orders from rank i on, by what each gives
-unfoldable pub takingsFrom : ℕ → List Resting → List ℕ → List Taking
-takingsFrom i [] gs = []
-takingsFrom i (h ∷ s) [] = []
-takingsFrom i (h ∷ s) (g ∷ gs) = taking i h g ++ takingsFrom (i + 1) s gs
+-- the takings of parts, by what each gives
+unfoldable pub takingsFrom : List Part → List ℕ → List Taking
+takingsFrom [] gs = []
+takingsFrom (p ∷ s) [] = []
+takingsFrom (p ∷ s) (g ∷ gs) = taking p g ++ takingsFrom s gs
 
 -- a taking from one of the first n orders
 abbrev pub isBelow : ℕ → Taking → Type 0
 isBelow n k = k .place < n
 
--- how many orders a walk reaches with shares still wanted
-unfoldable pub reached : (Resting → Bool) → ℕ → List Resting → ℕ
-reached may left [] = 0
-reached may left (h ∷ s) =
-    if eqb left 0 || not (may h) then 0
-    else suc (reached may (left - smaller left h) s)
+-- one past the furthest order that a walk reaches with shares still wanted; those before `at` were reached already
+unfoldable pub reached : (Part → Bool) → ℕ → ℕ → List Part → ℕ
+reached may at left [] = at
+reached may at left (p ∷ s) =
+    if eqb left 0 || not (may p) then at
+    else reached may (max at (p .place + 1)) (left - partGives left p) s
 
--- a walk for some shares over a side: its takings, and how it ends
-abbrev pub takingsOf : (Resting → Bool) → ℕ → List Resting → List Taking
-takingsOf may want s = takingsFrom 0 s (walk may smaller want s)
+-- a walk for some shares over parts: its takings, and how it ends
+abbrev pub takingsOf : (Part → Bool) → ℕ → List Part → List Taking
+takingsOf may want s = takingsFrom s (walk may partGives want s)
 
 abbrev pub walkedWith : List Taking → ℕ → ℕ → Walked
 walkedWith ks left at = record { count = length ks; left = shares left; at = at }
 
-abbrev pub walkedOf : (Resting → Bool) → ℕ → List Resting → Walked
-walkedOf may want s = walkedWith (takingsOf may want s) (want - total (walk may smaller want s)) (reached may want s)
+abbrev pub walkedOf : (Part → Bool) → ℕ → List Part → Walked
+walkedOf may want s = walkedWith (takingsOf may want s) (want - total (walk may partGives want s)) (reached may 0 want s)
 
 -- ── Takings in a table ──
 

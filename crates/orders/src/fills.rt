@@ -15,7 +15,7 @@ ghost use Rattle.basics.specs.Lists.{All, every};
 ghost use Rattle.side.specs.Table.{side, Holds, Shows};
 ghost use Rattle.rules.specs.Book.{placesASide};
 ghost use Rattle.orders.specs.Walk.{mostTakings, isBelow, takingsIn};
-ghost use Rattle.orders.specs.Fills.{keeps, lessened, keeping, afterTakings};
+ghost use Rattle.orders.specs.Fills.{keeps, lessened, keepers, afterTakings};
 
 // Takes the takings off the orders.
 fn subtract(x: &Index, t: &mut Rows, n: usize, took: &Takings, count: usize)
@@ -32,11 +32,11 @@ fn subtract(x: &Index, t: &mut Rows, n: usize, took: &Takings, count: usize)
     }
 }
 
-// Whether an order has something left.
+// Whether an order has something left, shown or in reserve.
 fn has_shares(o: Resting) -> bool
     ensures { λ r. ⌜ r ≡ keeps o ⌝ }
 {
-    o.shares.0 != 0
+    !((o.shares.0 == 0) & (o.reserve.0 == 0))
 }
 
 // One more where the test holds.
@@ -51,8 +51,8 @@ fn counted(to: usize, one: bool) -> usize
 // places with the first that leaves, so that whoever leaves comes to stand behind; whether one counts is no branch.
 fn close_up(x: &mut Index, t: &Rows, n: usize, reached: usize) -> usize
     requires { ⌜ Holds n (now x) (now t) × (reached ≤ n) × (every keeps (drop reached (side n (now x) (now t))) ≡ true) ⌝ }
-    ensures { λ r. ⌜ r ≡ length (keeping (side n (now (x .entry)) (now (t .entry)))) ⌝ }
-    ensures { λ _. ⌜ Shows (keeping (side n (now (x .entry)) (now (t .entry)))) (now (x .exit)) (now (t .entry)) ⌝ }
+    ensures { λ r. ⌜ r ≡ length (keepers (side n (now (x .entry)) (now (t .entry)))) ⌝ }
+    ensures { λ _. ⌜ Shows (keepers (side n (now (x .entry)) (now (t .entry)))) (now (x .exit)) (now (t .entry)) ⌝ }
 {
     let mut to = n - reached;
     let mut i = to;

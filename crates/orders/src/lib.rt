@@ -1,15 +1,16 @@
 // An order on a sound book that stands in a header and two sides that are lent (01, How an order is worked): it is judged by its own fields
 // and then matched, on whichever side of the market it is of.
+pub mod cursor;
 mod fills;
 mod matching;
 pub mod pricing;
+mod refills;
 pub mod reports;
 pub mod walk;
 mod work;
 
 use crate::matching::Matched;
 use crate::walk::Takings;
-use judge::instructions;
 use kinds::Number;
 use rules::Held;
 use rules::Order;
@@ -80,7 +81,7 @@ pub fn enter(
     ensures { λ r. ⌜ Left r (now (x .exit)) (now (buys .exit)) (now (y .exit)) (now (sells .exit)) (now (out .exit)) (now (out .entry))
         (bodyAnswer number time (body.Order o) (bookOn h (now (x .entry)) (now (buys .entry)) (now (y .entry)) (now (sells .entry)))) ⌝ }
 {
-    if !instructions::lawful(o.word) {
+    if !judge::order_lawful(o) {
         return tables::refuse(h, 8);
     }
     if !judge::order_in_range(o) {

@@ -12,6 +12,7 @@ ghost use Prim.Native.Nat.{_*_, _≤_};
 ghost use lib.ListN.{length};
 ghost use Rattle.basics.specs.Bytes.{onto};
 ghost use Rattle.basics.specs.Lists.{All};
+ghost use Rattle.side.specs.Shifts.{Countable};
 ghost use Rattle.side.specs.Table.{side, Holds};
 ghost use Rattle.rules.specs.EventLines.{eventLines};
 ghost use Rattle.orders.specs.Walk.{mostTakings, isBelow, takingsIn};
@@ -47,7 +48,7 @@ pub(crate) fn report(
 
 // Line 13 for each order of the side, in rank order; the length of the lines.
 pub fn report_cancelled(x: &Index, t: &Rows, n: usize, reason: u8, out: &mut [u8]) -> usize
-    requires { ⌜ Holds n (now x) (now t) × (21 * n ≤ length (now out)) ⌝ }
+    requires { ⌜ Holds n (now x) (now t) × (21 * n ≤ length (now out)) × All Countable (side n (now x) (now t)) ⌝ }
     ensures { λ r. ⌜ r ≡ 21 * n ⌝ }
     ensures { λ _. ⌜ now (out .exit) ≡ onto (eventLines (map (cancelledFor reason) (side n (now (x .entry)) (now (t .entry)))))
         (now (out .entry)) ⌝ }
@@ -56,7 +57,8 @@ pub fn report_cancelled(x: &Index, t: &Rows, n: usize, reason: u8, out: &mut [u8
     let mut i = 0;
     while i < n {
         let o = rows::at(x, t, n, i);
-        len += writer::write_cancelled(&mut out[len..], o.number, o.shares, reason);
+        let left = rows::shares_left(o);
+        len += writer::write_cancelled(&mut out[len..], o.number, left, reason);
         i += 1;
     }
     len

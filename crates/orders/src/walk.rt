@@ -1,9 +1,11 @@
-// A walk over one side of the book in rank order, for a number of shares: what each order gives, one taking after the other.
+// A walk over one side of the book for a number of shares: what each part of its orders gives, one taking after the other.
+use crate::cursor;
+use crate::cursor::Cursor;
+use crate::cursor::Following;
+use crate::cursor::Part;
 use kinds::Cents;
 use kinds::Shares;
-use rules::Resting;
 use side::prices;
-use side::rows;
 use side::rows::Index;
 use side::rows::PLACES;
 use side::rows::Rows;
@@ -13,15 +15,15 @@ ghost use Prim.Native.Nat.{_+_, _-_, _<_};
 ghost use lib.ListN.{length, getD, set};
 ghost use Rattle.side.specs.Table.{side, Holds};
 ghost use Rattle.rules.specs.Book.{placesASide};
-ghost use Rattle.rules.specs.Working.{smaller};
-ghost use Rattle.orders.specs.Walk.{mostTakings, isWithin, taking, takingRow, takingIn, laid, laidAt, walkedOf, takingsOf};
+ghost use Rattle.orders.specs.Cursor.{parts};
+ghost use Rattle.orders.specs.Walk.{mostTakings, isWithin, partGives, taking, takingRow, takingIn, laid, laidAt, walkedOf, takingsOf};
 
-// Room for the takings of one walk: an order gives once at most.
-pub const TAKINGS: usize = PLACES;
+// Room for the takings of one walk: an order has two parts at most.
+pub const TAKINGS: usize = 2 * PLACES;
 
 pub type Takings = [[u32; 3]; TAKINGS];
 
-// What a walk took from the order at a rank, and at what price.
+// What a walk took from a part of the order at a rank, and at what price.
 pub struct Taking {
     pub place: usize,
     pub price: Cents,
@@ -80,27 +82,27 @@ pub(crate) fn taking_at(took: &Takings, i: usize) -> Taking
 
 // ── The walk ──
 
-// Takes from the order at a rank what it gives, as the next taking. One that gives nothing is no taking.
-fn take_from(took: &mut Takings, count: usize, left: Shares, place: usize, o: Resting) -> Taken
-    requires { ⌜ (count < mostTakings) × (place < placesASide) ⌝ }
+// Takes from a part what it gives, as the next taking. One that gives nothing is no taking.
+fn take_from(took: &mut Takings, count: usize, left: Shares, p: Part) -> Taken
+    requires { ⌜ (count < mostTakings) × (p .place < placesASide) ⌝ }
     ensures { λ r. ⌜ r ≡ record {
-      count = count + length (taking place o (smaller (left .0) o));
-      left = record { 0 = left .0 - smaller (left .0) o };
+      count = count + length (taking p (partGives (left .0) p));
+      left = record { 0 = left .0 - partGives (left .0) p };
     } ⌝ }
-    ensures { λ _. ⌜ now (took .exit) ≡ laidAt count (map takingRow (taking place o (smaller (left .0) o))) (now (took .entry)) ⌝ }
+    ensures { λ _. ⌜ now (took .exit) ≡ laidAt count (map takingRow (taking p (partGives (left .0) p))) (now (took .entry)) ⌝ }
 {
     whole(took);
-    let shares = o.shares;
+    let shares = p.shares;
     let gives = left.smaller(shares);
     if gives.0 == 0 {
         return Taken { count, left };
     }
-    let price = o.price;
+    let price = p.price;
     put(
         took,
         count,
         Taking {
-            place: place,
+            place: p.place,
             price: price,
             shares: gives,
         },
@@ -111,8 +113,8 @@ fn take_from(took: &mut Takings, count: usize, left: Shares, place: usize, o: Re
     }
 }
 
-// Walks the side in rank order, for `want` shares. The walk ends at the first order whose price is beyond the bound, or with nothing left.
-// The takings go to the front of `took`, in the order of the walk.
+// Walks the parts of a side's orders in their order, for `want` shares. The walk ends at the first part whose price is beyond the bound, or
+// with nothing left. The takings go to the front of `took`, in the order of the walk.
 pub(crate) fn walk(
     x: &Index,
     t: &Rows,
@@ -123,32 +125,35 @@ pub(crate) fn walk(
     took: &mut Takings,
 ) -> Walked
     requires { ⌜ Holds n (now x) (now t) ⌝ }
-    ensures { λ r. ⌜ r ≡ walkedOf (isWithin buying bound) (want .0) (side n (now (x .entry)) (now (t .entry))) ⌝ }
+    ensures { λ r. ⌜ r ≡ walkedOf (isWithin buying bound) (want .0) (parts (side n (now (x .entry)) (now (t .entry)))) ⌝ }
     ensures { λ _. ⌜ now (took .exit) ≡ laid (map takingRow (takingsOf (isWithin buying bound) (want .0)
-        (side n (now (x .entry)) (now (t .entry))))) (now (took .entry)) ⌝ }
+        (parts (side n (now (x .entry)) (now (t .entry)))))) (now (took .entry)) ⌝ }
 {
-    let mut at = 0;
+    let mut c = Cursor {
+        at: 0,
+        waits: 0,
+        level: Cents(0),
+    };
     let mut count = 0;
     let mut left = want;
     loop {
-        if n <= at {
-            break;
-        }
         if left.0 == 0 {
             break;
         }
-        let o = rows::at(x, t, n, at);
-        if !prices::within(buying, bound, o.price) {
+        let Following::Is(part, next) = cursor::next(x, t, n, c) else {
+            break;
+        };
+        if !prices::within(buying, bound, part.price) {
             break;
         }
-        let taken = take_from(took, count, left, at, o);
+        let taken = take_from(took, count, left, part);
         count = taken.count;
         left = taken.left;
-        at += 1;
+        c = next;
     }
     Walked {
         count: count,
         left: left,
-        at: at,
+        at: c.at,
     }
 }

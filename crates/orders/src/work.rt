@@ -34,7 +34,8 @@ pub(crate) fn walk_of(
     n: usize,
     took: &mut Takings,
 ) -> Walked
-    requires { ⌜ Holds n (now x) (now t) × All Workable (side n (now x) (now t)) ⌝ }
+    requires { ⌜ Holds n (now x) (now t) × All Workable (side n (now x) (now t))
+        × (inRankOrder (not (buying o)) (side n (now x) (now t)) ≡ true) ⌝ }
     ensures { λ r. ⌜ Walks o away (side n (now (x .entry)) (now (t .entry))) r (now (took .exit)) ⌝ }
 {
     let shares = o.shares;

@@ -94,7 +94,7 @@ fn run(
 
 fn main() {
     let mut input = [0u8; 65536];
-    let mut out = [0u8; 69632];
+    let mut out = [0u8; 73728];
     let mut x: Index = [0; rows::INDEX];
     let mut buys: Rows = [[0; rows::WORDS]; rows::PLACES];
     let mut y: Index = [0; rows::INDEX];

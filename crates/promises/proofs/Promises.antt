@@ -3,7 +3,7 @@
 -- tally `tally/specs/Tally`, for the program `day/specs/Turns` with `Feed` and `Pieces` beside it and `command_lines/specs/Pieces`. What else holds of a day, and
 -- of the lent table, stands in `Beyond` beside this file, and what the code itself is proved to do in `Entries`. Assumes nothing.
 use Prim.Native.Nat.{ℕ, _+_, _≤_}
-use mathlib.Core.Bool.{true, false}
+use mathlib.Core.Bool.{Bool, true, false, not}
 use mathlib.Core.List.{List, [], _∷_, _++_, map}
 use mathlib.Core.Logic.{_⊎_, _≢_}
 use mathlib.Core.Path.{_≡_}
@@ -22,25 +22,29 @@ use Rattle.rules.specs.declared.EventReading.the-variants as event
 use Rattle.rules.specs.declared.Order.{Order}
 use Rattle.rules.specs.declared.Reading.the-variants as reading
 use Rattle.rules.specs.declared.Resting.{Resting}
-use Rattle.rules.specs.Book.{Book, BookRecord, fresh, sound, bookIn, recordOf, recordSound}
+use Rattle.rules.specs.Book.{Book, BookRecord, fresh, inRankOrder, sound, bookIn, recordOf, recordSound}
 use Rattle.rules.specs.CommandLines.{commandIn, lineOf, Fits}
 use Rattle.rules.specs.Commands.{does}
 use Rattle.rules.specs.Day.{printed, bookAfter, printedOf, output}
 use Rattle.rules.specs.EventLines.{FitsEvent, eventLine, eventLines, refusalLine}
 use Rattle.rules.specs.EventReading.{eventIn}
 use Rattle.rules.specs.Examples.{DeskExamples, QuoteExamples}
+use Rattle.rules.specs.Holdings.{holdings}
 use Rattle.rules.specs.Instructions.{has, postOnly}
 use Rattle.rules.specs.Refusals.{leastRoom}
 use Rattle.rules.specs.Step.{answerTo, step, stepOn}
+use Rattle.rules.specs.Working.{buying}
 use Rattle.rules.proofs.Examples.{desk-examples, quote-examples}
 use Rattle.rules.proofs.LawsEventReading.{eventIn-eventLine, eventIn-is}
 use Rattle.rules.proofs.LawsLines.{commandIn-lineOf, commandIn-is, lineOf-once}
+use Rattle.rules.proofs.LawsWalkOrder.{InWalkOrder, holdings-walk}
 use Rattle.soundness.proofs.LawsKept.{fresh-sound, after-sound}
 use Rattle.demands.specs.Beyond.{oneTo, repeated}
 use Rattle.demands.specs.ExactlyWhen.{Applies, NoLower}
-use Rattle.demands.specs.Executes.{Executes}
+use Rattle.demands.specs.Executes.{executionsIn, Executes}
 use Rattle.demands.specs.Once.{EventLines, Refused, endOf, eventLinesOf, actingNumbers, struckOut, noneRefused, acts, byLine, readingOf, lineAsked, Call, returned, byCall, linesWithRoom}
 use Rattle.demands.specs.Quoted.{Crosses, Quoted, WritesBoth}
+use Rattle.demands.specs.Refilled.{Refills}
 use Rattle.demands.specs.Run.{eventsOf, Enters}
 use Rattle.demands.specs.ShareOut.{opposite}
 use Rattle.demands.specs.Told.{eventsIn, executedIn, givenIn, cancelledIn, restingOf}
@@ -50,6 +54,7 @@ use Rattle.demands.proofs.LawsCalls as calling
 use Rattle.demands.proofs.LawsFills as fills
 use Rattle.demands.proofs.LawsOnce as once
 use Rattle.demands.proofs.LawsQuoted as quoted
+use Rattle.demands.proofs.LawsRefilled as refilled
 use Rattle.demands.proofs.LawsRun as run
 use Rattle.demands.proofs.LawsWritten as written
 use Rattle.command_lines.specs.Pieces.{allOf}
@@ -165,8 +170,9 @@ a-call-does-what-01-says = calling.call-does
 
 -- That `does` is 01 is for its reader to see. What follows from it, in words of its own:
 
--- an order writes its executions, one at most of each opposite order, in rank order, each at that order's price, and then at most one
--- `12`, which tells how it rests, or `13`
+-- an order writes its executions, one at most of each opposite holding, a shown part or a reserve, in the order of the walk, each at the
+-- price of its order; then at most one `12`, which tells how it rests, or `13`; and then a `14` of each refill that is due, in former rank
+-- order (02, W4). `12` and `13` count both parts of an order, `14` the shown one
 pub an-order-writes : (b : Book) (line : List ℕ) (c : Command) (o : Order) → sound b ≡ true → acts b line ≡ true → commandIn line ≡ reading.Is c
     → c .body ≡ body.Order o → OrderWrites (c .number) o b (answerTo b line .book) (eventsIn (printed (answerTo b line)))
 an-order-writes = written.order-writes
@@ -243,7 +249,8 @@ no-shared-line = lineOf-once
 -- "Take any run of commands from a fresh book, and in it any accepted order that isn't Post Only. .. A Fill-or-Kill is killed exactly
 -- if no lawful share-out totals its size, and then executes nothing. Every other such order executes the greatest lawful total, and
 -- no resting order gives a share while a better-ranked one that could lawfully give keeps one.": said of the lines that the order
--- itself prints, read back from their bytes
+-- itself prints, read back from their bytes; with W4 a resting order with reserve counts as two, its shown part and its reserve, "each as an
+-- order of its own at its rank in the walk"
 pub executes-the-greatest : (lines : List (List ℕ)) (stood : Book) (line : List ℕ) (c : Command) (o : Order)
     → Enters byLine fresh lines stood line c o → has (o .word) postOnly ≡ false → Executes stood c o (eventsIn (printed (answerTo stood line)))
 executes-the-greatest = run.run-executes
@@ -263,7 +270,7 @@ pub nothing-unread : (lines : List (List ℕ)) → eventsIn (printedOf fresh lin
 nothing-unread = run.run-read
 
 -- "For each accepted order, shares entered equal shares executed plus cancelled, both summed from the event lines, plus those still
--- resting.": from all that the day prints, read back from its bytes
+-- resting.": from all that the day prints, read back from its bytes; of an order with reserve both parts count (02, W4)
 pub no-share-lost : (lines : List (List ℕ)) (stood : Book) (line : List ℕ) (c : Command) (o : Order) → Enters byLine fresh lines stood line c o
     → o .shares .0
     ≡ executedIn (c .number) (eventsIn (printedOf fresh lines)) + cancelledIn (c .number) (eventsIn (printedOf fresh lines))
@@ -292,11 +299,13 @@ pub no-resting-share-lost : (n : Number) (r : BookRecord) (calls : List Call) �
     + restingOf n (bookIn (endOf byCall r calls))
 no-resting-share-lost = calling.calls-settle
 
--- demand 3 determines the fills: two outcomes that meet it give each resting order the same, and the same in all
+-- demand 3 determines the fills: two outcomes that meet it give each resting order the same, and the same in all, by the same execution
+-- lines, one after the other
 pub fills-determined : (stood : Book) (c : Command) (o : Order) (es fs : List Event) → sound stood ≡ true
     → Executes stood c o es → Executes stood c o fs
     → ((h : Resting) → OneOf h (opposite o stood) → givenIn (h .number) es ≡ givenIn (h .number) fs)
     × (executedIn (c .number) es ≡ executedIn (c .number) fs)
+    × (executionsIn es ≡ executionsIn fs)
 fills-determined = fills.fills-determined
 
 -- ── W1: our own lines, read back ──
@@ -355,6 +364,24 @@ pub no-hidden-order-crosses : (b : Book) (line : List ℕ) (n : Number) (time : 
     → All (λ (h : Resting). Crosses away h true → ⊥) (answerTo b line .book .buys)
     × All (λ (h : Resting). Crosses away h false → ⊥) (answerTo b line .book .sells)
 no-hidden-order-crosses = quoted.no-hidden-order-crosses
+
+-- ── W4: reserve quantity ──
+
+-- "Refill is due when the shown part is used up and reserve is left; it happens after the incoming order's last line, in former rank order,
+-- with a new stamp and a `14` line": what an accepted order on a sound book leaves of the side that it meets. Who gave all is gone; whose
+-- shown part was not used up keeps its stamp and its reserve; whoever is due, and nobody else, shows "the Max Floor .., or .. what is left if
+-- that is less", behind all displayed orders at its price; and no refill changes what an order holds in all. (Its lines stand in
+-- `an-order-writes`.)
+pub an-order-refills : (b : Book) (line : List ℕ) (c : Command) (o : Order) → sound b ≡ true → acts b line ≡ true → commandIn line ≡ reading.Is c
+    → c .body ≡ body.Order o
+    → Refills (not (buying o)) (c .number) (opposite o b) (opposite o (answerTo b line .book)) (eventsIn (printed (answerTo b line)))
+an-order-refills = refilled.order-refills
+
+-- "the shown part at its rank, the reserve behind every other order at that price, reserves among themselves in the rank of their shown
+-- parts": the holdings of a side in rank order stand so that each comes before all behind it (`InWalkOrder` of `rules/proofs/LawsWalkOrder`), by
+-- better price, then shown parts before reserves, then the rank of their orders (`walksBefore` of `rules/specs/Holdings`)
+pub the-holdings-stand-in-rank : (buy : Bool) (s : List Resting) → inRankOrder buy s ≡ true → InWalkOrder buy (holdings s)
+the-holdings-stand-in-rank = holdings-walk
 
 -- ── The program ──
 

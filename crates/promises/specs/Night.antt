@@ -5,6 +5,7 @@ use mathlib.Core.List.{List, [], _∷_}
 use Rattle.kinds.specs.Kinds.{cents, shares, number}
 use Rattle.rules.specs.declared.Body.{Body}
 use Rattle.rules.specs.declared.Body.the-variants as body
+use Rattle.rules.specs.declared.Carried.the-variants.{Nothing}
 use Rattle.rules.specs.declared.Command.{Command}
 use Rattle.rules.specs.declared.Event.{Event}
 use Rattle.rules.specs.declared.Event.the-variants.{Executed, Rested, Cancelled}
@@ -20,7 +21,7 @@ abbrev command : ℕ → ℕ → Body → Command
 command n after b = record { number = number n; time = opening + after; body = b }
 
 abbrev order : ℕ → ℕ → ℕ → ℕ → Order
-order side word count price = record { side = side; word = word; price = cents price; shares = shares count }
+order side word count price = record { side = side; word = word; price = cents price; shares = shares count; carried = Nothing }
 
 abbrev quote : ℕ → ℕ → Body
 quote bid offer = body.Quote (record { bid = cents bid; offer = cents offer })

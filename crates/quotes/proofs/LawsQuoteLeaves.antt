@@ -22,6 +22,8 @@ use Rattle.rules.proofs.LawsEvents.{told-long}
 use Rattle.side.specs.Looking.{priceBound, Older}
 use Rattle.settling.proofs.LawsOlder.{older-all, away-at-most}
 use Rattle.soundness.proofs.LawsKept.{locking-ranged}
+use Rattle.basics.proofs.LawsLists.{all-alike}
+use Rattle.side.specs.Shifts.{Countable}
 use Rattle.soundness.proofs.LawsSides.{sides-of}
 use Rattle.soundness.proofs.LawsSound.{sound-is}
 use Rattle.side.specs.Answers.{bodyAnswer}
@@ -58,6 +60,7 @@ pub record Ready (buy : Bool) (b : Book) (n : Number) (k : ℕ) (away : Away) : 
   pub lines : length (eventLines (told (quoteFate away buy) (ownSide buy b))) ≤ 27 * placesASide
   pub priced : lockingPrice buy away .0 < priceBound
   pub older : All (Older (stamp n k)) (ownSide buy b)
+  pub countable : All Countable (ownSide buy b)
 
 pub ready : (buy : Bool) (b : Book) → sound b ≡ true → (n : Number) (k : ℕ) → b .held .last .0 < n .0 → (away : Away)
     → not (awayInRange (away .bid) && awayInRange (away .offer)) ≡ false → Ready buy b n k away
@@ -70,4 +73,5 @@ ready buy b s n k next away e =
       lines = omega (arith, told-long (quoteFate away buy) (ownSide buy b), sides .ownFits);
       priced = omega (arith, away-at-most (lockingPrice buy away) ranged);
       older = older-all (stamp n k) next (sides .ownInRange);
+      countable = all-alike (λ h r. omega (arith, r .atMost)) (sides .ownInRange);
     }

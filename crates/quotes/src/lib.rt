@@ -17,9 +17,6 @@ ghost use Rattle.rules.specs.declared.Body.the-variants as body;
 ghost use Rattle.side.specs.Answers.{bodyAnswer, Left, Stands};
 ghost use Rattle.side.specs.Tables.{bookOn};
 
-// The place of the first move among a command's moves; 0 is that of an order that comes to rest.
-const FIRST_MOVE: u32 = 1;
-
 pub fn quote(
     h: Head,
     number: Number,
@@ -40,7 +37,16 @@ pub fn quote(
     if !(judge::away_in_range(bid) & judge::away_in_range(offer)) {
         return tables::refuse(h, 9);
     }
-    let bought = moves::move_side(x, buys, h.buys, true, away, number, FIRST_MOVE, out);
+    let bought = moves::move_side(
+        x,
+        buys,
+        h.buys,
+        true,
+        away,
+        number,
+        settling::FIRST_MOVE,
+        out,
+    );
     let len = bought.length;
     let sold = moves::move_side(
         y,

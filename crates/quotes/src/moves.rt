@@ -24,6 +24,7 @@ ghost use Rattle.rules.specs.EventLines.{eventLines};
 ghost use Rattle.rules.specs.Settling.{told, settledSide};
 ghost use Rattle.rules.specs.Working.{lockingPrice};
 ghost use Rattle.side.specs.Looking.{priceBound, Older};
+ghost use Rattle.side.specs.Shifts.{Countable};
 ghost use Rattle.quotes.specs.Moves.{goesOn, fateAt};
 ghost use Rattle.settling.specs.OneByOne.{settledIn};
 
@@ -68,7 +69,8 @@ pub(crate) fn move_side(
 ) -> Settled
     requires { ⌜ Holds n (now x) (now t) × (inRankOrder buying (side n (now x) (now t)) ≡ true) × (first + n < largest)
         × (length (eventLines (told (quoteFate away buying) (side n (now x) (now t)))) ≤ length (now out))
-        × ((lockingPrice buying away .0 < priceBound) × All (Older (stamp number first)) (side n (now x) (now t))) ⌝ }
+        × ((lockingPrice buying away .0 < priceBound) × All (Older (stamp number first)) (side n (now x) (now t)))
+        × All Countable (side n (now x) (now t)) ⌝ }
     ensures { λ r. ⌜ r ≡ settledIn number first buying (quoteFate away buying) (side n (now (x .entry)) (now (t .entry))) ⌝ }
     ensures { λ _. ⌜ Shows (settledSide number first buying (quoteFate away buying) (side n (now (x .entry)) (now (t .entry))))
         (now (x .exit)) (now (t .exit)) ⌝ }

@@ -8,6 +8,7 @@ use lib.ListN.{length}
 use native.Mathlib.Nat.{zero-add}
 use native.Mathlib.Omega.{arith}
 use borrow.Author.Tests.{le-ltb, not-true, not-false}
+use Rattle.basics.specs.Choice.{if_then_else_}
 use Rattle.basics.specs.Lists.{gathered}
 use Rattle.basics.proofs.LawsChoice.{by-choice, and-left, and-right, and-none}
 use Rattle.kinds.specs.declared.Cents.{Cents}
@@ -16,16 +17,18 @@ use Rattle.rules.specs.declared.Away.{Away}
 use Rattle.rules.specs.declared.Body.{Body}
 use Rattle.rules.specs.declared.Body.the-variants as body
 use Rattle.rules.specs.declared.Event.{Event}
+use Rattle.rules.specs.declared.Held.{Held}
 use Rattle.rules.specs.declared.Order.{Order}
 use Rattle.rules.specs.declared.Resting.{Resting}
 use Rattle.rules.specs.declared.Stamp.{Stamp}
-use Rattle.rules.specs.Book.{Book}
+use Rattle.rules.specs.Book.{Book, sharesLeft}
 use Rattle.rules.specs.Commands.{withAccepted, withAway, shut, isNumber, cancelFate, cancel, wouldNowCross, quoteFate, quote, closeFate, close, carriedOut, does}
 use Rattle.rules.specs.EventLines.{byCommand, cancelledBack}
 use Rattle.rules.specs.declared.Fate.{Fate}
 use Rattle.rules.specs.declared.Fate.the-variants.{Stays, IsCancelled, IsSet}
-use Rattle.rules.specs.Settling.{setAt, stampedAs, insertAll, setBy, staying, setAnew, told, stampedFrom, settledSide, firstMove, settled, bothSettled}
-use Rattle.rules.specs.Working.{lockingPrice, absent, beyond, accept}
+use Rattle.rules.specs.Settling.{setAt, stampedAs, insertAll, setBy, staying, setAnew, told, stampedFrom, settledSide, firstMove, ownSide, oppositeSide, withSide, settled, bothSettled}
+use Rattle.rules.specs.Holdings.{holdings, executions, after}
+use Rattle.rules.specs.Working.{buying, takings, remainder, ending, lastLine, withRemainder, worked, refillFate, lockingPrice, absent, beyond, accept}
 
 -- ── The fates that it gives ──
 
@@ -62,13 +65,13 @@ if-set P (body.Cancel of) buy h p = cancel-fate (IfSet P) of h tt (λ t. tt)
 if-set P (body.Quote away) buy h p = quote-fate (IfSet P) away buy h (λ t. tt) (λ t b. tt) (λ t b. p away refl t)
 if-set P body.Close buy h p = tt
 
--- whoever is set anew is the same order, with the same shares
+-- whoever is set anew is the same order, with the same shares, of both its parts
 pub record SameOrder (h new : Resting) : Type 0 where
   pub number : new .number ≡ h .number
-  pub shares : new .shares ≡ h .shares
+  pub left : sharesLeft new ≡ sharesLeft h
 
 pub set-same : (c : Body) (buy : Bool) (h : Resting) → IfSet (SameOrder h) (fateBy c buy h)
-set-same c buy h = if-set (SameOrder h) c buy h (λ away is t. record { number = refl; shares = refl })
+set-same c buy h = if-set (SameOrder h) c buy h (λ away is t. record { number = refl; left = refl })
 
 -- whoever stays is not set anew
 pub never-set : {P : Type 0} {new : Resting} → Stays ≡ IsSet new → P
@@ -119,7 +122,43 @@ unfolding staying gathered
 none-stay [] = refl
 none-stay (h ∷ s) = none-stay s
 
+-- the opposite side, and a book with another one
+opposite-is : (buy : Bool) (h : Held) (own opposite : List Resting)
+    → let b : Book = record { held = h; buys = if buy then own else opposite; sells = if buy then opposite else own } in
+    ownSide (not buy) b ≡ opposite
+opposite-is true h own opposite = refl
+opposite-is false h own opposite = refl
+
+with-opposite : (buy : Bool) (h : Held) (own opposite other : List Resting)
+    → let b : Book = record { held = h; buys = if buy then own else opposite; sells = if buy then opposite else own } in
+    withSide (not buy) other b ≡ record { held = h; buys = if buy then own else other; sells = if buy then other else own }
+with-opposite true h own opposite other = refl
+with-opposite false h own opposite other = refl
+
 module _ (n : Number) (time : ℕ) (b : Book) where
+  -- an order leaves its own side with what rests of it, and the opposite one with what it did not take, refilled
+  pub order-does : (o : Order)
+      → let opposite = oppositeSide (buying o) b in
+      let ts = takings o (b .held .away) opposite in
+      let left = remainder o (b .held .away) opposite in
+      let end = ending o (b .held .away) opposite in
+      let own′ = withRemainder n o left end (ownSide (buying o) b) in
+      let opposite′ = settledSide n firstMove (not (buying o)) refillFate (after opposite ts) in
+      (does n time (body.Order o) b .book ≡ record {
+        held = withAccepted n time (b .held);
+        buys = if buying o then own′ else opposite′;
+        sells = if buying o then opposite′ else own′;
+      })
+      × (does n time (body.Order o) b .events ≡ (executions n (holdings opposite) ts ++ lastLine n left end) ++ told refillFate (after opposite ts))
+  unfolding does carriedOut accept worked settled
+  order-does o =
+      let held = withAccepted n time (b .held) in
+      let opposite = oppositeSide (buying o) b in
+      let own′ = withRemainder n o (remainder o (b .held .away) opposite) (ending o (b .held .away) opposite) (ownSide (buying o) b) in
+      let left = after opposite (takings o (b .held .away) opposite) in
+      let is = opposite-is (buying o) held own′ left in
+      (rw (is, with-opposite (buying o) held own′ left (settledSide n firstMove (not (buying o)) refillFate left)), rw is)
+
   pub cancel-does : (of : Number)
       → (does n time (body.Cancel of) b .book ≡ record {
         held = withAccepted n time (b .held);
@@ -159,7 +198,7 @@ module _ (n : Number) (time : ℕ) (b : Book) where
 
   -- every command leaves its number and its time
   pub does-number-and-time : (c : Body) → (does n time c b .book .held .last ≡ n) × (does n time c b .book .held .time ≡ time)
-  unfolding does carriedOut accept cancel quote close bothSettled settled
+  unfolding does carriedOut accept worked cancel quote close bothSettled settled
   does-number-and-time (body.Order o) = (refl, refl)
   does-number-and-time (body.Cancel of) = (refl, refl)
   does-number-and-time (body.Quote away) = (refl, refl)

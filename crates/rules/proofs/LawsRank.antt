@@ -62,7 +62,7 @@ module _ (high : Bool) (p q : ℕ) (atOne : Bool) where
   by-number : p ≢ q → aheadOr high p q atOne ≡ ahead high p q
   by-number ne = rw (ne-eqb p q ne)
 
-  at-one : p ≡ q → aheadOr high p q atOne ≡ atOne
+  pub at-one : p ≡ q → aheadOr high p q atOne ≡ atOne
   at-one e = rw (eq-eqb p q e)
 
 -- what holds of one number and of two holds of any
@@ -79,7 +79,7 @@ or-total high p q t u turn f =
     (λ e. at-one high q p u (sym e) ∙ turn (sym (at-one high p q t e) ∙ f))
     (λ n. by-number high q p u (λ e. n (sym e)) ∙ ahead-total high p q n (sym (by-number high p q t n) ∙ f))
 
-or-transitive : (high : Bool) (p q r : ℕ) (t u v : Bool) → (t ≡ true → u ≡ true → v ≡ true)
+pub or-transitive : (high : Bool) (p q r : ℕ) (t u v : Bool) → (t ≡ true → u ≡ true → v ≡ true)
     → aheadOr high p q t ≡ true → aheadOr high q r u ≡ true → aheadOr high p r v ≡ true
 or-transitive high p q r t u v both a b =
     by-numbers p q
@@ -123,11 +123,11 @@ total-at-one-price true false s t l f = absurd (true≢false f)
 total-at-one-price false true s t l f = refl
 total-at-one-price false false s t l f = l
 
-never-itself-at-one-price : (d : Bool) (s : Stamp) → atOnePrice d d s s ≡ false
+pub never-itself-at-one-price : (d : Bool) (s : Stamp) → atOnePrice d d s s ≡ false
 never-itself-at-one-price true s = earlier-not-itself s
 never-itself-at-one-price false s = earlier-not-itself s
 
-transitive-at-one-price : (d e f : Bool) (s t u : Stamp) → atOnePrice d e s t ≡ true → atOnePrice e f t u ≡ true → atOnePrice d f s u ≡ true
+pub transitive-at-one-price : (d e f : Bool) (s t u : Stamp) → atOnePrice d e s t ≡ true → atOnePrice e f t u ≡ true → atOnePrice d f s u ≡ true
 transitive-at-one-price true true true s t u a b = earlier-transitive s t u a b
 transitive-at-one-price true true false s t u a b = refl
 transitive-at-one-price true false true s t u a b = absurd (true≢false (sym b))

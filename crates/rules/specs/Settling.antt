@@ -1,8 +1,9 @@
 -- What becomes of resting orders by a command, other than by executions: a cancel, the moves of a quote (02, W2) and a close all have this
 -- one shape. Each resting order has a fate; those that stay, those that are set anew, and the lines of all that do not stay follow from it.
-use Prim.Native.Nat.{ℕ, suc, _+_}
+use Prim.Native.Nat.{ℕ, suc, _+_, _-_, min}
 use mathlib.Core.Bool.{Bool, true, false}
 use mathlib.Core.List.{List, [], _∷_, _++_}
+use lib.Dec.{eqb}
 use lib.ListN.{length}
 use Rattle.basics.specs.Choice.{if_then_else_}
 use Rattle.basics.specs.Lists.{gathered}
@@ -16,27 +17,40 @@ use Rattle.rules.specs.declared.Fate.the-variants.{Stays, IsCancelled, I
 use Rattle.rules.specs.declared.Held.{Held}
 use Rattle.rules.specs.declared.Resting.{Resting}
 use Rattle.rules.specs.declared.Stamp.{Stamp}
-use Rattle.rules.specs.Book.{Book, stamp, ranksBefore}
+use Rattle.rules.specs.Book.{Book, stamp, ranksBefore, sharesLeft}
 
 -- ── A resting order ──
 
--- a resting order with another price, stamp and share count; all else stays
-abbrev pub amended : Cents → Stamp → ℕ → Resting → Resting
-amended price anew left h = record {
+-- a resting order with another price, stamp, shown part and reserve; all else stays
+abbrev pub amended : Cents → Stamp → ℕ → ℕ → Resting → Resting
+amended price anew shown reserve h = record {
   number = h .number;
   price = price;
-  shares = shares left;
+  shares = shares shown;
   displayed = h .displayed;
   back = h .back;
   stamp = anew;
+  reserve = shares reserve;
+  floor = h .floor;
 }
 
 -- a resting order set at a price, and one with a new stamp
 abbrev pub setAt : Cents → Resting → Resting
-setAt price h = amended price (h .stamp) (h .shares .0) h
+setAt price h = amended price (h .stamp) (h .shares .0) (h .reserve .0) h
 
 abbrev pub stampedAs : Stamp → Resting → Resting
-stampedAs anew h = amended (h .price) anew (h .shares .0) h
+stampedAs anew h = amended (h .price) anew (h .shares .0) (h .reserve .0) h
+
+-- the shares that an order shows of those left, by its Max Floor: "refilled to the Max Floor .., or to what is left if that is less"
+-- (02, W4). With no Max Floor, which is 0, it shows them all.
+abbrev pub shownOf : ℕ → ℕ → ℕ
+shownOf floor left = if eqb floor 0 then left else min floor left
+
+-- a resting order whose shown part is refilled from its reserve
+abbrev pub refilled : Resting → Resting
+refilled h =
+    let shown = shownOf (h .floor .0) (sharesLeft h) in
+    amended (h .price) (h .stamp) shown (sharesLeft h - shown) h
 
 -- a resting order takes its place by rank
 unfoldable pub insert : Bool → Resting → List Resting → List Resting
@@ -60,10 +74,10 @@ setBy Stays = []
 setBy (IsCancelled reason) = []
 setBy (IsSet new) = new ∷ []
 
--- "`14` (number, price, shares) or `13`" (02, W2)
+-- "`14` (number, price, shares) or `13`" (02, W2); "`12` and `13` count both parts, `14` the shown one" (02, W4)
 abbrev pub toldBy : Fate → Resting → List Event
 toldBy Stays h = []
-toldBy (IsCancelled reason) h = Cancelled (h .number) (h .shares) reason ∷ []
+toldBy (IsCancelled reason) h = Cancelled (h .number) (shares (sharesLeft h)) reason ∷ []
 toldBy (IsSet new) h = Moved (new .number) (new .price) (new .shares) ∷ []
 
 -- ── Of a side ──

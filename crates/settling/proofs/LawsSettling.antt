@@ -22,6 +22,7 @@ use Rattle.rules.specs.declared.Resting.{Resting}
 use Rattle.rules.specs.Book.{unused, stamp, inRankOrder}
 use Rattle.rules.specs.EventLines.{eventLines}
 use Rattle.rules.specs.Settling.{stampedAs, setBy, toldBy, setAnew, told, settledSide}
+use Rattle.rules.proofs.LawsCommands.{IfSet}
 use Rattle.rules.proofs.LawsEvents.{eventLines-append, none-long}
 use Rattle.soundness.proofs.LawsInsert.{Added, here, later, added-insert, added-length, added-all, ranked-insert}
 use Rattle.rules.proofs.LawsRank.{earlier-place, earlier-transitive, ranked-first, ranked-rest, ranked-more}
@@ -165,6 +166,30 @@ module _ {fate : Resting → Fate} {n : Number} {buy : Bool} {first : ℕ} {s₀
                 added-all (record { priced = b; stamped = before }) added others,
               )
 
+-- what holds of all, and of whoever is set anew, holds of those that are left
+removed-all : {P : Resting → Type 0} (at : ℕ) {s : List Resting} → All P s → All P (removeAt at s)
+removed-all at a = all-joined (front at a) (behind (at + 1) a)
+  where
+    front : {P : Resting → Type 0} (k : ℕ) {s : List Resting} → All P s → All P (take k s)
+    front zero a = none
+    front (suc k) none = none
+    front (suc k) (also p a) = also p (front k a)
+
+    behind : {P : Resting → Type 0} (k : ℕ) {s : List Resting} → All P s → All P (drop k s)
+    behind zero a = a
+    behind (suc k) none = none
+    behind (suc k) (also p a) = behind k a
+
+    all-joined : {P : Resting → Type 0} {s u : List Resting} → All P s → All P u → All P (s ++ u)
+    all-joined none b = b
+    all-joined (also p a) b = also p (all-joined a b)
+
+pub settled-at-all : {P : Resting → Type 0} (n : Number) (k : ℕ) (buy : Bool) (f : Fate) → IfSet (λ (new : Resting). P (stampedAs (stamp n k) new)) f
+    → (at : ℕ) {s : List Resting} → All P s → All P (settledAt n k buy f at s)
+settled-at-all n k buy Stays p at a = a
+settled-at-all n k buy (IsCancelled reason) p at a = removed-all at a
+settled-at-all n k buy (IsSet new) p at {s = s} a = added-all p (added-insert buy (stampedAs (stamp n k) new) (removeAt at s)) (removed-all at a)
+
 -- ── In an index and a table of rows ──
 
 same-numbers : {a b : Settled} → a .held ≡ b .held → a .next ≡ b .next → a .length ≡ b .length → a ≡ b
@@ -204,11 +229,11 @@ module _ {fate : Resting → Fate} {n : Number} {buy : Bool} {first : ℕ} {s₀
         → (m′ : Settled) (x′ : List ℕ) (t′ : List (List ℕ)) (out′ : List ℕ) → m′ ≡ afterOne m f h → Shows (settledAt n (m .next) buy f at now) x′ t′
         → out′ ≡ ontoFrom (m .length) (eventLines (toldBy f h)) out → let s′ = side (m′ .held) x′ t′ in
         Holds (m′ .held) x′ t′ × Settling fate n buy first s₀ out₀ s′ (m′ .next) (m′ .length) out′ × Stay fate (take at s′)
-        × (length (told fate now) ≡ length (toldBy f h) + length (told fate s′))
+        × (length (told fate now) ≡ length (toldBy f h) + length (told fate s′)) × (s′ ≡ settledAt n (m .next) buy f at now)
     settle-leaves f e stays below m′ x′ t′ out′ p q r =
         let l′ : at < length now = omega (arith, whole) in
         let one = settling-one settling l′ h is passed stays below in
-        rw (p ∙ after-is f, r, q .is) (q .holds, rw e (one .0), rw e (one .1), rw e (fewer-lines settling l′ h is passed stays))
+        rw (p ∙ after-is f, r, q .is) (q .holds, rw e (one .0), rw e (one .1), rw e (fewer-lines settling l′ h is passed stays), refl)
 
   -- where all that are left stay, the side is settled
   pub settled-all : Stay fate now → IsSettled fate n buy first s₀ out₀ m x t out

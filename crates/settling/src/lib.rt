@@ -6,6 +6,7 @@ use rules::Fate;
 use rules::Resting;
 use rules::Stamp;
 use side::places;
+use side::rows;
 use side::rows::Index;
 use side::rows::Rows;
 use side::shifts;
@@ -21,7 +22,11 @@ ghost use Rattle.rules.specs.Book.{stamp, inRankOrder};
 ghost use Rattle.rules.specs.EventLines.{eventLines};
 ghost use Rattle.rules.specs.Settling.{stampedAs, toldBy};
 ghost use Rattle.side.specs.Looking.{Older};
+ghost use Rattle.side.specs.Shifts.{Countable};
 ghost use Rattle.settling.specs.OneByOne.{settledAt, afterOne, setBelow};
+
+// The place of the first move among a command's moves; 0 is that of an order that comes to rest.
+pub const FIRST_MOVE: u32 = 1;
 
 // What settling a side leaves: how many orders it holds, the next place among the command's moves, and the length of the lines.
 pub struct Settled {
@@ -52,7 +57,7 @@ pub fn settle(
 ) -> Settled
     requires { ⌜ Holds (m .held) (now x) (now t) × (at < m .held)
         × (inRankOrder buying (removeAt at (side (m .held) (now x) (now t))) ≡ true)
-        × (m .length + length (eventLines (toldBy fate o)) ≤ length (now out)) × (m .next < largest)
+        × (m .length + length (eventLines (toldBy fate o)) ≤ length (now out)) × (m .next < largest) × Countable o
         × (setBelow fate × All (Older (stamp number (m .next))) (removeAt at (side (m .held) (now x) (now t)))) ⌝ }
     ensures { λ r. ⌜ r ≡ afterOne m fate o ⌝ }
     ensures { λ _. ⌜ Shows (settledAt number (m .next) buying fate at (side (m .held) (now (x .entry)) (now (t .entry))))
@@ -66,7 +71,8 @@ pub fn settle(
         Fate::Stays => m,
         Fate::IsCancelled(reason) => {
             shifts::remove(x, t, held, at);
-            let more = writer::write_cancelled(&mut out[len..], o.number, o.shares, reason);
+            let left = rows::shares_left(o);
+            let more = writer::write_cancelled(&mut out[len..], o.number, left, reason);
             Settled {
                 held: held - 1,
                 next: next,

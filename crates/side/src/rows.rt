@@ -10,13 +10,15 @@ ghost use mathlib.Core.Path.{_≡_};
 ghost use mathlib.Core.List.{[]};
 ghost use Prim.Native.Nat.{_≤_, _<_};
 ghost use lib.ListN.{length, getD, set};
-ghost use Rattle.rules.specs.Book.{placesASide, isUnused, unused};
+ghost use Rattle.kinds.specs.Kinds.{shares};
+ghost use Rattle.rules.specs.Book.{placesASide, isUnused, unused, sharesLeft};
+ghost use Rattle.side.specs.Shifts.{Countable};
 ghost use Rattle.side.specs.Table.{flagOf, levelOf, levelIn, orderOf, rowOf, hintOf, ranked, side, indexSize, Names, Holds};
 
 pub const PLACES: usize = 64;
 
 // How many words a row has.
-pub const WORDS: usize = 8;
+pub const WORDS: usize = 10;
 
 // How many hints an index has, from an order's number to its row.
 pub const HINTS: usize = 1024;
@@ -106,6 +108,8 @@ pub const UNUSED: Resting = Resting {
         command: Number(0),
         place: 0,
     },
+    reserve: Shares(0),
+    floor: Shares(0),
 };
 
 // Whether a record is that of an unused place.
@@ -120,6 +124,16 @@ pub fn is_unused(o: Resting) -> bool
         & !o.back
         & (stamp.command.0 == 0)
         & (stamp.place == 0)
+        & (o.reserve.0 == 0)
+        & (o.floor.0 == 0)
+}
+
+// The shares of an order, shown and in reserve (02, W4).
+pub fn shares_left(o: Resting) -> Shares
+    requires { ⌜ Countable o ⌝ }
+    ensures { λ r. ⌜ r ≡ shares (sharesLeft o) ⌝ }
+{
+    Shares(o.shares.0 + o.reserve.0)
 }
 
 // ── A row ──
@@ -137,6 +151,8 @@ fn order_of(r: [u32; WORDS]) -> Resting
             command: Number(r[6]),
             place: r[7],
         },
+        reserve: Shares(r[8]),
+        floor: Shares(r[9]),
     }
 }
 
@@ -171,6 +187,8 @@ fn row_of(o: Resting) -> [u32; WORDS]
         flag(o.back),
         stamp.command.0,
         stamp.place,
+        o.reserve.0,
+        o.floor.0,
     ]
 }
 

@@ -7,14 +7,14 @@ use kinds::Shares;
 use rules::Resting;
 ghost use mathlib.Core.Bool.{_&&_};
 ghost use mathlib.Core.Path.{_≡_};
-ghost use Prim.Native.Nat.{_≤_, _<_};
+ghost use Prim.Native.Nat.{_-_, _≤_, _<_};
 ghost use lib.Dec.{ltb, leb};
 ghost use lib.ListN.{getD, set};
 ghost use Rattle.basics.specs.Choice.{if_then_else_};
 ghost use Rattle.basics.specs.Lists.{insertAt, removeAt};
 ghost use Rattle.side.specs.Table.{rotated, side, Holds, Shows};
 ghost use Rattle.rules.specs.Book.{placesASide, unused};
-ghost use Rattle.rules.specs.Working.{reducedBy};
+ghost use Rattle.side.specs.Shifts.{lessBy};
 
 // ── The index turned, with no branch on what it holds: the loops have one length, so the compiler makes vectors of them ──
 
@@ -96,17 +96,32 @@ pub fn remove(x: &mut Index, t: &Rows, n: usize, at: usize)
     lower(x, last - at, last);
 }
 
-// The side with `part` shares fewer in the order at rank `at`.
+// What is left of so many shares without others; nothing where these are more.
+fn without(all: u32, gone: u32) -> u32
+    ensures { λ r. ⌜ r ≡ all - gone ⌝ }
+{
+    if gone < all { all - gone } else { 0 }
+}
+
+// The side with `part` shares fewer in the order at rank `at`: of its shown part first, and then of its reserve.
 pub fn reduce(x: &Index, t: &mut Rows, n: usize, at: usize, part: Shares)
     requires { ⌜ Holds n (now x) (now t) × (at < n) ⌝ }
     ensures { λ _. ⌜ Shows (set (side n (now (x .entry)) (now (t .entry))) at
-        (reducedBy (part .0) (getD (side n (now (x .entry)) (now (t .entry))) at unused)))
+        (lessBy (part .0) (getD (side n (now (x .entry)) (now (t .entry))) at unused)))
         (now (x .entry)) (now (t .exit)) ⌝ }
 {
     let slot = rows::slot_at(x, n, at);
     let o = rows::row(t, slot);
-    let shares = o.shares;
-    let gone = part.smaller(shares);
-    let left = Shares(shares.0 - gone.0);
-    rows::put_row(t, slot, Resting { shares: left, ..o });
+    let shown = without(o.shares.0, part.0);
+    let more = without(part.0, o.shares.0);
+    let reserve = without(o.reserve.0, more);
+    rows::put_row(
+        t,
+        slot,
+        Resting {
+            shares: Shares(shown),
+            reserve: Shares(reserve),
+            ..o
+        },
+    );
 }

@@ -27,7 +27,13 @@ fn same_order(a: Resting, b: Resting) -> bool {
     let same_price = a.price.0 == b.price.0;
     let same_shares = a.shares.0 == b.shares.0;
     let same_choices = (a.displayed == b.displayed) & (a.back == b.back);
-    same_number & same_price & same_shares & same_choices & same_stamp(a.stamp, b.stamp)
+    let same_reserve = (a.reserve.0 == b.reserve.0) & (a.floor.0 == b.floor.0);
+    same_number
+        & same_price
+        & same_shares
+        & same_choices
+        & same_reserve
+        & same_stamp(a.stamp, b.stamp)
 }
 
 // The unused places are compared too: the core leaves them zero.

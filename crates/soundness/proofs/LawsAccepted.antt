@@ -1,20 +1,20 @@
 -- What it says of a command that no refusal of the table is given for it. Assumes nothing.
 use Prim.Native.Nat.{ℕ, _+_, _≤_, _<_}
-use mathlib.Core.Bool.{Bool, true, false, not, _&&_, _||_}
+use mathlib.Core.Bool.{Bool, true, false, not, _&&_, _||_, Bool·beq}
 use mathlib.Core.Path.{_≡_}
 use lib.Dec.{leb, ltb}
 use native.Mathlib.Omega.{arith}
 use borrow.Author.Tests.{not-false, ltb-false, leb-false, le-leb}
-use Rattle.basics.proofs.LawsChoice.{or-neither}
+use Rattle.basics.proofs.LawsChoice.{and-left, and-right, or-neither}
 use Rattle.basics.specs.Choice.{if_then_else_}
 use Rattle.rules.specs.declared.Away.{Away}
 use Rattle.rules.specs.declared.Body.the-variants as body
 use Rattle.rules.specs.declared.Command.{Command}
 use Rattle.rules.specs.declared.Order.{Order}
 use Rattle.rules.specs.declared.Reading.the-variants as reading
-use Rattle.rules.specs.Instructions.{lawful}
+use Rattle.rules.specs.Instructions.{reserve, has, lawful}
 use Rattle.rules.specs.Book.{Book, opening, closing, awayInRange}
-use Rattle.rules.specs.Refusals.{firstOf, isClose, untimely, orderInRange, restsOnFullSide, headerRefusals, bodyRefusals, lineRefusals}
+use Rattle.rules.specs.Refusals.{firstOf, isClose, untimely, carriesFloor, orderLawful, orderInRange, restsOnFullSide, headerRefusals, bodyRefusals, lineRefusals}
 use Rattle.rules.proofs.LawsRefusals.{none-given}
 
 -- ── By the header ──
@@ -56,16 +56,24 @@ accepted b c e =
 
 pub record AcceptedOrder (b : Book) (o : Order) : Type 0 where
   pub isLawful : lawful (o .word) ≡ true
+  pub carries : Bool·beq (has (o .word) reserve) (carriesFloor (o .carried)) ≡ true
   pub inRange : orderInRange o ≡ true
   pub room : restsOnFullSide o b ≡ false
 
 pub accepted-order : (b : Book) (o : Order) → firstOf (bodyRefusals b (body.Order o)) ≡ 0 → AcceptedOrder b o
 unfolding bodyRefusals
 accepted-order b o e =
-    let word = none-given 8 (not (lawful (o .word))) _ (omega arith) e in
+    let word = none-given 8 (not (orderLawful o)) _ (omega arith) e in
     let fields = none-given 9 (not (orderInRange o)) _ (omega arith) (word .1) in
     let full = none-given 11 (restsOnFullSide o b) _ (omega arith) (fields .1) in
-    record { isLawful = not-false (lawful (o .word)) (word .0); inRange = not-false (orderInRange o) (fields .0); room = full .0 }
+    let both = not-false (orderLawful o) (word .0) in
+    let tied = Bool·beq (has (o .word) reserve) (carriesFloor (o .carried)) in
+    record {
+      isLawful = and-left (lawful (o .word)) tied both;
+      carries = and-right (lawful (o .word)) tied both;
+      inRange = not-false (orderInRange o) (fields .0);
+      room = full .0;
+    }
 
 pub accepted-quote : (b : Book) (a : Away) → firstOf (bodyRefusals b (body.Quote a)) ≡ 0 → (awayInRange (a .bid) && awayInRange (a .offer)) ≡ true
 unfolding bodyRefusals

@@ -1,5 +1,4 @@
--- The best buy is below the best sell exactly where every buy is below every sell, and what thins the sides keeps them apart.
--- Assumes nothing.
+-- The best buy is below the best sell exactly where every buy is below every sell, seen from either side. Assumes nothing.
 use Prim.Native.Nat.{_≤_, _<_}
 use mathlib.Core.Bool.{Bool, true, false, not}
 use mathlib.Core.List.{List, [], _∷_}
@@ -14,7 +13,6 @@ use Rattle.rules.specs.Book.{inRankOrder, apart}
 use Rattle.rules.specs.Working.{beyond}
 use Rattle.rules.proofs.LawsCommands.{not-beyond-itself}
 use Rattle.rules.proofs.LawsRank.{ranked-first, rank-price}
-use Rattle.soundness.proofs.LawsThinned.{Thinned, thinned-all}
 
 -- every order of the opposite side is beyond the price of every order of the own side
 abbrev pub Beyond : Bool → Cents → List Resting → Type 0
@@ -70,10 +68,3 @@ rest-apart buy h (also (also p more) others) = also more (rest-apart buy h other
 pub apart-flip : (buy : Bool) (own opposite : List Resting) → Apart buy own opposite → Apart (not buy) opposite own
 apart-flip buy own [] a = none
 apart-flip buy own (h ∷ opposite) a = also (flip-one buy h a) (apart-flip buy own opposite (rest-apart buy h a))
-
--- ── Thinned sides stay apart ──
-
-pub apart-thinned : (buy : Bool) {own own′ opposite opposite′ : List Resting} → Thinned own own′ → Thinned opposite opposite′ → Apart buy own opposite → Apart buy own′ opposite′
-apart-thinned buy {opposite = opposite} {opposite′ = opposite′} s t a =
-    all-alike (λ o p. thinned-all {P = λ (h : Resting). beyond buy (o .price) (h .price) ≡ true} (λ h k lo hi q. q) t p)
-    (thinned-all {P = λ (o : Resting). Beyond buy (o .price) opposite} (λ o k lo hi q. q) s a)

@@ -20,6 +20,8 @@ use Rattle.rules.specs.declared.Away.{Away}
 use Rattle.rules.specs.declared.Body.{Body}
 use Rattle.rules.specs.declared.Body.the-variants as body
 use Rattle.rules.specs.declared.Command.{Command}
+use Rattle.rules.specs.declared.Fate.{Fate}
+use Rattle.rules.specs.declared.Fate.the-variants.{Stays, IsCancelled, IsSet}
 use Rattle.rules.specs.declared.Order.{Order}
 use Rattle.rules.specs.declared.Reading.{Reading}
 use Rattle.rules.specs.declared.Reading.the-variants as reading
@@ -31,16 +33,15 @@ use Rattle.rules.specs.Day.{bookAfter}
 use Rattle.rules.specs.Refusals.{leastRoom, firstOf, restsOnFullSide, bodyRefusals, lineRefusals, refusals}
 use Rattle.rules.specs.Settling.{settledSide, oppositeSide, firstMove, settled, bothSettled}
 use Rattle.rules.specs.Step.{doneBy, answer, answerTo, step, stepOn}
-use Rattle.rules.specs.Working.{lockingPrice, absent, buying, ending, accept}
-use Rattle.rules.proofs.LawsCommands.{fateBy, if-set, set-same, crosses-present, crosses-beyond, close-does}
+use Rattle.rules.specs.Working.{lockingPrice, absent, buying, ending}
+use Rattle.rules.proofs.LawsCommands.{fateBy, IfSet, if-set, set-same, crosses-present, crosses-beyond, order-does, close-does}
 use Rattle.rules.proofs.LawsRefusals.{fit-facts}
 use Rattle.soundness.proofs.LawsAccepted.{accepted, AcceptedOrder, accepted-order, accepted-quote}
 use Rattle.soundness.proofs.LawsOrder.{accept-sides}
 use Rattle.rules.proofs.LawsRank.{better-transitive}
-use Rattle.soundness.proofs.LawsSettled.{SoundPrice, SoundPrices, sides-settled}
-use Rattle.soundness.proofs.LawsSides.{Sides, sides-flip, sides-of, buys-sound, sides-sound, later-stamp, sides-thinned, sides-later}
+use Rattle.soundness.proofs.LawsSettled.{SetSound, LeftSound, SoundFates, sides-settled}
+use Rattle.soundness.proofs.LawsSides.{shownIn, Sides, sides-flip, sides-none, sides-of, buys-sound, sides-sound, later-stamp, sides-later}
 use Rattle.soundness.proofs.LawsSound.{Sound, sound-is, is-sound}
-use Rattle.soundness.proofs.LawsThinned.{thinned-none}
 
 -- ── The prices of those that are set anew ──
 
@@ -52,26 +53,36 @@ locking-ranged false away a = and-left (awayInRange (away .bid)) (awayInRange (a
 present-ranged : (p : Cents) → awayInRange p ≡ true → absent p ≡ false → priceInRange p ≡ true
 present-ranged p a e = rw e at a
 
--- so is that of whoever is set at it, which is still apart from the opposite side, for it is less aggressive than before
-sound-prices : (b : Book) (c : Body) → firstOf (bodyRefusals b c) ≡ 0 → (buy : Bool) → SoundPrices buy (fateBy c buy)
-sound-prices b c accepted buy opposite h apart =
-    if-set (SoundPrice buy opposite) c buy h
+-- so is that of whoever is set at it, which is still apart from the opposite side, for it is less aggressive than before; all else stays
+sound-fates : (b : Book) (c : Body) → firstOf (bodyRefusals b c) ≡ 0 → (last : Number) (buy : Bool) → SoundFates shownIn last buy (fateBy c buy)
+sound-fates b c accepted last buy opposite h r apart =
+    left-if-set (fateBy c buy h)
+    (if-set (SetSound buy opposite) c buy h
     (λ away is t.
     let ranged = accepted-quote b away (subst (λ (x : Body). firstOf (bodyRefusals b x) ≡ 0) is accepted) in
     record {
       priced = present-ranged (lockingPrice buy away) (locking-ranged buy away ranged) (crosses-present buy away h t);
       isApart = all-alike (λ o p. better-transitive buy (o .price) (h .price) (lockingPrice buy away) p (crosses-beyond buy away h t)) apart;
-    })
+      shows = r .holding;
+      floored = r .floored;
+    }))
+  where
+    left-if-set : (f : Fate) → IfSet (SetSound buy opposite) f → LeftSound buy opposite h f
+    left-if-set Stays i = r .holding
+    left-if-set (IsCancelled reason) i = tt
+    left-if-set (IsSet new) i = i
 
 -- ── An accepted command ──
 
 module _ (b : Book) (s : Sound b) (n : Number) (time : ℕ) (next : n .0 ≡ b .held .last .0 + 1) (isOpen : b .held .closed ≡ false)
     (opened : leb opening time ≡ true) (inTime : leb time closing ≡ true) where
   accept-sound : (o : Order) → AcceptedOrder b o → Sound (does n time (body.Order o) b .book)
-  unfolding does carriedOut accept restsOnFullSide
+  unfolding restsOnFullSide
   accept-sound o a =
-      sides-sound (withAccepted n time (b .held)) opened inTime (s .bid) (s .offer) isOpen (buying o)
-      (accept-sides n o (b .held .away) (sides-of (buying o) b s) next (a .isLawful) (a .inRange) (a .room) (ending o (b .held .away) (oppositeSide (buying o) b)) refl)
+      rw (order-does n time b o .0)
+      (sides-sound (withAccepted n time (b .held)) opened inTime (s .bid) (s .offer) isOpen (buying o)
+      (accept-sides n o (b .held .away) (sides-of (buying o) b s) next (a .isLawful) (a .carries) (a .inRange) (a .room) firstMove
+      (ending o (b .held .away) (oppositeSide (buying o) b)) refl))
 
   -- both sides, settled by the fates of a command
   both-sides : (c : Body) → firstOf (bodyRefusals b c) ≡ 0 → (k : ℕ)
@@ -79,10 +90,10 @@ module _ (b : Book) (s : Sound b) (n : Number) (time : ℕ) (next : n .0 ≡ b .
   both-sides c accepted k =
       let sides = sides-of true b s in
       let above : b .held .last .0 < n .0 = omega (arith, next) in
-      let prices = sound-prices b c accepted in
+      let fates = sound-fates b c accepted n in
       let new = later-stamp (stamp n firstMove) above (sides .ownInRange) in
-      let buys = sides-settled n firstMove (fateBy c true) (set-same c true) (prices true) new (sides-later sides (omega (arith, above))) in
-      sides-settled n k (fateBy c false) (set-same c false) (prices false) (later-stamp (stamp n k) above (sides .oppositeInRange)) (sides-flip true buys)
+      let buys = sides-settled n firstMove (fateBy c true) (set-same c true) (fates true) new (sides-later sides (omega (arith, above))) in
+      sides-settled n k (fateBy c false) (set-same c false) (fates false) (later-stamp (stamp n k) above (sides .oppositeInRange)) (sides-flip true buys)
 
   cancel-sound : (of : Number) → firstOf (bodyRefusals b (body.Cancel of)) ≡ 0 → Sound (does n time (body.Cancel of) b .book)
   unfolding does carriedOut cancel bothSettled settled
@@ -97,10 +108,7 @@ module _ (b : Book) (s : Sound b) (n : Number) (time : ℕ) (next : n .0 ≡ b .
       sides-sound held opened inTime (locking-ranged false away ranged) (locking-ranged true away ranged) isOpen false (both-sides (body.Quote away) accepted _)
 
   close-sound : Sound (does n time body.Close b .book)
-  close-sound =
-      let none = sides-thinned (sides-of true b s) (thinned-none (b .buys)) (thinned-none (b .sells)) in
-      rw (close-does n time b .0)
-      (buys-sound (shut (withAccepted n time (b .held))) opened inTime (s .bid) (s .offer) refl (sides-later none (omega (arith, next))))
+  close-sound = rw (close-does n time b .0) (buys-sound (shut (withAccepted n time (b .held))) opened inTime (s .bid) (s .offer) refl (sides-none n))
 
   body-sound : (c : Body) → firstOf (bodyRefusals b c) ≡ 0 → Sound (does n time c b .book)
   body-sound (body.Order o) e = accept-sound o (accepted-order b o e)

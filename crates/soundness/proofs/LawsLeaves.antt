@@ -1,41 +1,69 @@
--- A walk that leaves a remainder has used up every order that it may touch: what stays on the opposite side begins with the first
--- that it may not. Assumes nothing.
-use Prim.Native.Nat.{ℕ, _+_, _-_, _≤_, _<_, min}
+-- A walk that leaves a remainder has used up every holding that it may touch: who stays on the opposite side has a part that it may not, or
+-- one behind such a part. Assumes nothing.
+use Prim.Native.Nat.{ℕ, _+_, _-_, _<_, min}
 use mathlib.Core.Bool.{Bool, true, false}
 use mathlib.Core.List.{List, _∷_}
-use mathlib.Core.Logic.{⊎-elim}
+use mathlib.Core.Logic.{_≢_, _⊎_, inl, inr, ⊎-elim}
 use mathlib.Core.Path.{_≡_, refl, ap}
 use lib.Dec.{eqb}
 use native.Mathlib.Omega.{arith}
-use borrow.Author.Tests.{eq-eqb, ne-eqb}
-use Rattle.basics.specs.Lists.{total, All, none, also}
+use borrow.Author.Tests.{ne-eqb}
+use Rattle.basics.specs.Lists.{total, All, none, also, Each, empty, with}
 use Rattle.basics.proofs.LawsChoice.{holds-or-not}
+use Rattle.basics.proofs.LawsLists.{all-alike, all-always}
 use Rattle.rules.specs.declared.Resting.{Resting}
-use Rattle.rules.specs.Book.{inRankOrder}
-use Rattle.rules.specs.Working.{nothing, walk, smaller, after}
-use Rattle.rules.proofs.LawsRank.{ranked-rest}
+use Rattle.rules.specs.Book.{sharesLeft}
+use Rattle.rules.specs.Holdings.{Holding, shownPart, reservePart, size, holdings, nothing, walk, smaller, reducedBy, keeping, after}
+use Rattle.rules.proofs.LawsBest.{NoBetter, HoldingsBest, end, first}
+use Rattle.rules.proofs.LawsHoldings.{Parts, parts-alike, each-parts, keeping-all}
+use Rattle.rules.proofs.LawsTakings.{nothing-each}
+use Rattle.soundness.proofs.LawsThinned.{Standing}
+
+-- ── Nothing is taken ──
 
 -- who gives nothing stays as he is
-pub after-nothing : {s : List Resting} → All (λ (h : Resting). 1 ≤ h .shares .0) s → after s (nothing s) ≡ s
-unfolding after nothing
-after-nothing none = refl
-after-nothing (also {x = h} {s = s} p a) =
-    let e : eqb (h .shares .0 - 0) 0 ≡ false = ne-eqb (h .shares .0 - 0) 0 (λ (z : h .shares .0 - 0 ≡ 0). omega arith) in
-    let n : h .shares .0 - 0 ≡ h .shares .0 = omega arith in
-    rw (e, n) (ap (λ (r : List Resting). h ∷ r) (after-nothing a))
+pub after-nothing : {s : List Resting} → Standing s → after s (nothing (holdings s)) ≡ s
+unfolding after keeping
+after-nothing {s = s} a =
+    let idle : Each (λ (h : Holding) (t : ℕ). t ≡ 0) (holdings s) (nothing (holdings s)) = nothing-each (all-always (λ h. refl) (holdings s)) in
+    kept a (each-parts s (nothing (holdings s)) idle)
+  where
+    kept : {s : List Resting} {ts rs : List ℕ} → Standing s → Parts (λ (h : Resting) (t r : ℕ). (t ≡ 0) × (r ≡ 0)) s ts rs → keeping s ts rs ≡ s
+    kept none Parts.none = refl
+    kept (also p a) (Parts.also {o = h} {t = t} {r = r} z w) =
+        let shown : h .shares .0 - t ≡ h .shares .0 = omega (arith, z .0) in
+        let reserve : h .reserve .0 - r ≡ h .reserve .0 = omega (arith, z .1) in
+        let some : eqb (sharesLeft h) 0 ≡ false = ne-eqb (sharesLeft h) 0 (λ (e : sharesLeft h ≡ 0). omega arith) in
+        rw (shown, reserve, some) (ap (λ (l : List Resting). h ∷ l) (kept a w))
 
-module _ (buy : Bool) (may : Resting → Bool) {P : Resting → Type 0}
-    (ends : (h : Resting) (s : List Resting) → inRankOrder buy (h ∷ s) ≡ true → may h ≡ false → All P (h ∷ s)) where
-  pub walk-leaves : (left : ℕ) {s : List Resting} → All (λ (h : Resting). 1 ≤ h .shares .0) s → inRankOrder buy s ≡ true
-      → total (walk may smaller left s) < left → All P (after s (walk may smaller left s))
-  unfolding after walk total
-  walk-leaves left none o l = none
-  walk-leaves left (also {x = h} {s = s} p a) o l =
+-- ── A remainder is left ──
+
+-- a holding gives all that it has, or has the claim
+abbrev AllOr : (Resting → Type 0) → Holding → ℕ → Type 0
+AllOr P h t = (t ≡ size h) ⊎ P (h .of)
+
+module _ (buy : Bool) (may : Holding → Bool) (P : Resting → Type 0)
+    (ends : (h : Holding) (s : List Holding) → All (NoBetter buy (h .of)) s → may h ≡ false → All (λ (x : Holding). P (x .of)) (h ∷ s)) where
+  walk-gives : (left : ℕ) {s : List Holding} → HoldingsBest buy s → total (walk may smaller left s) < left → Each (AllOr P) s (walk may smaller left s)
+  unfolding walk total
+  walk-gives left end l = empty
+  walk-gives left (first {s = s} h worse best) l =
       ⊎-elim
       (λ (t : may h ≡ true).
-      let m : min left (h .shares .0) + total (walk may smaller (left - min left (h .shares .0)) s) < left = rw t at l in
-      let all : min left (h .shares .0) ≡ h .shares .0 = omega (arith, m) in
-      let gone : h .shares .0 - min left (h .shares .0) ≡ 0 = omega (arith, all) in
-      rw (t, eq-eqb (h .shares .0 - min left (h .shares .0)) 0 gone) (walk-leaves (left - min left (h .shares .0)) a (ranked-rest buy h s o) (omega (arith, m))))
-      (λ (t : may h ≡ false). let same : after (h ∷ s) (nothing (h ∷ s)) ≡ h ∷ s = after-nothing (also {x = h} p a) in rw (t, same) (ends h s o t))
+      let m : min left (size h) + total (walk may smaller (left - min left (size h)) s) < left = rw t at l in
+      let all : min left (size h) ≡ size h = omega (arith, m) in
+      rw t (with (inl all) (walk-gives (left - min left (size h)) best (omega (arith, m)))))
+      (λ (t : may h ≡ false). rw t (nothing-each (all-alike (λ x p. inr p) (ends h s worse t))))
       (holds-or-not (may h))
+
+  -- so the claim holds of those that stay, if lower shares do not disturb it
+  pub walk-leaves : ((h : Resting) (t r : ℕ) → P h → P (reducedBy t r h)) → (left : ℕ) (s : List Resting) → HoldingsBest buy (holdings s)
+      → total (walk may smaller left (holdings s)) < left → All P (after s (walk may smaller left (holdings s)))
+  unfolding after
+  walk-leaves fewer left s best l =
+      keeping-all (parts-alike stays (each-parts s (walk may smaller left (holdings s)) (walk-gives left best l)))
+    where
+      stays : (h : Resting) (t r : ℕ) → AllOr P (shownPart h) t × AllOr P (reservePart h) r → sharesLeft (reducedBy t r h) ≢ 0 → P (reducedBy t r h)
+      stays h t r (inr p, d) some = fewer h t r p
+      stays h t r (inl e, inr p) some = fewer h t r p
+      stays h t r (inl e, inl f) some = let z : ⊥ = omega (arith, e, f, some) in absurd z

@@ -1,31 +1,39 @@
--- An accepted order keeps the two sides sound: what it takes is gone from the opposite side, and what rests of it is a resting order
--- in range on its own. Assumes nothing.
-use Prim.Native.Nat.{ℕ, _+_, _^_}
-use mathlib.Core.Bool.{Bool, true, false, not, _&&_, _||_, true≢false}
+-- An accepted order keeps the two sides sound: what it takes is gone from the opposite side, whose orders are refilled, and what rests of it
+-- is a resting order in range on its own. Assumes nothing.
+use Prim.Native.Nat.{ℕ, _+_, _-_, _^_, _≤_}
+use mathlib.Core.Bool.{Bool, true, false, not, _&&_, _||_, Bool·beq, true≢false}
 use mathlib.Core.List.{List}
 use mathlib.Core.Path.{_≡_, refl, sym, ap, _∙_}
-use lib.Dec.{leb, ltb}
+use lib.Dec.{eqb, leb, ltb}
 use lib.ListN.{length}
 use native.Mathlib.Omega.{arith}
-use borrow.Author.Tests.{leb-false}
-use Rattle.basics.proofs.LawsChoice.{and-left, and-right}
+use borrow.Author.Tests.{eqb-false, leb-false, leb-true}
+use Rattle.basics.specs.Lists.{total}
+use Rattle.basics.proofs.LawsChoice.{by-choice, and-left, and-right}
 use Rattle.kinds.specs.declared.Cents.{Cents}
 use Rattle.kinds.specs.declared.Number.{Number}
-use Rattle.kinds.specs.Kinds.{priceInRange, sharesInRange}
-use Rattle.kinds.proofs.LawsRanges.{shares-most}
+use Rattle.kinds.specs.declared.Shares.{Shares}
+use Rattle.kinds.specs.Kinds.{shares, priceInRange, sharesInRange}
+use Rattle.kinds.proofs.LawsRanges.{shares-most, shares-ranged}
 use Rattle.rules.specs.declared.Away.{Away}
+use Rattle.rules.specs.declared.Carried.{Carried}
+use Rattle.rules.specs.declared.Carried.the-variants.{Nothing, MaxFloor}
 use Rattle.rules.specs.declared.Ending.{Ending}
 use Rattle.rules.specs.declared.Ending.the-variants.{Filled, Rests, Cancels}
 use Rattle.rules.specs.declared.Order.{Order}
 use Rattle.rules.specs.declared.Resting.{Resting}
-use Rattle.rules.specs.Book.{placesASide}
-use Rattle.rules.specs.Instructions.{ioc, fok, day, displayed, nonDisplayed, priceAdjust, cancelBack, postOnly, iso, market, has, oneOf, needs, lawful}
-use Rattle.rules.specs.Refusals.{isRest, orderPriceInRange, orderInRange}
-use Rattle.rules.specs.Working.{buying, takings, remainder, after, seeks, unlessPostOnlyMeets, ending, remainderOf, withRemainder}
+use Rattle.rules.specs.Book.{placesASide, stamp, sharesLeft}
+use Rattle.rules.specs.Holdings.{after}
+use Rattle.rules.specs.Instructions.{ioc, fok, day, displayed, nonDisplayed, priceAdjust, cancelBack, postOnly, iso, market, reserve, has, oneOf, needs, lawful}
+use Rattle.rules.specs.Refusals.{isRest, carriesFloor, orderPriceInRange, carriedInRange, orderInRange}
+use Rattle.rules.specs.Settling.{settledSide}
+use Rattle.rules.specs.Working.{buying, takings, remainder, seeks, unlessPostOnlyMeets, ending, floorOf, remainderOf, withRemainder, refillFate}
+use Rattle.rules.proofs.LawsFloors.{shown-at-most, shown-some, shown-floored, refilled-floored, refill-same}
 use Rattle.soundness.proofs.LawsEndings.{sought-is}
 use Rattle.soundness.proofs.LawsRests.{RestsBy, rests-by, rests-apart}
-use Rattle.soundness.proofs.LawsSides.{InRange, Sides, all-holding, sides-thinned, sides-later, sides-added}
-use Rattle.soundness.proofs.LawsThinned.{thinned-same, thinned-after}
+use Rattle.soundness.proofs.LawsSettled.{LeftSound, SoundFates, sides-settled}
+use Rattle.soundness.proofs.LawsSides.{shownIn, InRange, SidesBy, Sides, all-holding, later-stamp, sides-flip, sides-back, sides-thinned, sides-later, sides-added}
+use Rattle.soundness.proofs.LawsThinned.{thinned-after}
 
 -- ── The price at which a remainder rests is in range ──
 
@@ -42,54 +50,110 @@ neither-market : (m i f : Bool) → needs m (i || f) ≡ true → i ≡ false �
 neither-market false i f n p q = refl
 neither-market true i f n p q = absurd (true≢false (sym n ∙ rw (p, q)))
 
-market-needs : (word : ℕ) → lawful word ≡ true → needs (has word market) (has word ioc || has word fok) ≡ true
+-- the last two clauses of `lawful`: "Bit 10 .. needs Day and Displayed" (02, W4)
+last-needs : (word : ℕ) → lawful word ≡ true
+    → (needs (has word market) (has word ioc || has word fok) ≡ true) × (needs (has word reserve) (has word day && has word displayed) ≡ true)
 unfolding lawful
-market-needs word e =
-    and-right
-    (ltb word (2 ^ 10)
+last-needs word e =
+    let others =
+    ltb word (2 ^ 11)
     && oneOf word (ioc + fok + day)
     && oneOf word (displayed + nonDisplayed)
     && oneOf word (priceAdjust + cancelBack)
     && needs (has word postOnly) (has word day && has word displayed && not (has word iso))
-    && needs (has word iso) (not (has word fok) && not (has word market)))
-    (needs (has word market) (has word ioc || has word fok)) e
+    && needs (has word iso) (not (has word fok) && not (has word market)) in
+    let forMarket = needs (has word market) (has word ioc || has word fok) in
+    let forReserve = needs (has word reserve) (has word day && has word displayed) in
+    (and-right others forMarket (and-left (others && forMarket) forReserve e), and-right (others && forMarket) forReserve e)
+
+reserve-displayed : (word : ℕ) → lawful word ≡ true → has word reserve ≡ true → has word displayed ≡ true
+reserve-displayed word e t = let both = last-needs word e .1 in and-right (has word day) (has word displayed) (rw t at both)
+
+-- ── The Max Floor of an order ──
+
+-- where an order has one, it is in range, and the order is displayed
+floor-ranged : (size : Shares) (c : Carried) → sharesInRange size ≡ true → carriedInRange size c ≡ true → eqb (floorOf c) 0 ≡ false
+    → sharesInRange (shares (floorOf c)) ≡ true
+floor-ranged size Nothing s r f = absurd (true≢false f)
+floor-ranged size (MaxFloor floor) s r f =
+    let least = leb-true 1 (floor .0) (and-left (leb 1 (floor .0)) (leb (floor .0) (size .0)) r) in
+    let most = leb-true (floor .0) (size .0) (and-right (leb 1 (floor .0)) (leb (floor .0) (size .0)) r) in
+    shares-ranged floor least (omega (arith, most, shares-most size s))
+
+floor-carried : (t : Bool) (c : Carried) → Bool·beq t (carriesFloor c) ≡ true → eqb (floorOf c) 0 ≡ false → t ≡ true
+floor-carried t Nothing e f = absurd (true≢false f)
+floor-carried true (MaxFloor floor) e f = refl
+floor-carried false (MaxFloor floor) e f = absurd (true≢false (sym e))
+
+-- ── The refills ──
+
+refill-sound : (last : Number) (buy : Bool) → SoundFates sharesLeft last buy refillFate
+refill-sound last buy opposite h r apart =
+    by-choice (LeftSound buy opposite h) (eqb (h .shares .0) 0)
+    (λ t. record {
+      priced = r .priced;
+      isApart = apart;
+      shows = shown-some (h .floor .0) (sharesLeft h) (r .holding);
+      floored = refilled-floored h (r .floored);
+    })
+    (λ t. let n = eqb-false (h .shares .0) 0 t in omega (arith, n))
 
 -- ── An accepted order ──
 
 module _ (n : Number) (o : Order) (away : Away) {last : Number} {own opposite : List Resting} (sides : Sides (buying o) last own opposite) (next : n .0 ≡ last .0 + 1)
-    (isLawful : lawful (o .word) ≡ true) (inRange : orderInRange o ≡ true) (room : (isRest (ending o away opposite) && leb placesASide (length own)) ≡ false) where
+    (isLawful : lawful (o .word) ≡ true) (carries : Bool·beq (has (o .word) reserve) (carriesFloor (o .carried)) ≡ true) (inRange : orderInRange o ≡ true)
+    (room : (isRest (ending o away opposite) && leb placesASide (length own)) ≡ false) where
   -- the opposite side without what is taken
-  taken : Sides (buying o) last own (after opposite (takings o away opposite))
-  taken = sides-thinned sides (thinned-same (all-holding last (sides .ownInRange))) (thinned-after (takings o away opposite) (all-holding last (sides .oppositeInRange)))
+  taken : SidesBy shownIn sharesLeft (buying o) last own (after opposite (takings o away opposite))
+  taken = sides-thinned sides (thinned-after (takings o away opposite) (all-holding last (sides .oppositeInRange)))
 
   remainder-in-range : (price : Cents) → RestsBy o away opposite price → has (o .word) market ≡ false
       → InRange n (remainderOf n o (remainder o away opposite) price)
   unfolding remainder restsInRange
   remainder-in-range price by limited =
-      let fields = and-left (leb (o .side) 1 && sharesInRange (o .shares)) (orderPriceInRange o) inRange in
-      let size = and-right (leb (o .side) 1) (sharesInRange (o .shares)) fields in
+      let sized = leb (o .side) 1 && sharesInRange (o .shares) in
+      let carried = and-right (sized && orderPriceInRange o) (carriedInRange (o .shares) (o .carried)) inRange in
+      let fields = and-left (sized && orderPriceInRange o) (carriedInRange (o .shares) (o .carried)) inRange in
+      let size = and-right (leb (o .side) 1) (sharesInRange (o .shares)) (and-left sized (orderPriceInRange o) fields) in
       let most = shares-most (o .shares) size in
-      let limit : orderPriceInRange o ≡ true = and-right (leb (o .side) 1 && sharesInRange (o .shares)) (orderPriceInRange o) inRange in
+      let limit : orderPriceInRange o ≡ true = and-right sized (orderPriceInRange o) fields in
       let priced : priceInRange (o .price) ≡ true = rw limited at limit in
       let found : restsInRange (unlessPostOnlyMeets o opposite (seeks o away)) ≡ true =
       sought-is (λ (e : Ending). restsInRange e ≡ true) (λ p e. e) refl refl refl o away opposite priced in
+      let left = o .shares .0 - total (takings o away opposite) in
+      let some : 1 ≤ left = omega (arith, by .left) in
+      let floor = floorOf (o .carried) in
       record {
         fromOne = omega (arith, next);
         upToLast = omega arith;
         priced = sym (ap restsInRange (by .seeking)) ∙ found;
-        holding = omega (arith, by .left);
-        atMost = omega (arith, most);
+        holding = shown-some floor left some;
+        atMost = omega (arith, most, shown-at-most floor left);
         stampedFrom = omega arith;
         stampedUpTo = omega arith;
+        floored =
+            shown-floored (remainderOf n o left price) left refl refl
+            (λ f. rw (reserve-displayed (o .word) isLawful (floor-carried (has (o .word) reserve) (o .carried) carries f)) (floor-ranged (o .shares) (o .carried) size carried f));
       }
 
-  pub accept-sides : (e : Ending) → ending o away opposite ≡ e → Sides (buying o) n (withRemainder n o (remainder o away opposite) e own) (after opposite (takings o away opposite))
-  accept-sides Filled q = sides-later taken (omega (arith, next))
-  accept-sides (Cancels reason) q = sides-later taken (omega (arith, next))
-  accept-sides (Rests price) q =
+  -- its own side with what rests of it
+  worked-sides : (e : Ending) → ending o away opposite ≡ e
+      → SidesBy shownIn sharesLeft (buying o) n (withRemainder n o (remainder o away opposite) e own) (after opposite (takings o away opposite))
+  worked-sides Filled q = sides-later taken (omega (arith, next))
+  worked-sides (Cancels reason) q = sides-later taken (omega (arith, next))
+  worked-sides (Rests price) q =
       let by = rests-by o away opposite price q in
-      let limited = neither-market (has (o .word) market) (has (o .word) ioc) (has (o .word) fok) (market-needs (o .word) isLawful) (by .no-cancel) (by .no-kill) in
+      let limited = neither-market (has (o .word) market) (has (o .word) ioc) (has (o .word) fok) (last-needs (o .word) isLawful .0) (by .no-cancel) (by .no-kill) in
       let places : leb placesASide (length own) ≡ false = rw q at room in
       sides-added taken (remainderOf n o (remainder o away opposite) price)
       (omega (arith, next)) (remainder-in-range price by limited) (leb-false placesASide (length own) places)
       (rests-apart o away price limited (all-holding last (sides .oppositeInRange)) (sides .oppositeRanked) by)
+
+  -- the opposite side refilled, with stamps that are later than all on it
+  pub accept-sides : (k : ℕ) (e : Ending) → ending o away opposite ≡ e
+      → Sides (buying o) n (withRemainder n o (remainder o away opposite) e own)
+      (settledSide n k (not (buying o)) refillFate (after opposite (takings o away opposite)))
+  accept-sides k e q =
+      sides-back (buying o)
+      (sides-settled n k refillFate refill-same (refill-sound n (not (buying o))) (later-stamp (stamp n k) (omega (arith, next)) (taken .oppositeInRange))
+      (sides-flip (buying o) (worked-sides e q)))

@@ -23,7 +23,11 @@ unused-is o e =
     let shown = counted && not (o .displayed) in
     let chosen = shown && not (o .back) in
     let stamped = chosen && eqb (o .stamp .command .0) 0 in
-    let byStamped : stamped ≡ true = and-left stamped (eqb (o .stamp .place) 0) e in
+    let placed = stamped && eqb (o .stamp .place) 0 in
+    let plain = placed && eqb (o .reserve .0) 0 in
+    let byPlain : plain ≡ true = and-left plain (eqb (o .floor .0) 0) e in
+    let byPlaced : placed ≡ true = and-left placed (eqb (o .reserve .0) 0) byPlain in
+    let byStamped : stamped ≡ true = and-left stamped (eqb (o .stamp .place) 0) byPlaced in
     let byChosen : chosen ≡ true = and-left chosen (eqb (o .stamp .command .0) 0) byStamped in
     let byShown : shown ≡ true = and-left shown (not (o .back)) byChosen in
     let byCounted : counted ≡ true = and-left counted (not (o .displayed)) byShown in
@@ -35,11 +39,22 @@ unused-is o e =
     (not-true (o .displayed) (and-right counted (not (o .displayed)) byShown))
     (not-true (o .back) (and-right shown (not (o .back)) byChosen))
     (eqb-true (o .stamp .command .0) 0 (and-right chosen (eqb (o .stamp .command .0) 0) byStamped))
-    (eqb-true (o .stamp .place) 0 (and-right stamped (eqb (o .stamp .place) 0) e))
+    (eqb-true (o .stamp .place) 0 (and-right stamped (eqb (o .stamp .place) 0) byPlaced))
+    (eqb-true (o .reserve .0) 0 (and-right placed (eqb (o .reserve .0) 0) byPlain))
+    (eqb-true (o .floor .0) 0 (and-right plain (eqb (o .floor .0) 0) e))
   where
-    made : {n p s c k : ℕ} {d b : Bool} → n ≡ 0 → p ≡ 0 → s ≡ 0 → d ≡ false → b ≡ false → c ≡ 0 → k ≡ 0
-        → record { number = number n; price = cents p; shares = shares s; displayed = d; back = b; stamp = stamp (number c) k } ≡ unused
-    made e f g h i j l = rw (e, f, g, h, i, j, l)
+    made : {n p s c k r f : ℕ} {d b : Bool} → n ≡ 0 → p ≡ 0 → s ≡ 0 → d ≡ false → b ≡ false → c ≡ 0 → k ≡ 0 → r ≡ 0 → f ≡ 0
+        → record {
+          number = number n;
+          price = cents p;
+          shares = shares s;
+          displayed = d;
+          back = b;
+          stamp = stamp (number c) k;
+          reserve = shares r;
+          floor = shares f;
+        } ≡ unused
+    made e f g h i j l m o = rw (e, f, g, h, i, j, l, m, o)
 
 -- so places that all pass for unused are nothing but such
 all-unused : (s : List Resting) → every isUnused s ≡ true → s ≡ replicate (length s) unused

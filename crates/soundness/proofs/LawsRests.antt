@@ -8,7 +8,7 @@ use lib.Dec.{eqb}
 use native.Mathlib.Omega.{arith}
 use borrow.Author.Tests.{lt-ltb, ltb-true, ltb-false, eqb-false, not-false}
 use Rattle.basics.proofs.LawsLists.{all-alike}
-use Rattle.basics.specs.Lists.{any, total, All, none, also}
+use Rattle.basics.specs.Lists.{any, total, none, also}
 use Rattle.basics.proofs.LawsChoice.{holds-or-not, or-neither}
 use Rattle.kinds.specs.declared.Cents.{Cents}
 use Rattle.rules.specs.declared.Away.{Away}
@@ -19,11 +19,14 @@ use Rattle.rules.specs.declared.Resting.{Resting}
 use Rattle.rules.specs.Book.{better, inRankOrder}
 use Rattle.rules.specs.Instructions.{ioc, fok, postOnly, market, has}
 use Rattle.rules.specs.Refusals.{isRest}
-use Rattle.rules.specs.Working.{buying, beyond, reaches, mayTouch, nothing, walk, smaller, walked, takings, remainder, after, seeks, equalsOrPasses, unlessPostOnlyMeets, endingWith, ending}
+use Rattle.rules.specs.Holdings.{Holding, holdings, nothing, walk, smaller, after}
+use Rattle.rules.specs.Working.{buying, beyond, reaches, mayTouch, walked, takings, remainder, seeks, equalsOrPasses, unlessPostOnlyMeets, endingWith, ending}
 use Rattle.soundness.proofs.LawsApart.{Beyond}
 use Rattle.soundness.proofs.LawsLeaves.{after-nothing, walk-leaves}
-use Rattle.rules.proofs.LawsRank.{ranked-first, rank-price, reaches-is}
+use Rattle.rules.proofs.LawsBest.{ranked-best, holdings-best}
+use Rattle.rules.proofs.LawsRank.{reaches-is}
 use Rattle.soundness.proofs.LawsSeeks.{rests-at, seeks-beyond}
+use Rattle.soundness.proofs.LawsThinned.{Standing}
 
 -- what meets no order is apart from all
 pub none-met : (buy : Bool) (price : Cents) (s : List Resting) → equalsOrPasses buy price s ≡ false → Beyond buy price s
@@ -89,12 +92,12 @@ unless-others o s (Rests price) p = rw p
 unless-others o s (Cancels reason) p = refl
 
 module _ (o : Order) (away : Away) {opposite : List Resting} (p : Cents) (limited : has (o .word) market ≡ false)
-    (holding : All (λ (h : Resting). 1 ≤ h .shares .0) opposite) (ranked : inRankOrder (not (buying o)) opposite ≡ true) (by : RestsBy o away opposite p) where
+    (standing : Standing opposite) (ranked : inRankOrder (not (buying o)) opposite ≡ true) (by : RestsBy o away opposite p) where
   -- Post Only has taken nothing, and meets none
   post-only-apart : has (o .word) postOnly ≡ true → Beyond (buying o) p (after opposite (takings o away opposite))
   unfolding takings walked
   post-only-apart t =
-      let same : after opposite (nothing opposite) ≡ opposite = after-nothing holding in
+      let same : after opposite (nothing (holdings opposite)) ≡ opposite = after-nothing standing in
       rw (by .no-kill, t, same) (none-met (buying o) p opposite (unless-rests o opposite (seeks o away) p t (by .seeking)))
 
   -- any other has taken all that it may touch
@@ -102,14 +105,14 @@ module _ (o : Order) (away : Away) {opposite : List Resting} (p : Cents) (limite
   unfolding takings walked
   walked-apart t =
       let sought : seeks o away ≡ Rests p = sym (unless-others o opposite (seeks o away) t) ∙ by .seeking in
-      let may : Resting → Bool = λ (h : Resting). mayTouch o away (h .price) in
-      let short : total (walk may smaller (o .shares .0) opposite) < o .shares .0 = let l = by .left in (rw (by .no-kill, t) at l) in
+      let may : Holding → Bool = λ (h : Holding). mayTouch o away (h .of .price) in
+      let short : total (walk may smaller (o .shares .0) (holdings opposite)) < o .shares .0 = let l = by .left in (rw (by .no-kill, t) at l) in
       rw (by .no-kill, t)
-      (walk-leaves (not (buying o)) may {P = λ (h : Resting). beyond (buying o) p (h .price) ≡ true}
-      (λ h s r u.
-      let first = seeks-beyond o away (h .price) p limited u sought in
-      also first (all-alike (λ y b. beyond-behind (buying o) p (h .price) (y .price) first (rank-price (not (buying o)) h y b)) (ranked-first (not (buying o)) h s r)))
-      (o .shares .0) holding ranked short)
+      (walk-leaves (not (buying o)) may (λ (h : Resting). beyond (buying o) p (h .price) ≡ true)
+      (λ h s worse u.
+      let first = seeks-beyond o away (h .of .price) p limited u sought in
+      also first (all-alike (λ x b. beyond-behind (buying o) p (h .of .price) (x .of .price) first b) worse))
+      (λ h t r b. b) (o .shares .0) opposite (holdings-best (not (buying o)) (ranked-best (not (buying o)) opposite ranked)) short)
 
   pub rests-apart : Beyond (buying o) p (after opposite (takings o away opposite))
   rests-apart =

@@ -1,5 +1,5 @@
--- What settling a side (a cancel, the moves of a quote, a close) keeps of it, whatever the fate of each of its orders: what is counted of
--- them, who stands there, their rank, and all that a sound book says of the side. Assumes nothing.
+-- What settling a side (a cancel, the moves of a quote, the refills after a walk, a close) keeps of it, whatever the fate of each of its
+-- orders: what is counted of them, who stands there, their rank, and all that a sound book says of the side. Assumes nothing.
 use Prim.Native.Nat.{ℕ, suc, _+_, _-_, _≤_}
 use mathlib.Core.Bool.{Bool, true}
 use mathlib.Core.List.{List, [], _∷_, _++_}
@@ -14,7 +14,7 @@ use Rattle.kinds.specs.declared.Number.{Number}
 use Rattle.kinds.specs.Kinds.{priceInRange}
 use Rattle.rules.specs.declared.Resting.{Resting}
 use Rattle.rules.specs.declared.Stamp.{Stamp}
-use Rattle.rules.specs.Book.{stamp, earlier, inRankOrder}
+use Rattle.rules.specs.Book.{stamp, earlier, inRankOrder, floorInRange}
 use Rattle.rules.specs.declared.Fate.{Fate}
 use Rattle.rules.specs.declared.Fate.the-variants.{Stays, IsCancelled, IsSet}
 use Rattle.rules.specs.Settling.{keptBy, setBy, stampedAs, insert, insertAll, staying, setAnew, stampedFrom, settledSide}
@@ -23,7 +23,7 @@ use Rattle.soundness.proofs.LawsApart.{Beyond}
 use Rattle.soundness.proofs.LawsInsert.{added-insert, added-sum, added-all, added-new, added-old, ranked-insert}
 use Rattle.soundness.proofs.LawsNumbers.{oneIf, fewer-distinct}
 use Rattle.rules.proofs.LawsRank.{earlier-place, earlier-transitive, ranked-first, ranked-rest, ranked-more}
-use Rattle.soundness.proofs.LawsSides.{InRange, bothSides, Sides, sides-sum}
+use Rattle.soundness.proofs.LawsSides.{Ranged, shownIn, InRange, bothSides, SidesBy, sides-sum}
 
 -- ── What is counted ──
 
@@ -197,50 +197,75 @@ module _ (n : Number) (buy : Bool) (fate : Resting → Fate) where
 
 -- ── A side ──
 
--- the price of an order keeps its side sound: it is in range, and apart from the opposite side
-pub record SoundPrice (buy : Bool) (opposite : List Resting) (h : Resting) : Type 0 where
-  pub priced : priceInRange (h .price) ≡ true
-  pub isApart : Beyond buy (h .price) opposite
+-- what is left of an order by its fate keeps its side sound: it shows a share; and whoever is set anew has a price in range, apart from the
+-- opposite side, and a Max Floor in range
+pub record SetSound (buy : Bool) (opposite : List Resting) (new : Resting) : Type 0 where
+  pub priced : priceInRange (new .price) ≡ true
+  pub isApart : Beyond buy (new .price) opposite
+  pub shows : 1 ≤ new .shares .0
+  pub floored : floorInRange new ≡ true
 
--- so does that of whoever a fate sets anew, of orders that are apart from it
-abbrev pub SoundPrices : Bool → (Resting → Fate) → Type 0
-SoundPrices buy fate = (opposite : List Resting) (h : Resting) → Beyond buy (h .price) opposite → IfSet (SoundPrice buy opposite) (fate h)
+abbrev pub LeftSound : Bool → List Resting → Resting → Fate → Type 0
+LeftSound buy opposite h Stays = 1 ≤ h .shares .0
+LeftSound buy opposite h (IsCancelled reason) = Unit {0}
+LeftSound buy opposite h (IsSet new) = SetSound buy opposite new
+
+-- a fate keeps every side sound whose orders have a share each, as it is counted
+abbrev pub SoundFates : (Resting → ℕ) → Number → Bool → (Resting → Fate) → Type 0
+SoundFates count last buy fate =
+    (opposite : List Resting) (h : Resting) → Ranged count last h → Beyond buy (h .price) opposite → LeftSound buy opposite h (fate h)
 
 -- a side that command n settles, whose stamps are all earlier, from place k on
-pub sides-settled : {buy : Bool} {own opposite : List Resting} (n : Number) (k : ℕ) (fate : Resting → Fate)
-    → ((h : Resting) → IfSet (SameOrder h) (fate h)) → SoundPrices buy fate → Earlier (stamp n k) own → Sides buy n own opposite
-    → Sides buy n (settledSide n k buy fate own) opposite
-sides-settled {buy = buy} {own = own} {opposite = opposite} n k fate same prices before sides =
+pub sides-settled : {mine theirs : Resting → ℕ} {buy : Bool} {own opposite : List Resting} (n : Number) (k : ℕ) (fate : Resting → Fate)
+    → ((h : Resting) → IfSet (SameOrder h) (fate h)) → SoundFates mine n buy fate → Earlier (stamp n k) own → SidesBy mine theirs buy n own opposite
+    → SidesBy shownIn theirs buy n (settledSide n k buy fate own) opposite
+sides-settled {mine = mine} {buy = buy} {own = own} {opposite = opposite} n k fate same sound before sides =
     let after = settledSide n k buy fate own in
     record {
       ownFits = omega (arith, settled-at-most (λ (h : Resting). 1) (λ g h e. refl) fate same n k buy own, one-each own, one-each after, sides .ownFits);
       oppositeFits = sides .oppositeFits;
       ownRanked = settled-ranked n buy fate k own before (sides .ownRanked);
       oppositeRanked = sides .oppositeRanked;
-      ownInRange = settled-are {P = InRange n} fate n k buy own (λ h p e. one-of-all (sides .ownInRange) p) (λ h new p e. set-in-range p e);
+      ownInRange = settled-are {P = InRange n} fate n k buy own (λ h p e. stays-in-range p e) (λ h new p e. set-in-range p e);
       oppositeInRange = sides .oppositeInRange;
       once = fewer-distinct (bothSides buy own opposite) (bothSides buy after opposite) fewer (sides .once);
       isApart =
           settled-are {P = λ (h : Resting). Beyond buy (h .price) opposite} fate n k buy own
-          (λ h p e. one-of-all (sides .isApart) p) (λ h new p e. sound-price p e .isApart);
+          (λ h p e. one-of-all (sides .isApart) p) (λ h new p e. left p e .isApart);
     }
   where
-    sound-price : {h new : Resting} → OneOf h own → fate h ≡ IsSet new → SoundPrice buy opposite new
-    sound-price {h = h} p e = subst (IfSet (SoundPrice buy opposite)) e (prices opposite h (one-of-all (sides .isApart) p))
+    left : {h : Resting} {f : Fate} → OneOf h own → fate h ≡ f → LeftSound buy opposite h f
+    left {h = h} p e = subst (LeftSound buy opposite h) e (sound opposite h (one-of-all (sides .ownInRange) p) (one-of-all (sides .isApart) p))
 
-    set-in-range : {j : ℕ} {h new : Resting} → OneOf h own → fate h ≡ IsSet new → InRange n (stampedAs (stamp n j) new)
-    set-in-range {h = h} p e =
-        let r : InRange n h = one-of-all (sides .ownInRange) p in
-        let i = subst (IfSet (SameOrder h)) e (same h) in
-        rw (i .number, i .shares) (record {
+    stays-in-range : {h : Resting} → OneOf h own → fate h ≡ Stays → InRange n h
+    stays-in-range {h = h} p e =
+        let r : Ranged mine n h = one-of-all (sides .ownInRange) p in
+        record {
           fromOne = r .fromOne;
           upToLast = r .upToLast;
-          priced = sound-price p e .priced;
-          holding = r .holding;
+          priced = r .priced;
+          holding = left p e;
           atMost = r .atMost;
-          stampedFrom = r .upToLast;
+          stampedFrom = r .stampedFrom;
+          stampedUpTo = r .stampedUpTo;
+          floored = r .floored;
+        }
+
+    set-in-range : {j : ℕ} {h new : Resting} → OneOf h own → fate h ≡ IsSet new → InRange n (stampedAs (stamp n j) new)
+    set-in-range {h = h} {new = new} p e =
+        let r : Ranged mine n h = one-of-all (sides .ownInRange) p in
+        let i = subst (IfSet (SameOrder h)) e (same h) in
+        let numbered : new .number .0 ≡ h .number .0 = ap (λ (m : Number). m .0) (i .number) in
+        record {
+          fromOne = omega (arith, numbered, r .fromOne);
+          upToLast = omega (arith, numbered, r .upToLast);
+          priced = left p e .priced;
+          holding = left p e .shows;
+          atMost = omega (arith, i .left, r .atMost);
+          stampedFrom = omega (arith, numbered, r .upToLast);
           stampedUpTo = omega arith;
-        })
+          floored = left p e .floored;
+        }
 
     fewer : (m : ℕ) → sumOf (oneIf m) (bothSides buy (settledSide n k buy fate own) opposite) ≤ sumOf (oneIf m) (bothSides buy own opposite)
     fewer m =

@@ -1,5 +1,5 @@
 -- The resting orders of a sound book, seen from the side of an order: its own side and the opposite one. What is thinned, and what
--- gets one order more, stays sound. Assumes nothing.
+-- gets one order more, stays sound, but that an order may show nothing until it is refilled (02, W4). Assumes nothing.
 use Prim.Native.Nat.{ℕ, _+_, _≤_, _<_}
 use mathlib.Core.Bool.{Bool, true, false, not, _&&_, _||_}
 use mathlib.Core.List.{List, [], _∷_, _++_}
@@ -13,48 +13,62 @@ use Rattle.basics.specs.Choice.{if_then_else_}
 use Rattle.basics.specs.Lists.{every, any, distinct, sumOf, All, none, also}
 use Rattle.basics.proofs.LawsChoice.{and-left, and-right}
 use Rattle.kinds.specs.declared.Number.{Number}
-use Rattle.kinds.specs.Kinds.{mostShares, priceInRange, sharesInRange}
-use Rattle.kinds.proofs.LawsRanges.{shares-fewest, shares-most, shares-ranged}
+use Rattle.kinds.specs.Kinds.{mostShares, shares, priceInRange, sharesInRange}
+use Rattle.kinds.proofs.LawsRanges.{shares-most, shares-ranged}
 use Rattle.rules.specs.declared.Held.{Held}
 use Rattle.rules.specs.declared.Resting.{Resting}
 use Rattle.rules.specs.declared.Stamp.{Stamp}
-use Rattle.rules.specs.Book.{numbers, Book, placesASide, opening, closing, earlier, inRankOrder, stampInRange, restingInRange, awayInRange}
+use Rattle.rules.specs.Book.{sharesLeft, numbers, Book, placesASide, opening, closing, earlier, inRankOrder, stampInRange, floorInRange, restingInRange, awayInRange}
 use Rattle.rules.specs.Settling.{ownSide, oppositeSide, insert}
-use Rattle.rules.specs.Working.{withShares}
-use Rattle.soundness.proofs.LawsApart.{Beyond, Apart, apart-all, apart-best, apart-flip, apart-thinned}
+use Rattle.rules.proofs.LawsFloors.{lowered-floored}
+use Rattle.soundness.proofs.LawsApart.{Beyond, Apart, apart-all, apart-best, apart-flip}
 use Rattle.soundness.proofs.LawsInsert.{Added, added-insert, added-before, added-behind, added-length, added-all, added-distinct, ranked-insert}
+use Rattle.soundness.proofs.LawsNumbers.{oneIf, fewer-distinct}
 use Rattle.rules.proofs.LawsRank.{earlier-command}
 use Rattle.soundness.proofs.LawsSound.{Sound}
-use Rattle.soundness.proofs.LawsThinned.{Thinned, thinned-both, thinned-length, thinned-all, thinned-ranked, thinned-distinct}
+use Rattle.soundness.proofs.LawsThinned.{withParts, Thinned, Standing, thinned-length, thinned-all, thinned-ranked, thinned-times}
 
 -- ── Fields in range ──
 
--- "fields in range; numbers from 1 to the last number"
-pub record InRange (last : Number) (h : Resting) : Type 0 where
+-- "fields in range; numbers from 1 to the last number", of an order that has a share, as it is counted
+pub record Ranged (count : Resting → ℕ) (last : Number) (h : Resting) : Type 0 where
   pub fromOne : 1 ≤ h .number .0
   pub upToLast : h .number .0 ≤ last .0
   pub priced : priceInRange (h .price) ≡ true
-  pub holding : 1 ≤ h .shares .0
-  pub atMost : h .shares .0 ≤ mostShares
+  pub holding : 1 ≤ count h
+  pub atMost : sharesLeft h ≤ mostShares
   pub stampedFrom : h .number .0 ≤ h .stamp .command .0
   pub stampedUpTo : h .stamp .command .0 ≤ last .0
+  pub floored : floorInRange h ≡ true
+
+-- an order of a sound book shows a share; between a walk and the refills it may have one in reserve alone
+abbrev pub shownIn : Resting → ℕ
+shownIn h = h .shares .0
+
+abbrev pub InRange : Number → Resting → Type 0
+InRange last h = Ranged shownIn last h
 
 range-is : (last : Number) (h : Resting) → restingInRange last h ≡ true → InRange last h
 range-is last h e =
     let numbered = leb 1 (h .number .0) && leb (h .number .0) (last .0) in
-    let g = and-left (numbered && priceInRange (h .price) && sharesInRange (h .shares)) (stampInRange last h) e in
-    let t = and-right (numbered && priceInRange (h .price) && sharesInRange (h .shares)) (stampInRange last h) e in
-    let f = and-left (numbered && priceInRange (h .price)) (sharesInRange (h .shares)) g in
-    let s = and-right (numbered && priceInRange (h .price)) (sharesInRange (h .shares)) g in
+    let stamped = numbered && priceInRange (h .price) && stampInRange last h in
+    let shown = stamped && leb 1 (h .shares .0) in
+    let counted = shown && sharesInRange (shares (sharesLeft h)) in
+    let byCounted = and-left counted (floorInRange h) e in
+    let byShown = and-left shown (sharesInRange (shares (sharesLeft h))) byCounted in
+    let byStamped = and-left stamped (leb 1 (h .shares .0)) byShown in
+    let t = and-right (numbered && priceInRange (h .price)) (stampInRange last h) byStamped in
+    let f = and-left (numbered && priceInRange (h .price)) (stampInRange last h) byStamped in
     let n = and-left numbered (priceInRange (h .price)) f in
     record {
       fromOne = leb-true 1 (h .number .0) (and-left (leb 1 (h .number .0)) (leb (h .number .0) (last .0)) n);
       upToLast = leb-true (h .number .0) (last .0) (and-right (leb 1 (h .number .0)) (leb (h .number .0) (last .0)) n);
       priced = and-right numbered (priceInRange (h .price)) f;
-      holding = shares-fewest (h .shares) s;
-      atMost = shares-most (h .shares) s;
+      holding = leb-true 1 (h .shares .0) (and-right stamped (leb 1 (h .shares .0)) byShown);
+      atMost = shares-most (shares (sharesLeft h)) (and-right shown (sharesInRange (shares (sharesLeft h))) byCounted);
       stampedFrom = leb-true (h .number .0) (h .stamp .command .0) (and-left (leb (h .number .0) (h .stamp .command .0)) (leb (h .stamp .command .0) (last .0)) t);
       stampedUpTo = leb-true (h .stamp .command .0) (last .0) (and-right (leb (h .number .0) (h .stamp .command .0)) (leb (h .stamp .command .0) (last .0)) t);
+      floored = and-right counted (floorInRange h) e;
     }
 
 is-range : (last : Number) (h : Resting) → InRange last h → restingInRange last h ≡ true
@@ -63,10 +77,12 @@ is-range last h r =
       le-leb 1 (h .number .0) (r .fromOne),
       le-leb (h .number .0) (last .0) (r .upToLast),
       r .priced,
-      shares-ranged (h .shares) (r .holding) (r .atMost),
       le-leb (h .number .0) (h .stamp .command .0) (r .stampedFrom),
       le-leb (h .stamp .command .0) (last .0) (r .stampedUpTo),
+      le-leb 1 (h .shares .0) (r .holding),
+      shares-ranged (shares (sharesLeft h)) (omega (arith, r .holding)) (r .atMost),
     )
+    (r .floored)
 
 ranges-first : (last : Number) (s u : List Resting) → every (restingInRange last) (s ++ u) ≡ true → All (InRange last) s
 unfolding every
@@ -97,37 +113,59 @@ pub sides-sum : (count : Resting → ℕ) (buy : Bool) (own opposite : List Rest
 sides-sum count true own opposite = sumOf-append count own opposite
 sides-sum count false own opposite = omega (arith, sumOf-append count opposite own)
 
-pub record Sides (buy : Bool) (last : Number) (own opposite : List Resting) : Type 0 where
+-- both sides, each order of which has a share, as it is counted on its side
+pub record SidesBy (mine theirs : Resting → ℕ) (buy : Bool) (last : Number) (own opposite : List Resting) : Type 0 where
   pub ownFits : length own ≤ placesASide
   pub oppositeFits : length opposite ≤ placesASide
   pub ownRanked : inRankOrder buy own ≡ true
   pub oppositeRanked : inRankOrder (not buy) opposite ≡ true
-  pub ownInRange : All (InRange last) own
-  pub oppositeInRange : All (InRange last) opposite
+  pub ownInRange : All (Ranged mine last) own
+  pub oppositeInRange : All (Ranged theirs last) opposite
   pub once : distinct (numbers (bothSides buy own opposite)) ≡ true
   pub isApart : Apart buy own opposite
 
+abbrev pub Sides : Bool → Number → List Resting → List Resting → Type 0
+Sides buy last own opposite = SidesBy shownIn shownIn buy last own opposite
+
 -- the same from the other side
-pub sides-flip : (buy : Bool) {last : Number} {own opposite : List Resting} → Sides buy last own opposite → Sides (not buy) last opposite own
-sides-flip true {own = own} {opposite = opposite} s = record {
+pub sides-flip : (buy : Bool) {mine theirs : Resting → ℕ} {last : Number} {own opposite : List Resting} → SidesBy mine theirs buy last own opposite
+    → SidesBy theirs mine (not buy) last opposite own
+sides-flip buy {own = own} {opposite = opposite} s = record {
   ownFits = s .oppositeFits;
   oppositeFits = s .ownFits;
   ownRanked = s .oppositeRanked;
-  oppositeRanked = s .ownRanked;
+  oppositeRanked = ranked buy (s .ownRanked);
   ownInRange = s .oppositeInRange;
   oppositeInRange = s .ownInRange;
-  once = s .once;
-  isApart = apart-flip true own opposite (s .isApart);
+  once = together buy (s .once);
+  isApart = apart-flip buy own opposite (s .isApart);
 }
-sides-flip false {own = own} {opposite = opposite} s = record {
-  ownFits = s .oppositeFits;
-  oppositeFits = s .ownFits;
-  ownRanked = s .oppositeRanked;
-  oppositeRanked = s .ownRanked;
-  ownInRange = s .oppositeInRange;
-  oppositeInRange = s .ownInRange;
-  once = s .once;
-  isApart = apart-flip false own opposite (s .isApart);
+  where
+    ranked : (buy : Bool) → inRankOrder buy own ≡ true → inRankOrder (not (not buy)) own ≡ true
+    ranked true r = r
+    ranked false r = r
+
+    together : (buy : Bool) → distinct (numbers (bothSides buy own opposite)) ≡ true → distinct (numbers (bothSides (not buy) opposite own)) ≡ true
+    together true d = d
+    together false d = d
+
+pub sides-back : (buy : Bool) {mine theirs : Resting → ℕ} {last : Number} {own opposite : List Resting} → SidesBy theirs mine (not buy) last opposite own
+    → SidesBy mine theirs buy last own opposite
+sides-back true s = sides-flip false s
+sides-back false s = sides-flip true s
+
+-- no orders at all
+pub sides-none : (last : Number) → Sides true last [] []
+unfolding inRankOrder distinct
+sides-none last = record {
+  ownFits = omega arith;
+  oppositeFits = omega arith;
+  ownRanked = refl;
+  oppositeRanked = refl;
+  ownInRange = none;
+  oppositeInRange = none;
+  once = refl;
+  isApart = none;
 }
 
 sides-of-buys : (b : Book) → Sound b → Sides true (b .held .last) (b .buys) (b .sells)
@@ -173,24 +211,22 @@ module _ (h : Held) (opened : leb opening (h .time) ≡ true) (inTime : leb (h .
 
 -- ── What keeps them ──
 
-pub all-holding : (last : Number) {s : List Resting} → All (InRange last) s → All (λ (h : Resting). 1 ≤ h .shares .0) s
-all-holding last a = all-alike (λ h r. r .holding) a
+pub all-holding : (last : Number) {s : List Resting} → All (InRange last) s → Standing s
+all-holding last a = all-alike (λ h r. omega (arith, r .holding)) a
 
--- lower shares stay in range
-fewer : {last : Number} (h : Resting) (left : ℕ) → 1 ≤ left → left ≤ h .shares .0 → InRange last h → InRange last (withShares left h)
-fewer h left l m r = record {
+-- lower shares stay in range, but for what is shown
+fewer : {count : Resting → ℕ} {last : Number} (h : Resting) (shown reserve : ℕ) → shown ≤ h .shares .0 → reserve ≤ h .reserve .0 → 1 ≤ shown + reserve
+    → Ranged count last h → Ranged sharesLeft last (withParts shown reserve h)
+fewer h shown reserve l m some r = record {
   fromOne = r .fromOne;
   upToLast = r .upToLast;
   priced = r .priced;
-  holding = l;
+  holding = some;
   atMost = omega (arith, r .atMost);
   stampedFrom = r .stampedFrom;
   stampedUpTo = r .stampedUpTo;
+  floored = lowered-floored h (r .floored) (h .price) (h .stamp) shown reserve l m;
 }
-
-thinned-sides : (buy : Bool) {own own′ opposite opposite′ : List Resting} → Thinned own own′ → Thinned opposite opposite′ → Thinned (bothSides buy own opposite) (bothSides buy own′ opposite′)
-thinned-sides true s t = thinned-both s t
-thinned-sides false s t = thinned-both t s
 
 added-sides : (buy : Bool) {x : Resting} {own own′ : List Resting} (opposite : List Resting) → Added x own own′ → Added x (bothSides buy own opposite) (bothSides buy own′ opposite)
 added-sides true opposite a = added-before opposite a
@@ -201,12 +237,12 @@ all-sides true a b = all-both a b
 all-sides false a b = all-both b a
 
 -- a number above the last is new
-new-number : (n : ℕ) {last : Number} {s : List Resting} → last .0 < n → All (InRange last) s → any (eqb n) (numbers s) ≡ false
+new-number : (n : ℕ) {last : Number} {s : List Resting} → last .0 < n → All (λ (h : Resting). h .number .0 ≤ last .0) s → any (eqb n) (numbers s) ≡ false
 unfolding any
 new-number n l none = refl
-new-number n l (also {x = h} r a) = rw (ne-eqb n (h .number .0) (λ (e : n ≡ h .number .0). omega (arith, r .upToLast))) (new-number n l a)
+new-number n l (also {x = h} r a) = rw (ne-eqb n (h .number .0) (λ (e : n ≡ h .number .0). omega (arith, r))) (new-number n l a)
 
-later-range : {last next : Number} → last .0 ≤ next .0 → (h : Resting) → InRange last h → InRange next h
+later-range : {count : Resting → ℕ} {last next : Number} → last .0 ≤ next .0 → (h : Resting) → Ranged count last h → Ranged count next h
 later-range l h r = record {
   fromOne = r .fromOne;
   upToLast = omega (arith, r .upToLast);
@@ -215,26 +251,30 @@ later-range l h r = record {
   atMost = r .atMost;
   stampedFrom = r .stampedFrom;
   stampedUpTo = omega (arith, r .stampedUpTo);
+  floored = r .floored;
 }
 
 -- a stamp of a command above the last is later than all
-pub later-stamp : {last : Number} {s : List Resting} (t : Stamp) → last .0 < t .command .0 → All (InRange last) s → All (λ (h : Resting). earlier (h .stamp) t ≡ true) s
+pub later-stamp : {count : Resting → ℕ} {last : Number} {s : List Resting} (t : Stamp) → last .0 < t .command .0 → All (Ranged count last) s
+    → All (λ (h : Resting). earlier (h .stamp) t ≡ true) s
 later-stamp t l a = all-alike (λ h r. earlier-command (h .stamp) t (omega (arith, r .stampedUpTo))) a
 
-module _ {buy : Bool} {last : Number} {own opposite : List Resting} (sides : Sides buy last own opposite) where
-  pub sides-thinned : {own′ opposite′ : List Resting} → Thinned own own′ → Thinned opposite opposite′ → Sides buy last own′ opposite′
-  sides-thinned s t = record {
-    ownFits = omega (arith, thinned-length s, sides .ownFits);
+module _ {mine theirs : Resting → ℕ} {buy : Bool} {last : Number} {own opposite : List Resting} (sides : SidesBy mine theirs buy last own opposite) where
+  pub sides-thinned : {opposite′ : List Resting} → Thinned opposite opposite′ → SidesBy mine sharesLeft buy last own opposite′
+  sides-thinned {opposite′ = opposite′} t = record {
+    ownFits = sides .ownFits;
     oppositeFits = omega (arith, thinned-length t, sides .oppositeFits);
-    ownRanked = thinned-ranked buy s (sides .ownRanked);
+    ownRanked = sides .ownRanked;
     oppositeRanked = thinned-ranked (not buy) t (sides .oppositeRanked);
-    ownInRange = thinned-all fewer s (sides .ownInRange);
+    ownInRange = sides .ownInRange;
     oppositeInRange = thinned-all fewer t (sides .oppositeInRange);
-    once = thinned-distinct (thinned-sides buy s t) (sides .once);
-    isApart = apart-thinned buy s t (sides .isApart);
+    once =
+        fewer-distinct (bothSides buy own opposite) (bothSides buy own opposite′)
+        (λ n. omega (arith, sides-sum (oneIf n) buy own opposite, sides-sum (oneIf n) buy own opposite′, thinned-times n t)) (sides .once);
+    isApart = all-alike (λ o p. thinned-all (λ h shown reserve l m some q. q) t p) (sides .isApart);
   }
 
-  pub sides-later : {next : Number} → last .0 ≤ next .0 → Sides buy next own opposite
+  pub sides-later : {next : Number} → last .0 ≤ next .0 → SidesBy mine theirs buy next own opposite
   sides-later l = record {
     ownFits = sides .ownFits;
     oppositeFits = sides .oppositeFits;
@@ -247,11 +287,12 @@ module _ {buy : Bool} {last : Number} {own opposite : List Resting} (sides : Sid
   }
 
   -- a new order rests: the next number, on a side that has room, apart from the opposite side
-  pub sides-added : (x : Resting) → last .0 < x .number .0 → InRange (x .number) x → length own < placesASide → Beyond buy (x .price) opposite
-      → Sides buy (x .number) (insert buy x own) opposite
+  pub sides-added : (x : Resting) → last .0 < x .number .0 → Ranged mine (x .number) x → length own < placesASide → Beyond buy (x .price) opposite
+      → SidesBy mine theirs buy (x .number) (insert buy x own) opposite
   sides-added x above range room apart =
       let added = added-insert buy x own in
       let l : last .0 ≤ x .number .0 = omega arith in
+      let numbered = all-sides buy (all-alike (λ h r. r .upToLast) (sides .ownInRange)) (all-alike (λ h r. r .upToLast) (sides .oppositeInRange)) in
       record {
         ownFits = omega (arith, added-length added);
         oppositeFits = sides .oppositeFits;
@@ -259,6 +300,6 @@ module _ {buy : Bool} {last : Number} {own opposite : List Resting} (sides : Sid
         oppositeRanked = sides .oppositeRanked;
         ownInRange = added-all range added (all-alike (later-range l) (sides .ownInRange));
         oppositeInRange = all-alike (later-range l) (sides .oppositeInRange);
-        once = added-distinct (added-sides buy opposite added) (new-number (x .number .0) above (all-sides buy (sides .ownInRange) (sides .oppositeInRange))) (sides .once);
+        once = added-distinct (added-sides buy opposite added) (new-number (x .number .0) above numbered) (sides .once);
         isApart = added-all apart added (sides .isApart);
       }

@@ -1,8 +1,9 @@
--- Executions do nothing to resting orders but take some away and lower the shares of others. Whatever does no more keeps what a
--- sound book says of them: rank, ranges, numbers, the distance between the sides. Assumes nothing.
-use Prim.Native.Nat.{ℕ, _-_, _≤_}
+-- Executions do nothing to resting orders but take some away and lower the shares of others, of the shown part and of the reserve. Whatever
+-- does no more keeps what a sound book says of them: rank, numbers, the distance between the sides, and ranges, but that an order may show
+-- nothing for a while. Assumes nothing.
+use Prim.Native.Nat.{ℕ, _+_, _-_, _≤_}
 use mathlib.Core.Bool.{Bool, true, false}
-use mathlib.Core.List.{List, [], _∷_, _++_}
+use mathlib.Core.List.{List, [], _∷_}
 use mathlib.Core.Logic.{⊎-elim}
 use mathlib.Core.Path.{_≡_, refl, sym, _∙_}
 use lib.Dec.{eqb}
@@ -10,86 +11,93 @@ use lib.ListN.{length}
 use native.Mathlib.Omega.{arith}
 use borrow.Author.Tests.{eqb-false}
 use Rattle.basics.proofs.LawsLists.{all-alike}
-use Rattle.basics.specs.Lists.{distinct, sumOf, All, none, also}
+use Rattle.basics.specs.Lists.{sumOf, All, none, also}
 use Rattle.basics.proofs.LawsChoice.{holds-or-not}
-use Rattle.kinds.specs.Kinds.{shares}
 use Rattle.rules.specs.declared.Resting.{Resting}
-use Rattle.rules.specs.Book.{numbers, ranksBefore, inRankOrder}
-use Rattle.rules.specs.Working.{withShares, after}
-use Rattle.soundness.proofs.LawsNumbers.{timesIn, fewer-distinct}
+use Rattle.rules.specs.Book.{sharesLeft, ranksBefore, inRankOrder}
+use Rattle.rules.specs.Holdings.{holdings, takenOf, reducedBy, keeping, after}
+use Rattle.rules.specs.Settling.{amended}
+use Rattle.soundness.proofs.LawsNumbers.{timesIn}
 use Rattle.rules.proofs.LawsRank.{ranked-first, ranked-rest, ranked-more}
+
+-- an order of which so much is left, of its shown part and of its reserve
+abbrev pub withParts : ℕ → ℕ → Resting → Resting
+withParts shown reserve h = amended (h .price) (h .stamp) shown reserve h
 
 -- orders of which some are taken away and others keep some of their shares
 pub data Thinned : List Resting → List Resting → Type 0 where
   empty : Thinned [] []
   away : {h : Resting} {s r : List Resting} → Thinned s r → Thinned (h ∷ s) r
-  keeps : {h : Resting} {s r : List Resting} (left : ℕ) → 1 ≤ left → left ≤ h .shares .0 → Thinned s r → Thinned (h ∷ s) (withShares left h ∷ r)
+  keeps : {h : Resting} {s r : List Resting} (shown reserve : ℕ) → shown ≤ h .shares .0 → reserve ≤ h .reserve .0 → 1 ≤ shown + reserve → Thinned s r
+      → Thinned (h ∷ s) (withParts shown reserve h ∷ r)
+
+-- orders that have a share each
+abbrev pub Standing : List Resting → Type 0
+Standing s = All (λ (h : Resting). 1 ≤ sharesLeft h) s
 
 -- ── What thins ──
 
-pub thinned-same : {s : List Resting} → All (λ (h : Resting). 1 ≤ h .shares .0) s → Thinned s s
+pub thinned-same : {s : List Resting} → Standing s → Thinned s s
 thinned-same none = empty
-thinned-same (also {x = h} p a) = keeps {h = h} (h .shares .0) p (omega arith) (thinned-same a)
+thinned-same (also {x = h} p a) = keeps {h = h} (h .shares .0) (h .reserve .0) (omega arith) (omega arith) p (thinned-same a)
 
 pub thinned-none : (s : List Resting) → Thinned s []
 thinned-none [] = empty
 thinned-none (h ∷ s) = away (thinned-none s)
 
-pub thinned-after : {s : List Resting} (ts : List ℕ) → All (λ (h : Resting). 1 ≤ h .shares .0) s → Thinned s (after s ts)
-unfolding after
-thinned-after ts none = empty
-thinned-after [] (also {x = h} {s = s} p a) = thinned-same (also p a)
-thinned-after (t ∷ ts) (also {x = h} {s = s} p a) =
+thinned-keeping : {s : List Resting} (ts rs : List ℕ) → Standing s → Thinned s (keeping s ts rs)
+unfolding keeping
+thinned-keeping ts rs none = empty
+thinned-keeping [] rs (also p a) = thinned-same (also p a)
+thinned-keeping (t ∷ ts) [] (also p a) = thinned-same (also p a)
+thinned-keeping (t ∷ ts) (r ∷ rs) (also {x = h} {s = s} p a) =
     ⊎-elim
-    (λ (e : eqb (h .shares .0 - t) 0 ≡ true). rw e (away (thinned-after ts a)))
-    (λ (e : eqb (h .shares .0 - t) 0 ≡ false).
-    let n = eqb-false (h .shares .0 - t) 0 e in
-    rw e (keeps {h = h} (h .shares .0 - t) (omega (arith, n)) (omega arith) (thinned-after ts a)))
-    (holds-or-not (eqb (h .shares .0 - t) 0))
+    (λ (e : eqb (sharesLeft (reducedBy t r h)) 0 ≡ true). rw e (away (thinned-keeping ts rs a)))
+    (λ (e : eqb (sharesLeft (reducedBy t r h)) 0 ≡ false).
+    let n = eqb-false (sharesLeft (reducedBy t r h)) 0 e in
+    rw e (keeps {h = h} (h .shares .0 - t) (h .reserve .0 - r) (omega arith) (omega arith) (omega (arith, n)) (thinned-keeping ts rs a)))
+    (holds-or-not (eqb (sharesLeft (reducedBy t r h)) 0))
 
-pub thinned-both : {s r u v : List Resting} → Thinned s r → Thinned u v → Thinned (s ++ u) (r ++ v)
-thinned-both empty b = b
-thinned-both (away a) b = away (thinned-both a b)
-thinned-both (keeps left l m a) b = keeps left l m (thinned-both a b)
+pub thinned-after : {s : List Resting} (ts : List ℕ) → Standing s → Thinned s (after s ts)
+unfolding after
+thinned-after {s = s} ts a = thinned-keeping (takenOf false (holdings s) ts) (takenOf true (holdings s) ts) a
 
 -- ── What thinning keeps ──
 
 pub thinned-length : {s r : List Resting} → Thinned s r → length r ≤ length s
 thinned-length empty = omega arith
 thinned-length (away a) = omega (arith, thinned-length a)
-thinned-length (keeps left l m a) = omega (arith, thinned-length a)
+thinned-length (keeps shown reserve l m o a) = omega (arith, thinned-length a)
 
--- every claim that lower shares do not disturb
-pub thinned-all : {P : Resting → Type 0} → ((h : Resting) (left : ℕ) → 1 ≤ left → left ≤ h .shares .0 → P h → P (withShares left h))
-    → {s r : List Resting} → Thinned s r → All P s → All P r
+-- what lower shares make of a claim
+pub thinned-all : {P Q : Resting → Type 0}
+    → ((h : Resting) (shown reserve : ℕ) → shown ≤ h .shares .0 → reserve ≤ h .reserve .0 → 1 ≤ shown + reserve → P h → Q (withParts shown reserve h))
+    → {s r : List Resting} → Thinned s r → All P s → All Q r
 thinned-all f empty none = none
 thinned-all f (away a) (also p ps) = thinned-all f a ps
-thinned-all f (keeps {h = h} left l m a) (also p ps) = also (f h left l m p) (thinned-all f a ps)
+thinned-all f (keeps {h = h} shown reserve l m o a) (also p ps) = also (f h shown reserve l m o p) (thinned-all f a ps)
 
 -- rank goes by what thinning leaves alone
-same-rank : (buy : Bool) (x y : Resting) (left : ℕ) → ranksBefore buy x y ≡ ranksBefore buy x (withShares left y)
+same-rank : (buy : Bool) (x y : Resting) (shown reserve : ℕ) → ranksBefore buy x y ≡ ranksBefore buy x (withParts shown reserve y)
 unfolding ranksBefore
-same-rank buy x y left = refl
+same-rank buy x y shown reserve = refl
 
-same-rank-first : (buy : Bool) (x y : Resting) (left : ℕ) → ranksBefore buy x y ≡ ranksBefore buy (withShares left x) y
+same-rank-first : (buy : Bool) (x y : Resting) (shown reserve : ℕ) → ranksBefore buy x y ≡ ranksBefore buy (withParts shown reserve x) y
 unfolding ranksBefore
-same-rank-first buy x y left = refl
+same-rank-first buy x y shown reserve = refl
 
 pub thinned-ranked : (buy : Bool) {s r : List Resting} → Thinned s r → inRankOrder buy s ≡ true → inRankOrder buy r ≡ true
 thinned-ranked buy empty o = o
 thinned-ranked buy (away {h = h} {s = s} a) o = thinned-ranked buy a (ranked-rest buy h s o)
-thinned-ranked buy (keeps {h = h} {s = s} {r = r} left l m a) o =
-    ranked-more buy (withShares left h) r
-    (all-alike (λ y p. sym (same-rank-first buy h y left) ∙ p)
-    (thinned-all {P = λ (y : Resting). ranksBefore buy h y ≡ true} (λ y k lo hi p. sym (same-rank buy h y k) ∙ p) a (ranked-first buy h s o)))
+thinned-ranked buy (keeps {h = h} {s = s} {r = r} shown reserve l m k a) o =
+    ranked-more buy (withParts shown reserve h) r
+    (all-alike (λ y p. sym (same-rank-first buy h y shown reserve) ∙ p)
+    (thinned-all {P = λ (y : Resting). ranksBefore buy h y ≡ true} (λ y i j lo hi some p. sym (same-rank buy h y i j) ∙ p) a (ranked-first buy h s o)))
     (thinned-ranked buy a (ranked-rest buy h s o))
 
 -- no number stands more often
-thinned-times : (n : ℕ) {s r : List Resting} → Thinned s r → timesIn n r ≤ timesIn n s
+pub thinned-times : (n : ℕ) {s r : List Resting} → Thinned s r → timesIn n r ≤ timesIn n s
 unfolding sumOf
 thinned-times n empty = omega arith
 thinned-times n (away a) = omega (arith, thinned-times n a)
-thinned-times n (keeps left l m a) = omega (arith, thinned-times n a)
-
-pub thinned-distinct : {s r : List Resting} → Thinned s r → distinct (numbers s) ≡ true → distinct (numbers r) ≡ true
-thinned-distinct {s = s} {r = r} a d = fewer-distinct s r (λ n. thinned-times n a) d
+thinned-times n (keeps shown reserve l m o a) = omega (arith, thinned-times n a)

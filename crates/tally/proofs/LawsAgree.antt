@@ -19,7 +19,7 @@ use Rattle.rules.specs.declared.Command.{Command}
 use Rattle.rules.specs.declared.Event.{Event}
 use Rattle.rules.specs.declared.Order.{Order}
 use Rattle.rules.specs.Book.{Book, fresh, sound}
-use Rattle.rules.specs.CommandLines.{Fitting, empty, fits, orderForm, formOf, numbersOf}
+use Rattle.rules.specs.CommandLines.{Fitting, formOf, numbersOf}
 use Rattle.rules.specs.Day.{cut, unendedLine, linesIn, printed, printedOf}
 use Rattle.rules.specs.EventLines.{FitsEvent, eventForm, eventNumbers, eventLine, eventLines, refusalKind, refusalForm, refusalLine}
 use Rattle.rules.specs.Step.{answerTo}
@@ -33,7 +33,7 @@ use Rattle.demands.proofs.LawsEventLines.{line-first}
 use Rattle.demands.proofs.LawsOnce.{refused-events}
 use Rattle.demands.proofs.LawsRun.{run-read}
 use Rattle.demands.proofs.LawsSums.{conserved}
-use Rattle.demands.proofs.LawsTold.{acting-fits}
+use Rattle.demands.proofs.LawsTold.{order-small, acting-fits}
 use Rattle.tally.specs.declared.Stop.the-variants as stop
 use Rattle.tally.specs.declared.Tally.{Tally}
 use Rattle.tally.specs.Tally.{noneCounted, executedShares, passedOver, added, goingOn, turn, tallyOf}
@@ -170,12 +170,12 @@ module _ (n : Number) where
 -- ── A day ──
 
 -- an order that was read has shares that four bytes hold
-order-small : {b : Book} {lines : List (List ℕ)} {stood : Book} {l : List ℕ} {c : Command} {o : Order} → Enters byLine b lines stood l c o → o .shares .0 ≤ largest
-order-small (later r) = order-small r
-order-small (now {x = l} {c = c} {o = o} t e f) = by-fields o (subst (λ (x : Body). Fitting (formOf x) (numbersOf x)) f (commandIn-is l c e .fits-are .body))
-  where
-    by-fields : (o : Order) → Fitting orderForm (numbersOf (body.Order o)) → o .shares .0 ≤ largest
-    by-fields o (fits w side i (fits x word j (fits y price p (fits z size q empty)))) = omega (arith, q)
+shares-small : {b : Book} {lines : List (List ℕ)} {stood : Book} {l : List ℕ} {c : Command} {o : Order} → Enters byLine b lines stood l c o → o .shares .0 ≤ largest
+shares-small (later r) = shares-small r
+shares-small (now {x = l} {c = c} {o = o} t e f) =
+    let fitting : Fitting (formOf (body.Order o)) (numbersOf (body.Order o)) =
+    subst (λ (x : Body). Fitting (formOf x) (numbersOf x)) f (commandIn-is l c e .fits-are .body) in
+    omega (arith, order-small (o .side) (o .word) (o .price .0) (o .shares .0) (o .carried) fitting .1)
 
 -- of a day from a fresh book the tally gives, for each accepted order, the sums of demand 3
 pub tally-agrees : (lines : List (List ℕ)) (stood : Book) (l : List ℕ) (c : Command) (o : Order) → Enters byLine fresh lines stood l c o
@@ -185,7 +185,7 @@ tally-agrees lines stood l c o r =
     let n = c .number in
     let es = eventsOf fresh lines in
     let sum = conserved lines stood l c o r in
-    let small = order-small r in
+    let small = shares-small r in
     let begins : Has noneCounted 0 0 = record { executed-are = refl; cancelled-are = refl; going = refl } in
     let has = run-has n fresh lines fresh-sound noneCounted 0 0 begins (omega (arith, sum, small)) (omega (arith, sum, small)) in
     rw (run-read lines) (has-same n (executedIn n es) (cancelledIn n es) (omega arith) (omega arith) has)

@@ -10,7 +10,7 @@ use native.Mathlib.Omega.{arith}
 use borrow.Author.Tests.{ne-eqb, eqb-true}
 use Rattle.basics.specs.Lists.{sumOf, All, none, also}
 use Rattle.basics.proofs.LawsChoice.{holds-or-not}
-use Rattle.basics.proofs.LawsLists.{all-alike, all-both}
+use Rattle.basics.proofs.LawsLists.{all-alike, all-both, one-of-all}
 use Rattle.kinds.specs.declared.Number.{Number}
 use Rattle.rules.specs.declared.Body.{Body}
 use Rattle.rules.specs.declared.Body.the-variants as body
@@ -22,16 +22,19 @@ use Rattle.rules.specs.declared.Reading.the-variants as reading
 use Rattle.rules.specs.declared.Resting.{Resting}
 use Rattle.rules.specs.Book.{Book, sound}
 use Rattle.rules.specs.CommandLines.{commandIn}
-use Rattle.rules.specs.Commands.{carriedOut, does}
+use Rattle.rules.specs.Commands.{does}
+use Rattle.rules.specs.Holdings.{Holding, executions, after}
 use Rattle.rules.specs.Settling.{oppositeSide}
 use Rattle.rules.specs.Step.{doneBy, answer, answerTo}
-use Rattle.rules.specs.Working.{buying, executions, takings, remainder, ending, accept}
-use Rattle.rules.proofs.LawsCommands.{does-tells}
+use Rattle.rules.specs.Working.{buying, takings, remainder, ending}
+use Rattle.rules.proofs.LawsCommands.{order-does, does-tells}
+use Rattle.rules.proofs.LawsWalkOrder.{holdings-there}
 use Rattle.soundness.proofs.LawsSides.{sides-of}
 use Rattle.soundness.proofs.LawsSound.{sound-is}
 use Rattle.demands.specs.Once.{commandNumber, acts}
 use Rattle.demands.specs.Told.{executedBy}
 use Rattle.demands.proofs.LawsFairly.{every-told, every-last}
+use Rattle.demands.proofs.LawsLinesTell.{every-refill}
 use Rattle.demands.proofs.LawsOnce.{next-acts}
 use Rattle.tally.specs.Tally.{executedShares}
 
@@ -62,7 +65,7 @@ same-sums n (also {x = e} two a) = rw (same-shares n e two, same-sums n a) refl
 
 -- ── The events of a line ──
 
-executions-two : (m : Number) {s : List Resting} (ts : List ℕ) → All (λ (h : Resting). m .0 ≢ h .number .0) s → All TwoParties (executions m s ts)
+executions-two : (m : Number) {s : List Holding} (ts : List ℕ) → All (λ (h : Holding). m .0 ≢ h .of .number .0) s → All TwoParties (executions m s ts)
 unfolding executions
 executions-two m ts none = none
 executions-two m [] (also d a) = none
@@ -74,18 +77,21 @@ executions-two m (t ∷ ts) (also d a) =
 
 -- the number of an accepted command is above that of every resting order
 does-two : (b : Book) (n : Number) (time : ℕ) → sound b ≡ true → n .0 ≡ b .held .last .0 + 1 → (c : Body) → All TwoParties (does n time c b .events)
-unfolding does carriedOut accept
 does-two b n time s next =
     does-tells n time b (λ (c : Body) (es : List Event). All TwoParties es) order-two (λ c. every-told (λ m k reason. tt) (λ m price k. tt) c b)
   where
     order-two : (o : Order) → All TwoParties (does n time (body.Order o) b .events)
     order-two o =
         let opposite = oppositeSide (buying o) b in
+        let away = b .held .away in
         let range = sides-of (buying o) b (sound-is b s) .oppositeInRange in
         let new : All (λ (h : Resting). n .0 ≢ h .number .0) opposite =
         all-alike (λ h r. λ (z : n .0 ≡ h .number .0). omega (arith, z, r .upToLast, next)) range in
-        all-both (executions-two n (takings o (b .held .away) opposite) new)
-        (every-last n (λ price k. tt) (λ k reason. tt) (remainder o (b .held .away) opposite) (ending o (b .held .away) opposite))
+        rw (order-does n time b o .1)
+        (all-both
+        (all-both (executions-two n (takings o away opposite) (all-alike (λ h p. one-of-all new p) (holdings-there opposite)))
+        (every-last n (λ price k. tt) (λ k reason. tt) (remainder o away opposite) (ending o away opposite)))
+        (every-refill (λ m price k. tt) (after opposite (takings o away opposite))))
 
 done-two : (b : Book) (r : Reading) → sound b ≡ true → commandNumber r ≡ b .held .last .0 + 1 → All TwoParties (doneBy r b .events)
 unfolding doneBy

@@ -14,10 +14,13 @@ use Rattle.basics.proofs.LawsChoice.{holds-or-not, lt-or-le}
 use Rattle.digits.specs.Digits.{digits}
 use Rattle.rules.specs.declared.Body.{Body}
 use Rattle.rules.specs.declared.Body.the-variants.{Order, Cancel, Quote, Close}
+use Rattle.rules.specs.declared.Carried.{Carried}
+use Rattle.rules.specs.declared.Carried.the-variants.{Nothing, MaxFloor}
 use Rattle.rules.specs.declared.Command.{Command}
 use Rattle.rules.specs.declared.Reading.{Reading}
 use Rattle.rules.specs.declared.Reading.the-variants as reading
-use Rattle.rules.specs.CommandLines.{kinds, lineFeed, headerForm, kindOf, formOf, numbersOf, digitsWithHeader, written, lineOf, commandIn}
+use Rattle.rules.specs.CommandLines.{kinds, lineFeed, headerForm, orderKindOf, orderFormOf, kindOf, formOf, numbersOf}
+use Rattle.rules.specs.CommandLines.{digitsWithHeader, written, line, lineOf, commandIn}
 use Rattle.rules.proofs.LawsLines.{commandIn-is}
 use Rattle.rules.proofs.LawsUnended.{Unended, written-unended}
 use Rattle.rules.proofs.LawsWriting.{length-lineOf}
@@ -66,8 +69,13 @@ second-tells : (c : Command) → digitsAfter (getD (lineOf c) 1 0) ≡ digitsWit
 unfolding lineOf written digits digitsAfter digitsFrom kinds
 second-tells c = by-body (c .body)
   where
+    by-carried : (x : Carried) (rest : List ℕ)
+        → digitsAfter (getD (written headerForm (orderKindOf x ∷ c .number .0 ∷ c .time ∷ []) ++ rest) 1 0) ≡ digitsWithHeader (orderFormOf x)
+    by-carried Nothing rest = refl
+    by-carried (MaxFloor floor) rest = refl
+
     by-body : (b : Body) → digitsAfter (getD (lineOf (record { number = c .number; time = c .time; body = b })) 1 0) ≡ digitsWithHeader (formOf b)
-    by-body (Order o) = refl
+    by-body (Order o) = by-carried (o .carried) (line (formOf (Order o)) (numbersOf (Order o)))
     by-body (Cancel n) = refl
     by-body (Quote a) = refl
     by-body Close = refl

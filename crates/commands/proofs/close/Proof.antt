@@ -1,5 +1,6 @@
 -- `commands::close` meets its contract: the lines of the buys, then those of the sells, and both sides empty. Assumes nothing.
 use Prim.Native.Nat.{ℕ, _+_, _-_, _*_, _≤_}
+use mathlib.Core.Bool.{true, false}
 use mathlib.Core.List.{List, [], _++_, map}
 use mathlib.Core.Path.{_≡_, refl, sym, ap, subst, _∙_}
 use lib.ListN.{length, take, drop, length-append, length-take, length-drop, drop-of-length-le}
@@ -14,6 +15,9 @@ use Rattle.rules.specs.declared.Body.the-variants as body
 use Rattle.rules.specs.declared.Event.{Event}
 use Rattle.rules.specs.declared.Resting.{Resting}
 use Rattle.rules.specs.Commands.{withAccepted, shut}
+use Rattle.kinds.specs.Kinds.{shares}
+use Rattle.rules.specs.Book.{sharesLeft}
+use Rattle.orders.proofs.LawsReady.{all-countable}
 use Rattle.rules.specs.EventLines.{eventLines, atClose}
 use Rattle.rules.proofs.LawsEvents.{cancelled-length, eventLines-append, lines-behind}
 use Rattle.side.specs.declared.tables.Head.{Head}
@@ -31,7 +35,7 @@ module _ (n : ℕ) (x : List ℕ) (t : List (List ℕ)) where
 
   events-length : length (eventLines events) ≡ 21 * n
   events-length =
-      lines-length (cancelledFor atClose) 21 (λ h. cancelled-length (h .number) (h .shares) atClose) (side n x t)
+      lines-length (cancelledFor atClose) 21 (λ h. cancelled-length (h .number) (shares (sharesLeft h)) atClose) (side n x t)
       ∙ ap (λ (k : ℕ). 21 * k) (length-side n x t)
 
   none-left : Holds n x t → Shows [] x t
@@ -40,7 +44,7 @@ module _ (n : ℕ) (x : List ℕ) (t : List (List ℕ)) where
       subst (λ (s : List Resting). Shows s x t) (drop-of-length-le (side n x t) most) (side-dropped n x t h n (omega arith))
 
 report-cancelled-requires : tie.Need-report-cancelled-requires
-report-cancelled-requires c κs = let p = c .before .before .pre in (p .0 .buys, omega (arith, p .0 .buys .fits, p .1))
+report-cancelled-requires c κs = let p = c .before .before .pre in (p .0 .buys, omega (arith, p .0 .buys .fits, p .1), all-countable true _ (p .0 .isSound))
 
 -- both sides have room for their lines
 room-behind : (c : tie.After-slice-known2) → c .before .before .report-cancelled .result + 21 * c .before .before .before .before .before .args .h .sells ≤ length (c .before .before .report-cancelled .last .1 .1 .1 .1 .0)
@@ -64,7 +68,7 @@ report-cancelled-requires-2 c κs =
     let r = k .before .before .report-cancelled in
     let out = r .last .1 .1 .1 .1 .0 in
     let g : 21 * k .before .before .before .before .before .args .h .sells ≤ length (take (length out - r .result) (drop (r .result) out)) = simp (length-take, length-drop) (omega (arith, room-behind k)) in
-    (k .before .before .before .before .before .pre .0 .sells, g)
+    (k .before .before .before .before .before .pre .0 .sells, g, all-countable false _ (k .before .before .before .before .before .pre .0 .isSound))
 
 add-t19 : tie.Need-add-t19
 add-t19 c =

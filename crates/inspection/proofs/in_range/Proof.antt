@@ -1,24 +1,28 @@
 -- `inspection::in_range` meets its contract. Assumes nothing.
 use mathlib.Core.Path.{_≡_}
 use borrow.Author.Needs.{needs}
-use Rattle.kinds.specs.Kinds.{priceInRange, sharesInRange}
+use Rattle.kinds.specs.Kinds.{shares, priceInRange, sharesInRange}
+use Rattle.rules.specs.Book.{sharesLeft, floorInRange}
 use Rattle.inspection.proofs.in_range.Statement.{statement}
 use Rattle.inspection.proofs.in_range.Tie as tie
 
 in-range-requires : tie.Need-in-range-requires
 in-range-requires c κs = search needs
 
-in-range-requires-2 : tie.Need-in-range-requires-2
-in-range-requires-2 c κs = search needs
+left-in-range-requires : tie.Need-left-in-range-requires
+left-in-range-requires c κs = search needs
+
+floor-in-range-requires : tie.Need-floor-in-range-requires
+floor-in-range-requires c κs = search needs
 
 returns : tie.Need-returns
 returns c =
-    let counted = c .before .before .before .before in
-    let priced = counted .before in
-    let o = priced .before .before .before .before .before .before .before .args .o in
+    let priced = c .before .before .before .before .before .before .before in
+    let o = priced .before .before .before .before .before .before .args .o in
     let p : priced .in-range .result ≡ priceInRange (o .price) = priced .in-range .ensures in
-    let s : counted .in-range2 .result ≡ sharesInRange (o .shares) = counted .in-range2 .ensures in
-    rw (p, s)
+    let l : c .before .left-in-range .result ≡ sharesInRange (shares (sharesLeft o)) = c .before .left-in-range .ensures in
+    let f : c .floor-in-range .result ≡ floorInRange o = c .floor-in-range .ensures in
+    rw (p, l, f)
 
 pub in-range-spec : {M : Type 1} → statement M
-in-range-spec = tie.close (tie.spec in-range-requires in-range-requires-2 returns)
+in-range-spec = tie.close (tie.spec in-range-requires left-in-range-requires floor-in-range-requires returns)

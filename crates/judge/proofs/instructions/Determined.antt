@@ -3,10 +3,6 @@
 use mathlib.Core.Path.{_≡_, sym, _∙_}
 use mathlib.Core.Bool.{Bool}
 use Rattle.judge.proofs.instructions.has.Reads as has
-use Rattle.judge.proofs.instructions.lawful.Reads as lawful
 
 pub has-determined : (κs : _) (a : _) (r r′ : Bool) (s s′ : _) → has.Post κs a r s → has.Post κs a r′ s′ → r ≡ r′
 has-determined κs a r r′ s s′ p q = p ∙ sym q
-
-pub lawful-determined : (κs : _) (a : _) (r r′ : Bool) (s s′ : _) → lawful.Post κs a r s → lawful.Post κs a r′ s′ → r ≡ r′
-lawful-determined κs a r r′ s s′ p q = p ∙ sym q

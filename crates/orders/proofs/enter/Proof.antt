@@ -5,8 +5,7 @@ use borrow.Author.Needs.{needs}
 use borrow.Author.Tests.{eq-eqb, ne-eqb, not-false, not-true}
 use denote.Ref.{now}
 use Rattle.rules.specs.Book.{Book}
-use Rattle.rules.specs.Instructions.{lawful}
-use Rattle.rules.specs.Refusals.{orderInRange}
+use Rattle.rules.specs.Refusals.{orderLawful, orderInRange}
 use Rattle.rules.specs.Working.{buying}
 use Rattle.side.specs.Tables.{bookOn}
 use Rattle.side.proofs.tables.LawsAnswers.{left-refused}
@@ -18,8 +17,8 @@ use Rattle.orders.proofs.enter.Tie as tie
 abbrev book : tie.Start → Book
 book s = let a = s .args in bookOn (a .h) (now (a .x)) (now (a .buys)) (now (a .y)) (now (a .sells))
 
-lawful-requires : tie.Need-lawful-requires
-lawful-requires c κs = search needs
+order-lawful-requires : tie.Need-order-lawful-requires
+order-lawful-requires c κs = search needs
 
 refuse-requires : tie.Need-refuse-requires
 refuse-requires c κs = search needs
@@ -28,7 +27,7 @@ returns : tie.Need-returns
 returns c =
     let start = c .before .before .before .before in
     let a = start .args in
-    let e : lawful (a .o .word) ≡ false = sym (c .before .before .lawful .ensures) ∙ not-true _ (c .before .if1 .taken) in
+    let e : orderLawful (a .o) ≡ false = sym (c .before .before .order-lawful .ensures) ∙ not-true _ (c .before .if1 .taken) in
     let left =
     left-refused (a .h) (now (a .x)) (now (a .buys)) (now (a .y)) (now (a .sells)) (start .pre .0) 8 (now (a .out)) _ (unlawful (a .number) (a .time) (a .o) (book start) e) in
     (c .refuse .ensures ∙ left .0, left .1)
@@ -40,8 +39,8 @@ refuse-requires-2 : tie.Need-refuse-requires-2
 refuse-requires-2 c κs = search needs
 
 -- the order is lawful
-isLawful : (c : tie.Else1) → lawful (c .before .before .before .args .o .word) ≡ true
-isLawful c = sym (c .before .lawful .ensures) ∙ not-false _ (c .if1 .left)
+isLawful : (c : tie.Else1) → orderLawful (c .before .before .before .args .o) ≡ true
+isLawful c = sym (c .before .order-lawful .ensures) ∙ not-false _ (c .if1 .left)
 
 returns-2 : tie.Need-returns-2
 returns-2 c =
@@ -111,7 +110,7 @@ pub enter-spec : {M : Type 1} → statement M
 enter-spec =
     tie.close
     (tie.spec
-    lawful-requires
+    order-lawful-requires
     refuse-requires
     returns
     order-in-range-requires

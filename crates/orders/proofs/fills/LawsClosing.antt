@@ -18,8 +18,8 @@ use Rattle.side.proofs.rows.LawsIndex.{length-ranked, ranked-alike, names-same}
 use Rattle.side.proofs.rows.LawsShown.{length-side, shown-holds, shown-side, shows-rows, side-dropped}
 use Rattle.rules.specs.declared.Resting.{Resting}
 use Rattle.rules.specs.Book.{placesASide}
-use Rattle.orders.specs.Fills.{keeps, keeping}
-use Rattle.orders.proofs.fills.LawsTakenOff.{keeping-all}
+use Rattle.orders.specs.Fills.{keeps, keepers}
+use Rattle.orders.proofs.fills.LawsTakenOff.{keepers-all}
 
 -- ── Two bytes change places ──
 
@@ -79,13 +79,13 @@ pub record Closing (n : ℕ) (x₀ x : List ℕ) (t : List (List ℕ)) (to i : �
   pub long : length x ≡ length x₀
   pub ahead : (k : ℕ) → i ≤ k → getD x k 0 ≡ getD x₀ k 0
   pub same : (j : ℕ) → times j (ranked placesASide x) ≡ times j (ranked placesASide x₀)
-  pub rows : rowsAt t (ranked to x) ≡ map rowOf (keeping (side i x₀ t))
+  pub rows : rowsAt t (ranked to x) ≡ map rowOf (keepers (side i x₀ t))
 
 pub closing-start : (n : ℕ) (x : List ℕ) (t : List (List ℕ)) (reached : ℕ) → Holds n x t → reached ≤ n → every keeps (drop reached (side n x t)) ≡ true
     → Closing n x x t (n - reached) (n - reached)
 closing-start n x t reached h l e =
-    let all : keeping (side (n - reached) x t) ≡ side (n - reached) x t =
-    keeping-all (side (n - reached) x t) (rw (worst-side n x t h reached l) e) in
+    let all : keepers (side (n - reached) x t) ≡ side (n - reached) x t =
+    keepers-all (side (n - reached) x t) (rw (worst-side n x t h reached l) e) in
     record {
       behind = omega arith;
       inside = omega arith;
@@ -96,13 +96,13 @@ closing-start n x t reached h l e =
     }
 
 module _ {n : ℕ} {x₀ x : List ℕ} {t : List (List ℕ)} {to i : ℕ} (h : Holds n x₀ t) (w : Closing n x₀ x t to i) where
-  pub closing-end : i ≡ n → (to ≡ length (keeping (side n x₀ t))) × Shows (keeping (side n x₀ t)) x t
+  pub closing-end : i ≡ n → (to ≡ length (keepers (side n x₀ t))) × Shows (keepers (side n x₀ t)) x t
   closing-end e =
-      let rows : rowsAt t (ranked to x) ≡ map rowOf (keeping (side n x₀ t)) = rw e at (w .rows) in
-      let count : length (keeping (side n x₀ t)) ≡ to =
-      sym (length-map (keeping (side n x₀ t)) rowOf) ∙ ap length (sym rows) ∙ length-map (ranked to x) (λ (j : ℕ). getD t j []) ∙ length-ranked to x in
+      let rows : rowsAt t (ranked to x) ≡ map rowOf (keepers (side n x₀ t)) = rw e at (w .rows) in
+      let count : length (keepers (side n x₀ t)) ≡ to =
+      sym (length-map (keepers (side n x₀ t)) rowOf) ∙ ap length (sym rows) ∙ length-map (ranked to x) (λ (j : ℕ). getD t j []) ∙ length-ranked to x in
       let names : Names x = names-same x₀ x (h .names) (w .long) (w .same) in
-      (sym count, shows-rows (keeping (side n x₀ t)) x t to count (omega (arith, w .behind, h .fits)) (h .all) names rows)
+      (sym count, shows-rows (keepers (side n x₀ t)) x t to count (omega (arith, w .behind, h .fits)) (h .all) names rows)
 
   module _ (l : i < n) where
     pub slot-same : getD x i 0 ≡ getD x₀ i 0
@@ -117,8 +117,8 @@ module _ {n : ℕ} {x₀ x : List ℕ} {t : List (List ℕ)} {to i : ℕ} (h : H
         ap (λ (rs : List (List ℕ)). getD rs 0 []) words
 
     module _ (o : Resting) (e : o ≡ orderOf (getD t (getD x i 0) [])) where
-      rows-next : rowsAt t (ranked (if keeps o then to + 1 else to) (swapped to i x)) ≡ map rowOf (keeping (side (i + 1) x₀ t))
-      unfolding ranked keeping
+      rows-next : rowsAt t (ranked (if keeps o then to + 1 else to) (swapped to i x)) ≡ map rowOf (keepers (side (i + 1) x₀ t))
+      unfolding ranked keepers
       rows-next =
           let y = set x i (getD x to 0) in
           let b = w .behind in

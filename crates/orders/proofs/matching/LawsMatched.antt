@@ -1,11 +1,11 @@
 -- What an order's walk takes and what becomes of the order together are 01's match. Assumes nothing.
-use Prim.Native.Nat.{ℕ, _+_, _≤_, _<_}
+use Prim.Native.Nat.{ℕ, zero, suc, _+_, _-_, _≤_, _<_}
 use mathlib.Core.Bool.{Bool, true, false, not, _&&_, _||_, true≢false}
 use mathlib.Core.List.{List, [], _++_}
 use mathlib.Core.Logic.{⊎-elim}
-use mathlib.Core.Path.{_≡_, refl, sym, ap, _∙_}
+use mathlib.Core.Path.{_≡_, refl, sym, ap, subst, _∙_}
 use lib.Dec.{eqb}
-use lib.ListN.{length}
+use lib.ListN.{length, drop}
 use native.Mathlib.Omega.{arith}
 use borrow.Author.Tests.{le-leb, lt-leb}
 use Rattle.basics.specs.Choice.{if_then_else_}
@@ -20,11 +20,23 @@ use Rattle.rules.specs.declared.Ending.{Ending}
 use Rattle.rules.specs.declared.Ending.the-variants.{Filled, Rests, Cancels}
 use Rattle.rules.specs.declared.Order.{Order}
 use Rattle.rules.specs.declared.Resting.{Resting}
-use Rattle.rules.specs.Book.{placesASide}
+use Rattle.basics.specs.Lists.{All, none, also}
+use Rattle.basics.proofs.LawsLists.{all-alike}
+use Rattle.rules.specs.Book.{placesASide, stamp, inRankOrder}
+use Rattle.soundness.proofs.LawsThinned.{thinned-after, thinned-all, thinned-ranked}
+use Rattle.side.specs.Looking.{Older}
+use Rattle.orders.specs.declared.walk.Taking.{Taking}
+use Rattle.orders.specs.Fills.{afterTakings}
+use Rattle.orders.specs.Refills.{MayRefill}
+use Rattle.orders.specs.Walk.{isBelow}
+use Rattle.orders.specs.Walking.{Workable}
+use Rattle.orders.proofs.fills.LawsTakenOff.{all-keep, after-unreached}
 use Rattle.rules.specs.EventLines.{iocRemainder, fokKilled, cancelledBack, noPriceInRange, postOnlyMeets}
 use Rattle.rules.specs.Instructions.{ioc, fok, displayed, cancelBack, postOnly, iso, has}
 use Rattle.rules.specs.Refusals.{isRest}
-use Rattle.rules.specs.Working.{buying, lockingPrice, absent, beyond, oneCentLessAggressive, equalsOrPasses, adjusted, seeks, unlessPostOnlyMeets, takings, remainder, endingWith, ending, executions, lastLine, remainderOf, withRemainder, after}
+use Rattle.rules.specs.Working.{buying, lockingPrice, absent, beyond, oneCentLessAggressive, equalsOrPasses, adjusted, seeks, unlessPostOnlyMeets, takings, remainder, endingWith, ending, lastLine, remainderOf, withRemainder, refillFate}
+use Rattle.rules.specs.Holdings.{holdings, executions, after}
+use Rattle.rules.specs.Settling.{firstMove, told, settledSide}
 use Rattle.orders.specs.declared.matching.Matched.{Matched}
 use Rattle.side.specs.Looking.{priceBound}
 use Rattle.orders.specs.Matching.{isFull, matchOf, restsBelow}
@@ -94,6 +106,29 @@ module _ (o : Order) (away : Away) (limited : o .price .0 < priceBound) where
       (below-either (has (o .word) fok) (Cancels fokKilled) else-ioc tt
       (below-either (has (o .word) ioc) (Cancels iocRemainder) rests tt (unless-below opposite (seeks o away) seeks-below)))
 
+-- ── The refills that are due then ──
+
+dropped : {P : Resting → Type 0} (k : ℕ) {s : List Resting} → All P s → All P (drop k s)
+dropped zero a = a
+dropped (suc k) none = none
+dropped (suc k) (also p a) = dropped k a
+
+-- a side that a walk took of, as far as rank `at`
+pub may-refill : (buy : Bool) (n : Number) (at : ℕ) {ks : List Taking} → All (isBelow at) ks → (s : List Resting) (ts : List ℕ)
+    → afterTakings ks s ≡ after s ts → inRankOrder buy s ≡ true → All Workable s → All (Older (stamp n firstMove)) s
+    → MayRefill buy n (length (after s ts) - (length s - at)) (after s ts)
+may-refill buy n at {ks = ks} below s ts is ranked workable older =
+    let thinned = thinned-after ts (all-alike (λ h w. omega (arith, w .holds)) workable) in
+    let unreached : drop (length (after s ts) - (length s - at)) (after s ts) ≡ drop at s =
+    ap (λ (u : List Resting). drop (length u - (length s - at)) u) (sym is) ∙ after-unreached at below s (all-keep (all-alike (λ h w. w .holds) workable)) in
+    record {
+      within = omega arith;
+      ranked = thinned-ranked buy thinned ranked;
+      older = thinned-all (λ h shown reserve l m k o. record { priced = o .priced; stamped = o .stamped }) thinned older;
+      shown = subst (All (λ (h : Resting). 1 ≤ h .shares .0)) (sym unreached) (dropped at (all-alike (λ h w. w .holds) workable));
+      left = thinned-all (λ h shown reserve l m k w. record { isLeft = k; countable = omega (arith, l, m, w .countable) }) thinned workable;
+    }
+
 -- ── The match ──
 
 module _ (o : Order) (number : Number) (away : Away) (own opposite : List Resting) where
@@ -110,9 +145,10 @@ module _ (o : Order) (number : Number) (away : Away) (own opposite : List Restin
 
     pub ended-is : isFull end own ≡ false → matchOf o number away own opposite ≡ record {
       refusal = 0;
-      events = executions number opposite (takings o away opposite) ++ lastLine number left end;
+      events = (executions number (holdings opposite) (takings o away opposite) ++ lastLine number left end)
+          ++ told refillFate (after opposite (takings o away opposite));
       own = withRemainder number o left end own;
-      opposite = after opposite (takings o away opposite);
+      opposite = settledSide number firstMove (not (buying o)) refillFate (after opposite (takings o away opposite));
     }
     unfolding matchOf
     ended-is f =

@@ -7,11 +7,12 @@ use mathlib.Core.Logic.{⊎-elim}
 use mathlib.Core.Path.{_≡_, refl, sym, ap, _∙_}
 use lib.Dec.{eqb}
 use lib.ListN.{length, getD, take, drop, length-append}
-use lib.Seq.{take-suc, length-take-le, getD-append-seam, append-snoc}
+use lib.Seq.{take-suc, length-take-le}
 use native.Mathlib.Nat.{mul-suc}
 use native.Mathlib.Numerals.{add-one}
 use native.Mathlib.Omega.{arith}
 use Rattle.basics.specs.Bytes.{onto, ontoFrom}
+use Rattle.basics.specs.Lists.{All, none, also}
 use Rattle.basics.proofs.LawsBytes.{onto-next, onto-part}
 use Rattle.basics.proofs.LawsChoice.{holds-or-not}
 use Rattle.basics.proofs.LawsLists.{map-append}
@@ -20,9 +21,11 @@ use Rattle.rules.specs.declared.Event.{Event}
 use Rattle.rules.specs.declared.Resting.{Resting}
 use Rattle.rules.specs.Book.{unused}
 use Rattle.rules.specs.EventLines.{eventLine, eventLines}
-use Rattle.rules.specs.Working.{executions}
+use Rattle.rules.specs.Holdings.{Holding, holdings, executions}
 use Rattle.rules.proofs.LawsEvents.{eventLines-append}
+use Rattle.orders.specs.Cursor.{Placed, partOf, placedFrom}
 use Rattle.orders.specs.Walk.{taking, takingsFrom}
+use Rattle.orders.proofs.cursor.LawsParts.{all-placed, placed-holdings}
 use Rattle.orders.specs.Reports.{executionOf}
 
 -- ── Line by line ──
@@ -61,22 +64,19 @@ module _ {A : Type 0} (f : A → Event) (width : ℕ) (wide : (x : A) → length
 
 -- ── What a walk executes ──
 
--- of the orders behind some others
-from-executed : (n : Number) (front s : List Resting) (ts : List ℕ)
-    → map (executionOf n (front ++ s)) (takingsFrom (length front) s ts) ≡ executions n s ts
+placed-executed : (n : Number) (all : List Resting) {s : List Placed} → All (λ (p : Placed). getD all (p .place) unused ≡ p .holding .of) s
+    → (ts : List ℕ) → map (executionOf n all) (takingsFrom (map partOf s) ts) ≡ executions n (map (λ (p : Placed). p .holding) s) ts
 unfolding takingsFrom taking executions
-from-executed n front [] ts = refl
-from-executed n front (h ∷ s) [] = refl
-from-executed n front (h ∷ s) (t ∷ ts) =
-    let i = length front in
-    let all = front ++ (h ∷ s) in
-    let k : i + 1 ≡ length (front ++ (h ∷ [])) = sym (length-append front (h ∷ [])) in
-    let rest : map (executionOf n all) (takingsFrom (i + 1) s ts) ≡ executions n s ts = rw (k, ← append-snoc front h s) (from-executed n (front ++ (h ∷ [])) s ts) in
-    let here : getD all i unused ≡ h = getD-append-seam front h s unused in
+placed-executed n all none ts = refl
+placed-executed n all (also p a) [] = refl
+placed-executed n all (also {x = p} is a) (t ∷ ts) =
+    let rest = placed-executed n all a ts in
     ⊎-elim
     (λ (z : eqb t 0 ≡ true). rw z rest)
-    (λ (z : eqb t 0 ≡ false). rw (z, here, rest))
+    (λ (z : eqb t 0 ≡ false). rw (z, is, rest))
     (holds-or-not (eqb t 0))
 
-pub takings-executed : (n : Number) (s : List Resting) (ts : List ℕ) → map (executionOf n s) (takingsFrom 0 s ts) ≡ executions n s ts
-takings-executed n s ts = from-executed n [] s ts
+pub takings-executed : (n : Number) (s : List Resting) (ts : List ℕ)
+    → map (executionOf n s) (takingsFrom (map partOf (placedFrom 0 s)) ts) ≡ executions n (holdings s) ts
+takings-executed n s ts =
+    placed-executed n s (all-placed 0 s (λ k h b l is. let e : 0 + k ≡ k = omega arith in ap (λ (j : ℕ). getD s j unused) e ∙ sym is)) ts ∙ ap (λ (hs : List Holding). executions n hs ts) (placed-holdings 0 s)

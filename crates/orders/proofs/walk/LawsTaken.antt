@@ -1,5 +1,5 @@
 -- Laws of the takings of a walk: which orders they are from, how many there are, and how they stand in a table. Assumes nothing.
-use Prim.Native.Nat.{ℕ, suc, _+_, _-_, _≤_, _<_, min}
+use Prim.Native.Nat.{ℕ, _+_, _-_, _≤_, _<_, min, max}
 use mathlib.Core.Bool.{Bool, true, false, not, _||_}
 use mathlib.Core.List.{List, [], _∷_, map}
 use mathlib.Core.Logic.{⊎-elim}
@@ -11,34 +11,34 @@ use native.Mathlib.Omega.{arith}
 use borrow.Author.Tests.{ne-eqb, eqb-true}
 use Rattle.basics.specs.Lists.{All, none, also}
 use Rattle.basics.proofs.LawsChoice.{holds-or-not}
-use Rattle.basics.proofs.LawsLists.{all-at, all-both, all-alike}
+use Rattle.basics.proofs.LawsLists.{all-at, all-both}
 use Rattle.kinds.specs.Kinds.{shares}
-use Rattle.rules.specs.declared.Resting.{Resting}
-use Rattle.rules.specs.Working.{nothing, walk, smaller}
+use Rattle.rules.specs.Holdings.{nothing, walk}
+use Rattle.orders.specs.declared.cursor.Part.{Part}
 use Rattle.orders.specs.declared.walk.Taking.{Taking}
-use Rattle.orders.specs.Walk.{taking, takingsFrom, isBelow, reached, takingsOf, takingRow, takingIn, takingsIn, laid}
+use Rattle.orders.specs.Walk.{partGives, taking, takingsFrom, isBelow, reached, takingsOf, takingRow, takingIn, takingsIn, laid}
 
--- ── What one order gives ──
+-- ── What one part gives ──
 
-pub taking-none : (i : ℕ) (h : Resting) → taking i h 0 ≡ []
+pub taking-none : (p : Part) → taking p 0 ≡ []
 unfolding taking
-taking-none i h = refl
+taking-none p = refl
 
-pub taking-one : (i : ℕ) (h : Resting) (g : ℕ) → (g ≡ 0 → ⊥) → taking i h g ≡ record { place = i; price = h .price; shares = shares g } ∷ []
+pub taking-one : (p : Part) (g : ℕ) → (g ≡ 0 → ⊥) → taking p g ≡ record { place = p .place; price = p .price; shares = shares g } ∷ []
 unfolding taking
-taking-one i h g z = rw (ne-eqb g 0 z)
+taking-one p g z = rw (ne-eqb g 0 z)
 
-pub length-taking : (i : ℕ) (h : Resting) (g : ℕ) → length (taking i h g) ≤ 1
+pub length-taking : (p : Part) (g : ℕ) → length (taking p g) ≤ 1
 unfolding taking
-length-taking i h g =
+length-taking p g =
     ⊎-elim
     (λ (z : eqb g 0 ≡ true). rw z (omega arith))
     (λ (z : eqb g 0 ≡ false). rw z (omega arith))
     (holds-or-not (eqb g 0))
 
-pub taking-below : (n i : ℕ) (h : Resting) (g : ℕ) → i < n → All (isBelow n) (taking i h g)
+pub taking-below : (n : ℕ) (p : Part) (g : ℕ) → p .place < n → All (isBelow n) (taking p g)
 unfolding taking
-taking-below n i h g l =
+taking-below n p g l =
     ⊎-elim
     (λ (z : eqb g 0 ≡ true). rw z none)
     (λ (z : eqb g 0 ≡ false). rw z (also l none))
@@ -46,60 +46,68 @@ taking-below n i h g l =
 
 -- ── Nobody gives ──
 
-pub takings-nothing : (i : ℕ) (s : List Resting) → takingsFrom i s (nothing s) ≡ []
+pub takings-nothing : (s : List Part) → takingsFrom s (nothing s) ≡ []
 unfolding takingsFrom nothing
-takings-nothing i [] = refl
-takings-nothing i (h ∷ s) = rw (taking-none i h) (takings-nothing (i + 1) s)
+takings-nothing [] = refl
+takings-nothing (p ∷ s) = rw (taking-none p) (takings-nothing s)
 
 -- with nothing left
-pub walk-nothing : (may : Resting → Bool) (s : List Resting) → walk may smaller 0 s ≡ nothing s
+pub walk-nothing : (may : Part → Bool) (s : List Part) → walk may partGives 0 s ≡ nothing s
 unfolding walk nothing
 walk-nothing may [] = refl
-walk-nothing may (h ∷ s) =
-    let e : min 0 (h .shares .0) ≡ 0 = omega arith in
+walk-nothing may (p ∷ s) =
+    let e : min 0 (p .shares .0) ≡ 0 = omega arith in
     ⊎-elim
-    (λ (t : may h ≡ true). rw (t, e) (ap (λ (l : List ℕ). 0 ∷ l) (walk-nothing may s)))
-    (λ (t : may h ≡ false). rw t)
-    (holds-or-not (may h))
+    (λ (t : may p ≡ true). rw (t, e) (ap (λ (l : List ℕ). 0 ∷ l) (walk-nothing may s)))
+    (λ (t : may p ≡ false). rw t)
+    (holds-or-not (may p))
 
 -- ── The orders that a walk takes from ──
 
-pub takings-most : (i : ℕ) (s : List Resting) (gs : List ℕ) → length (takingsFrom i s gs) ≤ length s
+pub takings-most : (s : List Part) (gs : List ℕ) → length (takingsFrom s gs) ≤ length s
 unfolding takingsFrom
-takings-most i [] gs = omega arith
-takings-most i (h ∷ s) [] = omega arith
-takings-most i (h ∷ s) (g ∷ gs) =
-    omega (arith, length-append (taking i h g) (takingsFrom (i + 1) s gs), length-taking i h g, takings-most (i + 1) s gs)
+takings-most [] gs = omega arith
+takings-most (p ∷ s) [] = omega arith
+takings-most (p ∷ s) (g ∷ gs) = omega (arith, length-append (taking p g) (takingsFrom s gs), length-taking p g, takings-most s gs)
 
-module _ (may : Resting → Bool) where
-  pub reached-within : (want : ℕ) (s : List Resting) → reached may want s ≤ length s
+module _ (may : Part → Bool) where
+  reached-later : (at left : ℕ) (s : List Part) → at ≤ reached may at left s
   unfolding reached
-  reached-within want [] = omega arith
-  reached-within want (h ∷ s) =
+  reached-later at left [] = omega arith
+  reached-later at left (p ∷ s) =
       ⊎-elim
-      (λ (z : (eqb want 0 || not (may h)) ≡ true). rw z (omega arith))
-      (λ (z : (eqb want 0 || not (may h)) ≡ false). rw z (omega (arith, reached-within (want - smaller want h) s)))
-      (holds-or-not (eqb want 0 || not (may h)))
+      (λ (z : (eqb left 0 || not (may p)) ≡ true). rw z (omega arith))
+      (λ (z : (eqb left 0 || not (may p)) ≡ false). rw z (omega (arith, reached-later (max at (p .place + 1)) (left - partGives left p) s)))
+      (holds-or-not (eqb left 0 || not (may p)))
 
-  from-reached : (i want : ℕ) (s : List Resting) → All (isBelow (i + reached may want s)) (takingsFrom i s (walk may smaller want s))
+  pub reached-within : (n at left : ℕ) (s : List Part) → All (λ (p : Part). p .place < n) s → at ≤ n → reached may at left s ≤ n
+  unfolding reached
+  reached-within n at left [] none l = l
+  reached-within n at left (p ∷ s) (also q a) l =
+      ⊎-elim
+      (λ (z : (eqb left 0 || not (may p)) ≡ true). rw z l)
+      (λ (z : (eqb left 0 || not (may p)) ≡ false). rw z (reached-within n (max at (p .place + 1)) (left - partGives left p) s a (omega arith)))
+      (holds-or-not (eqb left 0 || not (may p)))
+
+  from-reached : (at left : ℕ) (s : List Part) → All (isBelow (reached may at left s)) (takingsFrom s (walk may partGives left s))
   unfolding takingsFrom walk reached
-  from-reached i want [] = none
-  from-reached i want (h ∷ s) =
+  from-reached at left [] = none
+  from-reached at left (p ∷ s) =
       ⊎-elim
-      (λ (z : eqb want 0 ≡ true). rw (eqb-true want 0 z) (rw (walk-nothing may (h ∷ s), takings-nothing i (h ∷ s)) none))
-      (λ (z : eqb want 0 ≡ false).
+      (λ (z : eqb left 0 ≡ true). rw (eqb-true left 0 z) (rw (walk-nothing may (p ∷ s), takings-nothing (p ∷ s)) none))
+      (λ (z : eqb left 0 ≡ false).
       ⊎-elim
-      (λ (t : may h ≡ true).
-      let n = i + suc (reached may (want - smaller want h) s) in
-      let e : i + 1 + reached may (want - smaller want h) s ≡ n = omega arith in
-      rw (z, t) (all-both (taking-below n i h (smaller want h) (omega arith)) (rw e at (from-reached (i + 1) (want - smaller want h) s))))
-      (λ (t : may h ≡ false). rw (z, t) (rw (takings-nothing i (h ∷ s)) none))
-      (holds-or-not (may h)))
-      (holds-or-not (eqb want 0))
+      (λ (t : may p ≡ true).
+      let r = reached may (max at (p .place + 1)) (left - partGives left p) s in
+      let l : p .place < r = omega (arith, reached-later (max at (p .place + 1)) (left - partGives left p) s) in
+      rw (z, t) (all-both (taking-below r p (partGives left p) l) (from-reached (max at (p .place + 1)) (left - partGives left p) s)))
+      (λ (t : may p ≡ false). rw (z, t) (rw (takings-nothing (p ∷ s)) none))
+      (holds-or-not (may p)))
+      (holds-or-not (eqb left 0))
 
   -- every taking is from an order that the walk reached
-  pub takings-reached : (want : ℕ) (s : List Resting) → All (isBelow (reached may want s)) (takingsOf may want s)
-  takings-reached want s = all-alike (λ k l. omega (arith, l)) (from-reached 0 want s)
+  pub takings-reached : (want : ℕ) (s : List Part) → All (isBelow (reached may 0 want s)) (takingsOf may want s)
+  takings-reached want s = from-reached 0 want s
 
 -- ── Takings in a table ──
 

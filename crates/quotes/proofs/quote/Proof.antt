@@ -80,7 +80,7 @@ move-side-requires c κs =
     let k = c .before .before .before in
     let r = sides-ready k true firstMove in
     let p = start k .pre in
-    (p .0 .buys, r .ranked, omega (arith, p .0 .buys .fits), omega (arith, r .lines, p .1), (r .priced, r .older))
+    (p .0 .buys, r .ranked, omega (arith, p .0 .buys .fits), omega (arith, r .lines, p .1), (r .priced, r .older), r .countable)
 
 -- what the moves of the buys leave
 module _ (c : tie.After-move-side) where
@@ -130,7 +130,7 @@ move-side-requires-2 c κs =
     let p = start (entered k) .pre in
     let fits : 27 * placesASide ≤ length (take (length y - m .length) (drop (m .length) y)) = simp (length-take, length-drop) (omega (arith, room k)) in
     let next : m .next ≤ firstMove + placesASide = omega (arith, next-is k, anew-fit (quoteFate (away k) true) (buys k), bought) in
-    (p .0 .sells, r .ranked, omega (arith, next, p .0 .sells .fits), omega (arith, r .lines, fits), (r .priced, r .older))
+    (p .0 .sells, r .ranked, omega (arith, next, p .0 .sells .fits), omega (arith, r .lines, fits), (r .priced, r .older), r .countable)
 
 -- what the moves of the sells leave
 module _ (c : tie.After-move-side2) where

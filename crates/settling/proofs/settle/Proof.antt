@@ -14,7 +14,8 @@ use Rattle.side.specs.Table.{side, Holds, Shows}
 use Rattle.side.proofs.rows.LawsShown.{length-side, holds-shows, shown-holds, shown-side}
 use Rattle.rules.specs.declared.Event.the-variants.{Cancelled, Moved}
 use Rattle.rules.specs.declared.Fate.the-variants.{Stays, IsCancelled, IsSet}
-use Rattle.rules.specs.Book.{stamp, inRankOrder}
+use Rattle.kinds.specs.Kinds.{shares}
+use Rattle.rules.specs.Book.{stamp, inRankOrder, sharesLeft}
 use Rattle.rules.specs.EventLines.{eventLine, eventLines}
 use Rattle.rules.specs.Settling.{stampedAs, insert, toldBy}
 use Rattle.rules.proofs.LawsEvents.{eventLines-one, cancelled-length, moved-length}
@@ -52,11 +53,15 @@ cancelled-at c =
     let a = start .args in
     let is : a .fate ≡ IsCancelled (c .before .fate .given .0 .0) = c .before .fate .given .1 in
     let room : a .m .length + length (eventLines (toldBy (a .fate) (a .o))) ≤ length (now (a .out)) = start .pre .3 in
-    let e = Cancelled (a .o .number) (a .o .shares) (c .before .fate .given .0 .0) in
-    (is, omega (arith, rw (is, eventLines-one e) at room, cancelled-length (a .o .number) (a .o .shares) (c .before .fate .given .0 .0)))
+    let left = shares (sharesLeft (a .o)) in
+    let e = Cancelled (a .o .number) left (c .before .fate .given .0 .0) in
+    (is, omega (arith, rw (is, eventLines-one e) at room, cancelled-length (a .o .number) left (c .before .fate .given .0 .0)))
 
 remove-requires : tie.Need-remove-requires
 remove-requires c κs = search needs
+
+shares-left-requires : tie.Need-shares-left-requires
+shares-left-requires c κs = c .before .before .before .before .before .before .before .pre .5
 
 sub-write-cancelled : tie.Need-sub-write-cancelled
 sub-write-cancelled c = search needs
@@ -69,15 +74,15 @@ part-write-cancelled-end c = search needs
 
 write-cancelled-requires : tie.Need-write-cancelled-requires
 write-cancelled-requires c κs =
-    let k = c .before .before .before .before in
+    let k = c .before .before .before .before .before in
     let a = k .before .before .before .before .args in
     behind (a .m .length) 21 (now (a .out)) (cancelled-at k .1)
 
-sub-t23 : tie.Need-sub-t23
-sub-t23 c = search needs
+sub-t24 : tie.Need-sub-t24
+sub-t24 c = search needs
 
-add-t26 : tie.Need-add-t26
-add-t26 c = search needs
+add-t27 : tie.Need-add-t27
+add-t27 c = search needs
 
 same-length : tie.Need-same-length
 same-length c = search needs
@@ -85,15 +90,18 @@ same-length c = search needs
 returns-2 : tie.Need-returns-2
 returns-2 c =
     let w = c .before .before .write-cancelled in
-    let k = c .before .before .before .before .before .before .before in
+    let k = c .before .before .before .before .before .before .before .before in
     let start = k .before .before .before .before in
     let a = start .args in
     let reason = k .before .fate .given .0 .0 in
-    let e = Cancelled (a .o .number) (a .o .shares) reason in
-    let more : w .result ≡ length (eventLine e) = w .ensures .0 ∙ sym (cancelled-length (a .o .number) (a .o .shares) reason) in
-    let written : w .last .0 ≡ onto (eventLine e) (take (length (now (a .out)) - a .m .length) (drop (a .m .length) (now (a .out)))) = w .ensures .1 in
-    let gone : Shows (removeAt (a .at) (side (a .m .held) (now (a .x)) (now (a .t)))) (c .before .before .before .before .remove .last .0) (now (a .t)) =
-    c .before .before .before .before .remove .ensures in
+    let left = shares (sharesLeft (a .o)) in
+    let e = Cancelled (a .o .number) left reason in
+    let counted : c .before .before .before .before .shares-left .result ≡ left = c .before .before .before .before .shares-left .ensures in
+    let more : w .result ≡ length (eventLine e) = w .ensures .0 ∙ sym (cancelled-length (a .o .number) left reason) in
+    let written : w .last .0 ≡ onto (eventLine e) (take (length (now (a .out)) - a .m .length) (drop (a .m .length) (now (a .out)))) =
+    w .ensures .1 ∙ rw counted in
+    let gone : Shows (removeAt (a .at) (side (a .m .held) (now (a .x)) (now (a .t)))) (c .before .before .before .before .before .remove .last .0) (now (a .t)) =
+    c .before .before .before .before .before .remove .ensures in
     rw (cancelled-at k .0, eventLines-one e) (
       ap (λ (l : ℕ). record { held = a .m .held - 1; next = a .m .next; length = a .m .length + l }) more,
       (gone, onto-part (a .m .length) (eventLine e) (now (a .out)) (w .last .0) written),
@@ -152,11 +160,11 @@ rest-requires c κs =
     let start = k .before .before .before .before in
     let a = start .args in
     let fits = start .pre .0 .fits in
-    let below : setBelow (a .fate) = start .pre .5 .0 in (
+    let below : setBelow (a .fate) = start .pre .6 .0 in (
       left .1,
       omega (arith, fits, start .pre .1),
       ap (inRankOrder (a .buying)) (left .0) ∙ start .pre .2,
-      rw (set-is c, left .0) (record { priced = rw (set-at k .0) at below; others = start .pre .5 .1 }),
+      rw (set-is c, left .0) (record { priced = rw (set-at k .0) at below; others = start .pre .6 .1 }),
     )
 
 sub-write-moved : tie.Need-sub-write-moved
@@ -174,11 +182,11 @@ write-moved-requires c κs =
     let a = k .before .before .before .before .args in
     behind (a .m .length) 27 (now (a .out)) (set-at k .1)
 
-add-t37 : tie.Need-add-t37
-add-t37 c = search needs
+add-t38 : tie.Need-add-t38
+add-t38 c = search needs
 
-add-t32 : tie.Need-add-t32
-add-t32 c =
+add-t33 : tie.Need-add-t33
+add-t33 c =
     let k = c .before .before .before .before .before .before .before .before .before .before .before in
     let start = k .before .before .before .before in
     let most : length (now (start .args .out)) < 18446744073709551616 = start .good .1 .1 .1 .1 .1 .1 .1 .1 .0 .0 in
@@ -214,12 +222,13 @@ settle-spec =
     enum-told
     enum-known-fate
     remove-requires
+    shares-left-requires
     sub-write-cancelled
     part-write-cancelled-start
     part-write-cancelled-end
     write-cancelled-requires
-    sub-t23
-    add-t26
+    sub-t24
+    add-t27
     enum-known-fate-2
     remove-requires-2
     sub-rest
@@ -229,8 +238,8 @@ settle-spec =
     part-write-moved-start
     part-write-moved-end
     write-moved-requires
-    add-t37
-    add-t32
+    add-t38
+    add-t33
     returns
     same-length
     returns-2

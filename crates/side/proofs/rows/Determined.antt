@@ -4,8 +4,10 @@ use Prim.Native.Nat.{ℕ}
 use mathlib.Core.Bool.{Bool}
 use mathlib.Core.Path.{_≡_, sym, _∙_}
 use denote.Ref.{now}
+use Rattle.kinds.specs.declared.Shares.{Shares}
 use Rattle.rules.specs.declared.Resting.{Resting}
 use Rattle.side.proofs.rows.is_unused.Reads as is-unused
+use Rattle.side.proofs.rows.shares_left.Reads as shares-left
 use Rattle.side.proofs.rows.level_of.Reads as level-of
 use Rattle.side.proofs.rows.row.Reads as row
 use Rattle.side.proofs.rows.level_at.Reads as level-at
@@ -17,6 +19,9 @@ use Rattle.side.proofs.rows.at.Reads as at
 
 pub is-unused-determined : (κs : _) (a : _) (r r′ : Bool) (s s′ : _) → is-unused.Post κs a r s → is-unused.Post κs a r′ s′ → r ≡ r′
 is-unused-determined κs a r r′ s s′ p q = p ∙ sym q
+
+pub shares-left-determined : (κs : _) (a : _) (r r′ : Shares) (s s′ : _) → shares-left.Post κs a r s → shares-left.Post κs a r′ s′ → r ≡ r′
+shares-left-determined κs a r r′ s s′ p q = p ∙ sym q
 
 pub level-of-determined : (κs : _) (a : _) (r r′ : ℕ) (s s′ : _) → level-of.Post κs a r s → level-of.Post κs a r′ s′ → r ≡ r′
 level-of-determined κs a r r′ s s′ p q = p ∙ sym q

@@ -5,7 +5,7 @@ use lib.ListN.{length, set, getD}
 use denote.Ref.{now}
 use Rattle.basics.specs.Lists.{insertAt, removeAt}
 use Rattle.rules.specs.Book.{unused}
-use Rattle.rules.specs.Working.{reducedBy}
+use Rattle.side.specs.Shifts.{lessBy}
 use Rattle.side.specs.Table.{side}
 use Rattle.side.proofs.shifts.insert.Reads as insert
 use Rattle.side.proofs.shifts.remove.Reads as remove
@@ -23,6 +23,6 @@ remove-determined κs a r r′ s s′ p q = p .is ∙ sym (q .is)
 
 pub reduce-determined : (κs : _) (a : _) (r r′ : _) (s s′ : _) → reduce.Post κs a r s → reduce.Post κs a r′ s′
     → let u = side (a .1 .1 .0) (now (a .0)) (now (a .1 .0)) in
-    let n = length (set u (a .1 .1 .1 .0) (reducedBy (a .1 .1 .1 .1 .0 .0) (getD u (a .1 .1 .1 .0) unused))) in
+    let n = length (set u (a .1 .1 .1 .0) (lessBy (a .1 .1 .1 .1 .0 .0) (getD u (a .1 .1 .1 .0) unused))) in
     side n (now (a .0)) (now (s .1 .0)) ≡ side n (now (a .0)) (now (s′ .1 .0))
 reduce-determined κs a r r′ s s′ p q = p .is ∙ sym (q .is)

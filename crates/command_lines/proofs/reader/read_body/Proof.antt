@@ -17,6 +17,9 @@ read-quote-requires c κs = search needs
 read-close-requires : tie.Need-read-close-requires
 read-close-requires c κs = search needs
 
+read-reserve-requires : tie.Need-read-reserve-requires
+read-reserve-requires c κs = search needs
+
 returns : tie.Need-returns
 unfolding bodyIn bodyFrom kinds
 returns c = rw (c .before .match .keys1) (c .read-order .ensures)
@@ -35,9 +38,13 @@ returns-4 c = rw (c .before .match .keys4) (c .read-close .ensures)
 
 returns-5 : tie.Need-returns-5
 unfolding bodyIn bodyFrom kinds
-returns-5 c =
+returns-5 c = rw (c .before .match .keys5) (c .read-reserve .ensures)
+
+returns-6 : tie.Need-returns-6
+unfolding bodyIn bodyFrom kinds
+returns-6 c =
     let r = c .match .rest in
-    rw (ne-eqb _ _ (r .0 .0 .0 .1), ne-eqb _ _ (r .0 .0 .1), ne-eqb _ _ (r .0 .1), ne-eqb _ _ (r .1))
+    rw (ne-eqb _ _ (r .0 .0 .0 .0 .1), ne-eqb _ _ (r .0 .0 .0 .1), ne-eqb _ _ (r .0 .0 .1), ne-eqb _ _ (r .0 .1), ne-eqb _ _ (r .1))
 
 pub read-body-spec : {M : Type 1} → statement M
 read-body-spec =
@@ -47,8 +54,10 @@ read-body-spec =
     read-cancel-requires
     read-quote-requires
     read-close-requires
+    read-reserve-requires
     returns
     returns-2
     returns-3
     returns-4
-    returns-5)
+    returns-5
+    returns-6)

@@ -9,6 +9,9 @@ use Rattle.command_lines.proofs.writer.digits_in.Tie as tie
 enum-known-body : tie.Need-enum-known-body
 enum-known-body c = search needs
 
+order-digits-requires : tie.Need-order-digits-requires
+order-digits-requires c κs = search needs
+
 enum-known-body-2 : tie.Need-enum-known-body-2
 enum-known-body-2 c = search needs
 
@@ -19,12 +22,7 @@ enum-told : tie.Need-enum-told
 enum-told c = search needs
 
 returns : tie.Need-returns
-returns c =
-    let o = c .before .body .given .0 .0 in
-    rw (c .before .body .given .1) (
-      refl,
-      fits 1 (o .side) (omega (arith, c .known-told .given)) (fits 2 (o .word) (omega (arith, c .known-told .given)) (fits 4 (o .price .0) (omega (arith, c .known-told .given)) (fits 4 (o .shares .0) (omega (arith, c .known-told .given)) empty))),
-    )
+returns c = rw (c .before .before .body .given .1) (c .order-digits .ensures)
 
 returns-2 : tie.Need-returns-2
 returns-2 c =
@@ -45,6 +43,7 @@ digits-in-spec =
     tie.close
     (tie.spec
     enum-known-body
+    order-digits-requires
     enum-known-body-2
     enum-known-body-3
     enum-told

@@ -1,11 +1,13 @@
 -- `commands::cancels::cancel` meets its contract: the number is of a buy, of a sell or of no order. Assumes nothing.
 use Prim.Native.Nat.{ℕ, _-_, _<_}
+use mathlib.Core.Bool.{true, false}
 use mathlib.Core.List.{List}
 use mathlib.Core.Path.{_≡_, sym, ap, _∙_}
 use lib.ListN.{length}
 use native.Mathlib.Omega.{arith}
 use borrow.Author.Needs.{needs}
 use denote.Ref.{now}
+use Rattle.orders.proofs.LawsReady.{all-countable}
 use Rattle.basics.specs.Bytes.{onto}
 use Rattle.basics.specs.Lists.{firstWhere, removeAt}
 use Rattle.basics.proofs.LawsLists.{length-removeAt}
@@ -66,7 +68,7 @@ at-buy : (c : tie.After-known-told) → AtBuy (c .before .before .before .before
 at-buy c = let start = c .before .before .before .before .before .before .before in found-buy (start .args .of) (book start .buys) (book start .sells) (c .before .before .before .seek .result) (c .before .before .before .seek .ensures) (c .before .found .given .0 .0) (c .before .found .given .1)
 
 take-off-requires : tie.Need-take-off-requires
-take-off-requires c κs = let start = c .before .before .before .before .before .before .before .before .before in (start .pre .0 .buys, omega (arith, at-buy (c .before .before) .1, buys-long start), start .pre .1)
+take-off-requires c κs = let start = c .before .before .before .before .before .before .before .before .before in (start .pre .0 .buys, omega (arith, at-buy (c .before .before) .1, buys-long start), start .pre .1, all-countable true _ (start .pre .0 .isSound))
 
 sub-leave : tie.Need-sub-leave
 sub-leave c = omega (arith, at-buy (c .before .before .before .before .before) .1, buys-long (c .before .before .before .before .before .before .before .before .before .before .before .before))
@@ -83,7 +85,7 @@ at-sell : (c : tie.After-known-told2) → AtSell (c .before .before .before .bef
 at-sell c = let start = c .before .before .before .before .before .before .before in found-sell (start .args .of) (book start .buys) (book start .sells) (c .before .before .before .seek .result) (c .before .before .before .seek .ensures) (c .before .found2 .given .0 .0) (c .before .found2 .given .1)
 
 take-off-requires-2 : tie.Need-take-off-requires-2
-take-off-requires-2 c κs = let start = c .before .before .before .before .before .before .before .before .before in (start .pre .0 .sells, omega (arith, at-sell (c .before .before) .1, sells-long start), start .pre .1)
+take-off-requires-2 c κs = let start = c .before .before .before .before .before .before .before .before .before in (start .pre .0 .sells, omega (arith, at-sell (c .before .before) .1, sells-long start), start .pre .1, all-countable false _ (start .pre .0 .isSound))
 
 sub-leave-2 : tie.Need-sub-leave-2
 sub-leave-2 c = omega (arith, at-sell (c .before .before .before .before .before) .1, sells-long (c .before .before .before .before .before .before .before .before .before .before .before .before))

@@ -55,23 +55,35 @@ has-requires-9 c κs = search needs
 has-requires-10 : tie.Need-has-requires-10
 has-requires-10 c κs = search needs
 
+has-requires-11 : tie.Need-has-requires-11
+has-requires-11 c κs = search needs
+
+has-requires-12 : tie.Need-has-requires-12
+has-requires-12 c κs = search needs
+
+has-requires-13 : tie.Need-has-requires-13
+has-requires-13 c κs = search needs
+
 returns : tie.Need-returns
 unfolding lawful
 returns c =
     rw (
-      c .has10 .ensures,
-      c .before .has9 .ensures,
-      c .before .before .has8 .ensures,
-      c .before .before .before .has7 .ensures,
-      c .before .before .before .before .has6 .ensures,
-      c .before .before .before .before .before .has5 .ensures,
-      c .before .before .before .before .before .before .has4 .ensures,
-      c .before .before .before .before .before .before .before .has3 .ensures,
-      c .before .before .before .before .before .before .before .before .has2 .ensures,
-      c .before .before .before .before .before .before .before .before .before .has .ensures,
-      c .before .before .before .before .before .before .before .before .before .before .one-of3 .ensures,
-      c .before .before .before .before .before .before .before .before .before .before .before .one-of2 .ensures,
-      c .before .before .before .before .before .before .before .before .before .before .before .before .one-of .ensures,
+      c .has13 .ensures,
+      c .before .has12 .ensures,
+      c .before .before .has11 .ensures,
+      c .before .before .before .has10 .ensures,
+      c .before .before .before .before .has9 .ensures,
+      c .before .before .before .before .before .has8 .ensures,
+      c .before .before .before .before .before .before .has7 .ensures,
+      c .before .before .before .before .before .before .before .has6 .ensures,
+      c .before .before .before .before .before .before .before .before .has5 .ensures,
+      c .before .before .before .before .before .before .before .before .before .has4 .ensures,
+      c .before .before .before .before .before .before .before .before .before .before .has3 .ensures,
+      c .before .before .before .before .before .before .before .before .before .before .before .has2 .ensures,
+      c .before .before .before .before .before .before .before .before .before .before .before .before .has .ensures,
+      c .before .before .before .before .before .before .before .before .before .before .before .before .before .one-of3 .ensures,
+      c .before .before .before .before .before .before .before .before .before .before .before .before .before .before .one-of2 .ensures,
+      c .before .before .before .before .before .before .before .before .before .before .before .before .before .before .before .one-of .ensures,
     )
 
 pub lawful-spec : {M : Type 1} → statement M
@@ -95,4 +107,7 @@ lawful-spec =
     has-requires-8
     has-requires-9
     has-requires-10
+    has-requires-11
+    has-requires-12
+    has-requires-13
     returns)

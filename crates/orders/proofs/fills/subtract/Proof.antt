@@ -9,7 +9,7 @@ use denote.Ref.{now}
 use Rattle.side.specs.Table.{side, Shows}
 use Rattle.side.proofs.rows.LawsShown.{holds-shows}
 use Rattle.rules.specs.Book.{unused}
-use Rattle.rules.specs.Working.{reducedBy}
+use Rattle.side.specs.Shifts.{lessBy}
 use Rattle.orders.specs.Walk.{mostTakings, takingsIn}
 use Rattle.orders.proofs.walk.LawsTaken.{noTaking, length-takings, taking-read, taking-all}
 use Rattle.orders.specs.Fills.{lessened}
@@ -66,7 +66,7 @@ loop-again c =
     let e : k ≡ getD ks (l .i) noTaking = read .taking-at .ensures ∙ taking-read (a .count) (now (a .took)) room (l .i) (omega arith) in
     let m : l .i < length ks = omega (arith, length-takings (a .count) (now (a .took)) room) in
     let u = side (a .n) (now (a .x)) (l .t) in
-    let d : Shows (set u (k .place) (reducedBy (k .shares .0) (getD u (k .place) unused))) (now (a .x)) (c .reduce .last .1 .0) = c .reduce .ensures in
+    let d : Shows (set u (k .place) (lessBy (k .shares .0) (getD u (k .place) unused))) (now (a .x)) (c .reduce .last .1 .0) = c .reduce .ensures in
     (omega arith, rw (lessened-side (a .n) (now (a .x)) (now (a .t)) (l .t) (take (l .i) ks) (l .inv .1), lessened-next ks (l .i) k s m e) at d)
 
 returns : tie.Need-returns Inv-loop μ-loop

@@ -6,7 +6,7 @@ use denote.Ref.{now}
 use Rattle.basics.proofs.LawsLists.{all-alike}
 use Rattle.side.specs.Table.{side, Shows}
 use Rattle.orders.specs.Walk.{takingsIn}
-use Rattle.orders.specs.Fills.{lessened, keeping}
+use Rattle.orders.specs.Fills.{lessened, keepers}
 use Rattle.orders.proofs.fills.LawsTakenOff.{lessened-holds, lessened-side, keep-behind}
 use Rattle.orders.proofs.fills.take_off.Statement.{statement}
 use Rattle.orders.proofs.fills.take_off.Tie as tie
@@ -40,8 +40,8 @@ returns c =
     let t = taken .subtract .last .1 .0 in
     let shows : Shows (lessened 0 ks s) (now (a .x)) t = taken .subtract .ensures in
     let e = lessened-side (a .n) (now (a .x)) (now (a .t)) t ks shows in
-    let n : c .close-up .result ≡ length (keeping (side (a .n) (now (a .x)) t)) = c .close-up .ensures .0 in
-    let d : Shows (keeping (side (a .n) (now (a .x)) t)) (c .close-up .last .0) t = c .close-up .ensures .1 in
+    let n : c .close-up .result ≡ length (keepers (side (a .n) (now (a .x)) t)) = c .close-up .ensures .0 in
+    let d : Shows (keepers (side (a .n) (now (a .x)) t)) (c .close-up .last .0) t = c .close-up .ensures .1 in
     (rw e at n, rw e at d)
 
 pub take-off-spec : {M : Type 1} → statement M

@@ -1,7 +1,8 @@
 -- `orders::matching::match_order` meets its contract: the takings of the walk, and the ending, are together 01's match. Assumes nothing.
-use Prim.Native.Nat.{ℕ, _+_, _-_, _*_, _≤_}
-use mathlib.Core.Bool.{true, false}
-use mathlib.Core.List.{List, _++_, map}
+use Prim.Native.Nat.{ℕ, _+_, _-_, _*_, _≤_, _<_}
+use mathlib.Core.Bool.{true, false, not}
+use mathlib.Core.Logic.{inl, inr, ⊎-elim}
+use mathlib.Core.List.{List, _++_, map, append-assoc}
 use mathlib.Core.Path.{_≡_, refl, sym, ap, subst, _∙_}
 use lib.ListN.{length, take, drop, length-take, length-drop, length-append}
 use native.Mathlib.Omega.{arith}
@@ -9,33 +10,40 @@ use borrow.Author.Needs.{needs}
 use denote.Ref.{now}
 use Rattle.basics.specs.Bytes.{onto}
 use Rattle.basics.specs.Choice.{if_then_else_}
-use Rattle.basics.specs.Lists.{All}
+use Rattle.basics.specs.Lists.{All, every}
 use Rattle.basics.proofs.LawsBytes.{onto-none}
+use Rattle.basics.proofs.LawsChoice.{lt-or-le}
 use Rattle.basics.proofs.LawsLists.{all-alike}
-use Rattle.orders.specs.Fills.{afterTakings}
-use Rattle.orders.proofs.fills.LawsTakenOff.{takings-after, all-keep}
+use Rattle.orders.specs.Fills.{keeps, afterTakings}
+use Rattle.orders.proofs.fills.LawsTakenOff.{Orderly, takings-after, all-keep, after-long}
 use Rattle.orders.specs.Reports.{executionOf}
 use Rattle.orders.proofs.reports.LawsReports.{lines-length, takings-executed}
-use Rattle.side.specs.Table.{side, Shows}
-use Rattle.side.proofs.rows.LawsShown.{length-side, holds-shows}
+use Rattle.side.specs.Table.{side, Holds, Shows}
+use Rattle.side.proofs.rows.LawsShown.{length-side, holds-shows, shown-side, shown-holds}
 use Rattle.rules.specs.declared.Ending.{Ending}
 use Rattle.rules.specs.declared.Event.{Event}
 use Rattle.rules.specs.declared.Resting.{Resting}
 use Rattle.rules.specs.EventLines.{eventLines}
 use Rattle.rules.specs.Refusals.{isRest}
-use Rattle.rules.specs.Working.{takings, endingWith, ending, executions, lastLine, after}
-use Rattle.rules.proofs.LawsEvents.{executed-length, eventLines-append, lines-behind, last-long}
+use Rattle.rules.specs.Holdings.{holdings, takenOf, executions, after}
+use Rattle.rules.specs.Settling.{firstMove, told, settledSide}
+use Rattle.rules.specs.Working.{buying, takings, endingWith, ending, lastLine, refillFate}
+use Rattle.rules.proofs.LawsHoldings.{Parts, parts-alike}
+use Rattle.rules.proofs.LawsWalkOrder.{takings-give}
+use Rattle.rules.proofs.LawsEvents.{executed-length, eventLines-append, lines-behind, last-long, told-long}
 use Rattle.orders.specs.declared.walk.Taking.{Taking}
 use Rattle.orders.specs.declared.walk.Walked.{Walked}
 use Rattle.orders.specs.Walk.{isBelow, takingsIn}
 use Rattle.orders.specs.Walking.{Walks}
-use Rattle.orders.specs.Matching.{isFull, restsBelow}
-use Rattle.orders.proofs.matching.LawsMatched.{length-remainder, full-more, full-not, rest-fits, ending-below, refused, ending-is, ended-is, answer-is}
+use Rattle.orders.specs.declared.matching.Finished.{Finished}
+use Rattle.orders.specs.Matching.{isFull, finished, restsBelow}
+use Rattle.orders.specs.Refills.{MayRefill}
+use Rattle.orders.proofs.matching.LawsMatched.{length-remainder, full-more, full-not, rest-fits, ending-below, refused, ending-is, ended-is, may-refill, answer-is}
 use Rattle.orders.proofs.matching.match_order.Statement.{statement}
 use Rattle.orders.proofs.matching.match_order.Tie as tie
 
 walk-of-requires : tie.Need-walk-of-requires
-walk-of-requires c κs = let p = c .before .before .before .before .pre in (p .1, p .2 .workable)
+walk-of-requires c κs = let p = c .before .before .before .before .pre in (p .1, p .2 .workable, p .2 .oppositeRanked)
 
 ending-of-requires : tie.Need-ending-of-requires
 ending-of-requires c κs = let p = c .before .before .before .before .before .before .before .before .pre in (p .1, p .2 .oppositeRanked, p .2 .lockingPriced)
@@ -84,7 +92,7 @@ module _ (c : tie.After-places-after) where
   below = subst (All (isBelow (walk .at))) (sym (walks .takes)) (walks .before)
 
   executed : List Event
-  executed = executions (start .args .number) opposite (takings (start .args .o) (start .args .away) opposite)
+  executed = executions (start .args .number) (holdings opposite) (takings (start .args .o) (start .args .away) opposite)
 
   executed-is : map (executionOf (start .args .number) opposite) (takingsIn (walk .count) took) ≡ executed
   unfolding executed
@@ -129,47 +137,144 @@ take-off-requires c κs =
     let p = start k .pre in
     (p .1, reached k, walks k .fits, below k, all-keep (all-alike (λ h w. w .holds) (p .2 .workable)))
 
--- the output after the executions has room for the last line
-room-behind : (c : tie.After-conclude-arg2) → c .before .before .before .before .before .before .before .before .report .result + 27 ≤ length (c .before .before .before .before .before .before .before .before .report .last .1 .1 .1 .1 .1 .1 .0)
+-- what the walk leaves of the opposite side
+module _ (c : tie.After-take-off) where
+  abbrev known : tie.After-places-after
+  known = c .before .before .before .before .before .before .before .before .before .before .before .before
+
+  abbrev given : List ℕ
+  given = takings (start known .args .o) (start known .args .away) (opposite known)
+
+  keep-all : every keeps (opposite known) ≡ true
+  unfolding start opposite
+  keep-all = all-keep (all-alike (λ h w. w .holds) (start known .pre .2 .workable))
+
+  orderly : Parts Orderly (opposite known) (takenOf false (holdings (opposite known)) given) (takenOf true (holdings (opposite known)) given)
+  orderly =
+      parts-alike (λ h t r g. (g .shown, ⊎-elim (λ (l : t < h .shares .0). inr (g .shownFirst l)) (λ (l : h .shares .0 ≤ t). inl (omega (arith, l, g .shown))) (lt-or-le t (h .shares .0))))
+      (takings-give (start known .args .o) (start known .args .away) (opposite known))
+
+  taken : afterTakings (takingsIn (walk known .count) (took known)) (opposite known) ≡ after (opposite known) given
+  taken = ap (λ (ks : List Taking). afterTakings ks (opposite known)) (walks known .takes) ∙ takings-after (opposite known) given orderly
+
+  stay-is : c .take-off .result ≡ length (after (opposite known) given)
+  unfolding start opposite walk took
+  stay-is = c .take-off .ensures .0 ∙ ap length taken
+
+  shows : Shows (after (opposite known) given) (c .take-off .last .0) (c .take-off .last .1 .0)
+  unfolding start opposite walk took
+  shows = subst (λ (s : List Resting). Shows s (c .take-off .last .0) (c .take-off .last .1 .0)) taken (c .take-off .ensures .1)
+
+  stay-side : side (c .take-off .result) (c .take-off .last .0) (c .take-off .last .1 .0) ≡ after (opposite known) given
+  stay-side = shown-side (after (opposite known) given) (c .take-off .last .0) (c .take-off .last .1 .0) (c .take-off .result) (sym stay-is) shows
+
+  stay-holds : Holds (c .take-off .result) (c .take-off .last .0) (c .take-off .last .1 .0)
+  stay-holds = shown-holds (after (opposite known) given) (c .take-off .last .0) (c .take-off .last .1 .0) (c .take-off .result) (sym stay-is) shows
+
+  -- those that were not reached all stay
+  unreached-stay : start known .args .m - walk known .at ≤ c .take-off .result
+  unfolding start opposite
+  unreached-stay =
+      omega (
+        arith,
+        after-long (walk known .at) (below known) (opposite known) keep-all,
+        ap length taken,
+        stay-is,
+        length-side (start known .args .m) (now (start known .args .y)) (now (start known .args .opposite)),
+      )
+
+  refills-are : MayRefill (not (buying (start known .args .o))) (start known .args .number) (c .take-off .result - (start known .args .m - walk known .at))
+      (side (c .take-off .result) (c .take-off .last .0) (c .take-off .last .1 .0))
+  unfolding start opposite
+  refills-are =
+      let a = start known .args in
+      let long : length (opposite known) ≡ a .m = length-side (a .m) (now (a .y)) (now (a .opposite)) in
+      let r = start known .pre .2 in
+      let s = after (opposite known) given in
+      let by : ℕ → List Resting → Type 0 = λ k u. MayRefill (not (buying (a .o))) (a .number) k u in
+      let unreached : length s - (length (opposite known) - walk known .at) ≡ c .take-off .result - (a .m - walk known .at) = omega (arith, long, stay-is) in
+      subst (by (c .take-off .result - (a .m - walk known .at))) (sym stay-side)
+      (subst (λ (k : ℕ). by k s) unreached
+      (may-refill (not (buying (a .o))) (a .number) (walk known .at) (below known) (opposite known) given taken (r .oppositeRanked) (r .workable) (r .oppositeOlder)))
+
+  -- the output after the executions has room for the other lines
+  room-behind : c .before .before .before .before .before .before .report .result + 27 + 27 * c .take-off .result ≤ length (c .before .before .before .before .before .before .report .last .1 .1 .1 .1 .1 .1 .0)
+  unfolding start opposite
+  room-behind =
+      let r = c .before .before .before .before .before .before .report in
+      omega (arith, r .ensures .0, r .kept .1 .1 .1 .1 .1 .1 .0, walks known .fits, start known .pre .3, stay-holds .fits)
+
+sub-reached : tie.Need-sub-reached
+unfolding start opposite walk
+sub-reached c = omega (arith, reached (known (c .before)))
+
+sub-reached-2 : tie.Need-sub-reached-2
+unfolding start opposite walk
+sub-reached-2 c = omega (arith, unreached-stay (c .before), reached (known (c .before)))
+
+sub-finish : tie.Need-sub-finish
+sub-finish c = omega (arith, room-behind (c .before .before .before .before .before))
+
+part-finish-start : tie.Need-part-finish-start
+part-finish-start c = omega (arith, room-behind (c .before .before .before .before .before))
+
+part-finish-end : tie.Need-part-finish-end
+part-finish-end c = search needs
+
+finish-requires : tie.Need-finish-requires
 unfolding start own opposite walk took end
-room-behind c =
-    let k = c .before .before .before .before .before .before .before .before .before .before .before .before .before .before in
-    let r = c .before .before .before .before .before .before .before .before .report in
-    omega (arith, r .ensures .0, r .kept .1 .1 .1 .1 .1 .1 .0, walks k .fits, start k .pre .3)
-
-sub-conclude : tie.Need-sub-conclude
-sub-conclude c = omega (arith, room-behind c)
-
-part-conclude-start : tie.Need-part-conclude-start
-part-conclude-start c = omega (arith, room-behind c)
-
-part-conclude-end : tie.Need-part-conclude-end
-part-conclude-end c = search needs
-
-conclude-requires : tie.Need-conclude-requires
-unfolding start own opposite walk took end
-conclude-requires c κs =
-    let k = c .before .before .before .before .before .before .before .before .before .before .before .before .before .before .before in
+finish-requires c κs =
+    let d = c .before .before .before .before .before .before in
+    let k = known d in
     let p = start k .pre in
-    let r = c .before .before .before .before .before .before .before .before .before .report in
+    let r = d .before .before .before .before .before .before .report in
     let x = r .last .1 .1 .1 .1 .1 .1 .0 in
-    let g : 27 ≤ length (take (length x - r .result) (drop (r .result) x)) = simp (length-take, length-drop) (omega (arith, room-behind (c .before))) in (
+    let g : 27 + 27 * d .take-off .result ≤ length (take (length x - r .result) (drop (r .result) x)) = simp (length-take, length-drop) (omega (arith, room-behind d)) in (
       p .0,
-      rest-fits (end k) (start k .args .n) (omega (arith, k .places-after .ensures, c .before .before .before .before .before .before .before .before .before .before .before .before .before .before .if1 .left)),
-      g,
+      rest-fits (end k) (start k .args .n) (omega (arith, k .places-after .ensures, d .before .before .before .before .before .before .before .before .before .before .before .if1 .left)),
       record {
         priced = subst restsBelow (sym (ends k)) (ending-below (start k .args .o) (start k .args .away) (p .2 .limited) (walk k .left .0) (opposite k));
         ranked = p .2 .ownRanked;
         older = p .2 .older;
       },
+      stay-holds d,
+      refills-are d,
+      g,
     )
 
-add-t37 : tie.Need-add-t37
+-- what the order's work leaves at its end
+module _ (c : tie.After-finish) where
+  abbrev off : tie.After-take-off
+  off = c .before .before .before .before .before .before .before
+
+  finish-is : (let a = start (known off) .args in
+      c .finish .result ≡ finished (a .number) (walk (known off) .left) (end (known off)) (not (buying (a .o))) (after (opposite (known off)) (given off)))
+  unfolding start walk end
+  finish-is =
+      let a = start (known off) .args in
+      c .finish .ensures .0
+      ∙ ap (λ (s : List Resting). finished (a .number) (walk (known off) .left) (end (known off)) (not (buying (a .o))) s) (stay-side off)
+
+add-t35 : tie.Need-add-t35
 unfolding start own opposite walk took end
-add-t37 c =
-    let k = c .before .before .before .before .before .before .before .before .before .before .before .before .before .before .before .before .before .before in
+add-t35 c =
+    let k = known (off (c .before .before .before)) in
     let a = start k .args in
-    omega (arith, c .before .before .before .before .before .before .before .before .before .before .before .before .report .ensures .0, walks k .fits, c .before .before .conclude .ensures .0, last-long (a .number) (walk k .left .0) (end k))
+    let s = after (opposite k) (given (off (c .before .before .before))) in
+    let l : c .before .before .before .finish .result .length ≡ length (eventLines (lastLine (a .number) (walk k .left .0) (end k) ++ told refillFate s)) =
+    ap (λ (f : Finished). f .length) (finish-is (c .before .before .before)) in
+    omega (
+      arith,
+      off (c .before .before .before) .before .before .before .before .before .before .report .ensures .0,
+      walks k .fits,
+      l,
+      length-append (eventLines (lastLine (a .number) (walk k .left .0) (end k))) (eventLines (told refillFate s)),
+      ap length (eventLines-append (lastLine (a .number) (walk k .left .0) (end k)) (told refillFate s)),
+      last-long (a .number) (walk k .left .0) (end k),
+      told-long refillFate s,
+      stay-is (off (c .before .before .before)),
+      stay-holds (off (c .before .before .before)) .fits,
+    )
 
 same-length : tie.Need-same-length
 same-length c = search needs
@@ -177,34 +282,39 @@ same-length c = search needs
 returns-2 : tie.Need-returns-2
 unfolding start own opposite walk took end executed
 returns-2 c =
-    let k = c .before .before .before .before .before .before .before .before .before .before .before .before .before .before .before .before .before .before in
+    let d = off (c .before .before .before) in
+    let k = known d in
     let a = start k .args in
-    let r = c .before .before .before .before .before .before .before .before .before .before .before .before .report in
-    let f = c .before .before .before .before .before .before .take-off in
-    let l = c .before .before .conclude in
+    let r = d .before .before .before .before .before .before .report in
+    let f = c .before .before .before .finish in
     let left = walk k .left .0 in
     let last = lastLine (a .number) left (end k) in
-    let ts = takings (a .o) (a .away) (opposite k) in
-    let isRoom : isFull (end k) (own k) ≡ false = full-not (end k) (own k) (omega (arith, held k, c .before .before .before .before .before .before .before .before .before .before .before .before .before .before .before .before .before .if1 .left)) in
+    let s = after (opposite k) (given d) in
+    let rest = last ++ told refillFate s in
+    let isRoom : isFull (end k) (own k) ≡ false = full-not (end k) (own k) (omega (arith, held k, d .before .before .before .before .before .before .before .before .before .before .before .if1 .left)) in
     let is = ended-is (a .o) (a .number) (a .away) (own k) (opposite k) left (end k) (walks k .leaves) (ends k) isRoom in
     let len : r .result ≡ length (eventLines (executed k)) = r .ensures .0 ∙ executed-long k in
-    let long : r .result + l .result ≡ length (eventLines (executed k ++ last)) =
-    rw (eventLines-append (executed k) last) (omega (arith, length-append (eventLines (executed k)) (eventLines last), len, l .ensures .0)) in
+    let fin = finish-is (c .before .before .before) in
+    let joined : (executed k ++ last) ++ told refillFate s ≡ executed k ++ rest = append-assoc (executed k) last (told refillFate s) in
+    let long : r .result + f .result .length ≡ length (eventLines ((executed k ++ last) ++ told refillFate s)) =
+    rw (joined, eventLines-append (executed k) rest)
+    (omega (arith, length-append (eventLines (executed k)) (eventLines rest), len, ap (λ (z : Finished). z .length) fin)) in
     let own-length = held k ∙ sym (length-remainder (a .number) (a .o) left (end k) (own k)) in
-    let taken : afterTakings (takingsIn (walk k .count) (took k)) (opposite k) ≡ after (opposite k) ts =
-    ap (λ (ks : List Taking). afterTakings ks (opposite k)) (walks k .takes) ∙ takings-after (opposite k) ts (all-keep (all-alike (λ h w. w .holds) (start k .pre .2 .workable))) in
-    let opposite-length : f .result ≡ length (after (opposite k) ts) = f .ensures .0 ∙ ap length taken in
-    let shows = subst (λ (s : List Resting). Shows s (f .last .0) (f .last .1 .0)) taken (f .ensures .1) in
+    let opposite-length = ap (λ (z : Finished). z .opposite) fin in
+    let shown : Shows (settledSide (a .number) firstMove (not (buying (a .o))) refillFate s) (f .last .1 .1 .1 .1 .1 .1 .1 .0) (f .last .1 .1 .1 .1 .1 .1 .1 .1 .0) =
+    subst (λ (u : List Resting). Shows (settledSide (a .number) firstMove (not (buying (a .o))) refillFate u) (f .last .1 .1 .1 .1 .1 .1 .1 .0) (f .last .1 .1 .1 .1 .1 .1 .1 .1 .0)) (stay-side d)
+    (f .ensures .1 .1 .0) in
     let wrote : r .last .1 .1 .1 .1 .1 .1 .0 ≡ onto (eventLines (executed k)) (now (a .out)) =
     r .ensures .1 ∙ ap (λ (es : List Event). onto (eventLines es) (now (a .out))) (executed-is k) in
-    rw is (
-      answer-is own-length opposite-length long,
+    let x = r .last .1 .1 .1 .1 .1 .1 .0 in
+    let more : f .last .1 .1 .1 .1 .1 .1 .1 .1 .1 .1 .1 .0 ≡ onto (eventLines rest) (take (length x - r .result) (drop (r .result) x)) =
+    f .ensures .1 .1 .1
+    ∙ ap (λ (u : List Resting). onto (eventLines (last ++ told refillFate u)) (take (length x - r .result) (drop (r .result) x))) (stay-side d) in
+    rw (is, joined) (
+      answer-is own-length opposite-length (long ∙ ap (λ (es : List Event). length (eventLines es)) joined),
       (
-        l .ensures .1 .0,
-        (
-          shows,
-          lines-behind (executed k) last (r .result) (r .last .1 .1 .1 .1 .1 .1 .0) (now (a .out)) (l .last .1 .1 .1 .1 .1 .1 .1 .0) len wrote (l .ensures .1 .1),
-        ),
+        f .ensures .1 .0,
+        (shown, lines-behind (executed k) rest (r .result) x (now (a .out)) (f .last .1 .1 .1 .1 .1 .1 .1 .1 .1 .1 .1 .0) len wrote more),
       ),
     )
 
@@ -218,10 +328,12 @@ match-order-spec =
     returns
     report-requires
     take-off-requires
-    sub-conclude
-    part-conclude-start
-    part-conclude-end
-    conclude-requires
-    add-t37
+    sub-reached
+    sub-reached-2
+    sub-finish
+    part-finish-start
+    part-finish-end
+    finish-requires
+    add-t35
     same-length
     returns-2)

@@ -11,7 +11,9 @@ use denote.Ref.{now}
 use Rattle.basics.specs.Bytes.{onto}
 use Rattle.side.specs.Table.{side}
 use Rattle.side.proofs.rows.LawsShown.{length-side}
-use Rattle.rules.specs.Book.{unused}
+use Rattle.basics.proofs.LawsLists.{all-at}
+use Rattle.kinds.specs.Kinds.{shares}
+use Rattle.rules.specs.Book.{unused, sharesLeft}
 use Rattle.rules.specs.EventLines.{eventLine, eventLines}
 use Rattle.rules.proofs.LawsEvents.{cancelled-length}
 use Rattle.orders.specs.Reports.{cancelledFor}
@@ -32,6 +34,14 @@ loop-holds c = (omega arith, omega arith, refl, refl)
 
 at-requires : tie.Need-at-requires Inv-loop μ-loop
 at-requires c κs = search needs
+
+shares-left-requires : tie.Need-shares-left-requires Inv-loop μ-loop
+shares-left-requires c κs =
+    let l = c .before .before .loop in
+    let start = c .before .before .before .before in
+    let a = start .args in
+    let long = length-side (a .n) (now (a .x)) (now (a .t)) in
+    rw (c .at .ensures) (all-at unused (l .i) (start .pre .2) (omega (arith, c .before .loop-test .taken)))
 
 sub-write-cancelled : tie.Need-sub-write-cancelled Inv-loop μ-loop
 sub-write-cancelled c = search needs
@@ -57,18 +67,19 @@ loop-less c = search needs
 loop-again : tie.Need-loop-again Inv-loop μ-loop
 loop-again c =
     let w = c .before .before .write-cancelled in
-    let read = c .before .before .before .before in
+    let left = c .before .before .before .before in
+    let read = left .before in
     let l = read .before .before .loop in
     let a = read .before .before .before .before .args in
     let s = side (a .n) (now (a .x)) (now (a .t)) in
     let long = length-side (a .n) (now (a .x)) (now (a .t)) in
     let n : w .result ≡ 21 = w .ensures .0 in
     let p : w .last .0 ≡ onto (eventLine (cancelledFor (a .reason) (getD s (l .i) unused))) (take (length (l .out) - l .len) (drop (l .len) (l .out))) =
-    w .ensures .1 ∙ rw (read .at .ensures) in (
+    w .ensures .1 ∙ rw (left .shares-left .ensures, read .at .ensures) in (
       omega arith,
       omega arith,
       search needs,
-      lines-turn (cancelledFor (a .reason)) 21 (λ h. cancelled-length (h .number) (h .shares) (a .reason))
+      lines-turn (cancelledFor (a .reason)) 21 (λ h. cancelled-length (h .number) (shares (sharesLeft h)) (a .reason))
           unused s (l .i) (omega arith) (l .len) (l .out) (now (a .out)) (w .last .0) (l .inv .1) (l .inv .3) p,
     )
 
@@ -91,6 +102,7 @@ report-cancelled-spec =
     μ-loop
     loop-holds
     at-requires
+    shares-left-requires
     sub-write-cancelled
     part-write-cancelled-start
     part-write-cancelled-end

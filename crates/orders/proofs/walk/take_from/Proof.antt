@@ -6,8 +6,7 @@ use native.Mathlib.Omega.{arith}
 use borrow.Author.Needs.{needs}
 use denote.Ref.{now}
 use Rattle.kinds.specs.declared.Shares.{Shares}
-use Rattle.rules.specs.Working.{smaller}
-use Rattle.orders.specs.Walk.{mostTakings}
+use Rattle.orders.specs.Walk.{mostTakings, partGives}
 use Rattle.orders.proofs.walk.LawsTaken.{taking-none, taking-one}
 use Rattle.orders.proofs.walk.LawsWalk.{laid-one}
 use Rattle.orders.proofs.walk.take_from.Statement.{statement}
@@ -19,16 +18,16 @@ whole-requires c κs = search needs
 smaller-requires : tie.Need-smaller-requires
 smaller-requires c κs = search needs
 
--- what the order gives
-gives : (c : tie.After-smaller) → c .smaller .result .0 ≡ smaller (c .before .before .before .before .args .left .0) (c .before .before .before .before .args .o)
+-- what the part gives
+gives : (c : tie.After-smaller) → c .smaller .result .0 ≡ partGives (c .before .before .before .before .args .left .0) (c .before .before .before .before .args .p)
 gives c = ap (λ (n : Shares). n .0) (c .smaller .ensures)
 
 returns : tie.Need-returns
 returns c =
     let given = c .before .before in
     let a = given .before .before .before .before .args in
-    let z : smaller (a .left .0) (a .o) ≡ 0 = sym (gives given) ∙ c .if1 .taken in
-    let n = taking-none (a .place) (a .o) in
+    let z : partGives (a .left .0) (a .p) ≡ 0 = sym (gives given) ∙ c .if1 .taken in
+    let n = taking-none (a .p) in
     let count : a .count + 0 ≡ a .count = omega arith in
     let left : a .left .0 - 0 ≡ a .left .0 = omega arith in
     (rw (z, n, count, left), rw (z, n) (sym (take-append-drop (a .count) (now (a .took)))))
@@ -36,11 +35,11 @@ returns c =
 put-requires : tie.Need-put-requires
 put-requires c κs = search needs
 
-add-t14 : tie.Need-add-t14
-add-t14 c = search needs
+add-t13 : tie.Need-add-t13
+add-t13 c = search needs
 
-sub-t15 : tie.Need-sub-t15
-sub-t15 c = omega (arith, gives (c .before .before .before .before .before .before .before))
+sub-t14 : tie.Need-sub-t14
+sub-t14 c = omega (arith, gives (c .before .before .before .before .before .before .before))
 
 returns-2 : tie.Need-returns-2
 returns-2 c =
@@ -49,10 +48,10 @@ returns-2 c =
     let a = given .before .before .before .before .args in
     let f : length (now (a .took)) ≡ mostTakings = given .before .before .whole .ensures in
     let g = given .smaller .result .0 in
-    let n = taking-one (a .place) (a .o) g (laid .before .before .before .if1 .left) in
+    let n = taking-one (a .p) g (laid .before .before .before .if1 .left) in
     (rw (← gives given, n), rw (← gives given, n) (laid .put .ensures ∙ laid-one (a .count) _ (now (a .took)) (omega arith)))
 
 pub take-from-spec : {M : Type 1} → statement M
 take-from-spec =
     tie.close
-    (tie.spec whole-requires smaller-requires returns put-requires add-t14 sub-t15 returns-2)
+    (tie.spec whole-requires smaller-requires returns put-requires add-t13 sub-t14 returns-2)

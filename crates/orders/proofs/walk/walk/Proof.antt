@@ -1,7 +1,8 @@
--- `orders::walk::walk` meets its contract. The loop's invariant is `Underway` of LawsWalk. Assumes nothing.
+-- `orders::walk::walk` meets its contract. The loop's invariant is `Underway` of LawsWalk, and its measure the parts ahead of the cursor.
+-- Assumes nothing.
 use Prim.Native.Nat.{_+_, _-_}
 use mathlib.Core.Bool.{true, false}
-use mathlib.Core.List.{map}
+use mathlib.Core.List.{[], map}
 use mathlib.Core.Path.{_≡_, sym, _∙_}
 use lib.ListN.{length}
 use native.Mathlib.Omega.{arith}
@@ -11,68 +12,88 @@ use denote.Ref.{now}
 use Rattle.kinds.specs.Kinds.{shares}
 use Rattle.side.specs.Table.{side}
 use Rattle.side.proofs.rows.LawsShown.{length-side}
-use Rattle.rules.specs.Working.{smaller}
-use Rattle.orders.specs.Walk.{isWithin, taking, takingRow, laidAt}
-use Rattle.orders.proofs.walk.LawsWalk.{Underway, underway-start, underway-on, ended-side, ended-none, ended-beyond}
+use Rattle.orders.specs.Cursor.{ahead, Gives}
+use Rattle.orders.specs.Walk.{isWithin, partGives, taking, takingRow, laidAt}
+use Rattle.orders.proofs.walk.LawsWalk.{Underway, underway-start, underway-on, less, ended-side, ended-none, ended-beyond}
 use Rattle.orders.proofs.walk.walk.Statement.{statement}
 use Rattle.orders.proofs.walk.walk.Tie as tie
 
 abbrev Inv-loop : tie.InvT-loop
-Inv-loop x t n buying bound took₀ at₀ count₀ left₀ took at count left = Underway (isWithin buying bound) (left₀ .0) (side n x t) took₀ took at count (left .0)
+Inv-loop x t n buying bound took₀ c₀ count₀ left₀ took c count left =
+    Underway (isWithin buying bound) (left₀ .0) (side n x t) took₀ took c count (left .0)
 
 abbrev μ-loop : tie.MeasureT-loop
-μ-loop x t n buying bound took₀ at₀ count₀ left₀ took at count left = n - at
+μ-loop x t n buying bound took₀ c₀ count₀ left₀ took c count left = length (ahead (side n x t) c)
 
 loop-holds : tie.Need-loop-holds Inv-loop μ-loop
 loop-holds c =
     let a = c .args in
     underway-start (isWithin (a .buying) (a .bound)) (a .want .0) (side (a .n) (now (a .x)) (now (a .t))) (now (a .took))
+    (omega (arith, length-side (a .n) (now (a .x)) (now (a .t)), c .pre .fits))
 
-at-requires : tie.Need-at-requires Inv-loop μ-loop
-at-requires c κs = search needs
+next-requires : tie.Need-next-requires Inv-loop μ-loop
+next-requires c κs = (c .before .before .before .pre, c .before .before .loop .inv .isAt)
+
+enum-known-part : tie.Need-enum-known-part Inv-loop μ-loop
+enum-known-part c = search needs
+
+enum-told : tie.Need-enum-told Inv-loop μ-loop
+enum-told c = search needs
 
 within-requires : tie.Need-within-requires Inv-loop μ-loop
 within-requires c κs = search needs
 
-take-from-requires : tie.Need-take-from-requires Inv-loop μ-loop
-take-from-requires c κs = search needs
+-- the part that the cursor gave
+gave : (c : tie.After-known-told Inv-loop μ-loop) → (let start = c .before .before .before .before .before .before .before in
+    Gives (side (start .args .n) (now (start .args .x)) (now (start .args .t))) (c .before .before .before .before .before .before .loop .c)
+    (c .before .part .given .0 .0) (c .before .part .given .0 .1 .0))
+gave c = rw (c .before .part .given .1) at (c .before .before .before .next .ensures)
 
-add-at : tie.Need-add-at Inv-loop μ-loop
-add-at c = search needs
+take-from-requires : tie.Need-take-from-requires Inv-loop μ-loop
+take-from-requires c κs =
+    let d = c .before .before .before in
+    let l = d .before .before .before .before .before .before .loop in
+    let start = d .before .before .before .before .before .before .before in
+    let a = start .args in
+    let g = gave d in
+    let k = less g in
+    (omega (arith, l .inv .room, k), omega (arith, g .place, length-side (a .n) (now (a .x)) (now (a .t)), start .pre .fits))
 
 loop-less : tie.Need-loop-less Inv-loop μ-loop
-loop-less c = search needs
+loop-less c = less (gave (c .before .before .before .before .before))
 
 loop-again : tie.Need-loop-again Inv-loop μ-loop
 loop-again c =
+    let d = c .before .before .before .before .before in
+    let l = d .before .before .before .before .before .before .loop in
+    let a = d .before .before .before .before .before .before .before .args in
+    let p = d .before .part .given .0 .0 in
+    let g = partGives (l .left .0) p in
     let taken = c .before .take-from in
-    let tested = c .before .before .before in
-    let read = tested .before .before in
-    let l = read .before .before .before .before .loop in
-    let a = read .before .before .before .before .before .args in
-    let h = read .at .result in
-    let g = smaller (l .left .0) h in
-    let m : isWithin (a .buying) (a .bound) h ≡ true = sym (tested .before .within .ensures) ∙ not-false _ (tested .if2 .left) in
-    let r : taken .result ≡ record { count = l .count + length (taking (l .at) h g); left = shares (l .left .0 - g) } = taken .ensures .0 in
-    let t : taken .last .0 ≡ laidAt (l .count) (map takingRow (taking (l .at) h g)) (l .took) = taken .ensures .1 in
-    rw (r, t) (underway-on (l .inv) (omega arith) (omega (arith, length-side (a .n) (now (a .x)) (now (a .t)))) h (read .at .ensures) m)
+    let m : isWithin (a .buying) (a .bound) p ≡ true =
+    sym (c .before .before .before .before .within .ensures) ∙ not-false _ (c .before .before .before .if2 .left) in
+    let r : taken .result ≡ record { count = l .count + length (taking p g); left = shares (l .left .0 - g) } = taken .ensures .0 in
+    let t : taken .last .0 ≡ laidAt (l .count) (map takingRow (taking p g)) (l .took) = taken .ensures .1 in
+    rw (r, t) (underway-on (l .inv) (omega arith) (gave d) m)
 
 returns : tie.Need-returns Inv-loop μ-loop
-returns c =
-    let a = c .before .before .args in
-    ended-side (c .before .loop .inv) (omega (arith, length-side (a .n) (now (a .x)) (now (a .t))))
+returns c = ended-none (c .before .before .loop .inv) (c .if1 .taken)
 
 returns-2 : tie.Need-returns-2 Inv-loop μ-loop
-returns-2 c = ended-none (c .before .before .before .loop .inv) (c .if1 .taken)
+returns-2 c =
+    let l = c .before .before .before .before .before .loop in
+    let a = c .before .before .before .before .before .before .args in
+    let e : ahead (side (a .n) (now (a .x)) (now (a .t))) (l .c) ≡ [] = rw (c .enum-told .given .1) at (c .before .before .next .ensures) in
+    ended-side (l .inv) e
 
 returns-3 : tie.Need-returns-3 Inv-loop μ-loop
 returns-3 c =
-    let read = c .before .before in
-    let l = read .before .before .before .before .loop in
-    let a = read .before .before .before .before .before .args in
-    let h = read .at .result in
-    let m : isWithin (a .buying) (a .bound) h ≡ false = sym (c .before .within .ensures) ∙ not-true _ (c .if2 .taken) in
-    ended-beyond (l .inv) (omega arith) (omega (arith, length-side (a .n) (now (a .x)) (now (a .t)))) h (read .at .ensures) m
+    let d = c .before .before in
+    let l = d .before .before .before .before .before .before .loop in
+    let a = d .before .before .before .before .before .before .before .args in
+    let m : isWithin (a .buying) (a .bound) (d .before .part .given .0 .0) ≡ false =
+    sym (c .before .within .ensures) ∙ not-true _ (c .if2 .taken) in
+    ended-beyond (l .inv) (omega arith) (gave d) m
 
 pub walk-spec : {M : Type 1} → statement M
 walk-spec =
@@ -81,10 +102,11 @@ walk-spec =
     Inv-loop
     μ-loop
     loop-holds
-    at-requires
+    next-requires
+    enum-known-part
+    enum-told
     within-requires
     take-from-requires
-    add-at
     loop-less
     loop-again
     returns

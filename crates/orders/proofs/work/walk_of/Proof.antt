@@ -13,6 +13,7 @@ use Rattle.side.specs.Table.{side}
 use Rattle.side.proofs.rows.LawsShown.{length-side}
 use Rattle.rules.specs.Instructions.{fok, postOnly, has}
 use Rattle.rules.specs.Working.{buying}
+use Rattle.orders.specs.Cursor.{parts}
 use Rattle.orders.specs.Walk.{isWithin, takingRow, takingsOf, laid, walkedOf}
 use Rattle.orders.specs.Walking.{boundWalk}
 use Rattle.orders.proofs.work.LawsWalking.{walks-post, walks-killed, walks-on}
@@ -26,7 +27,7 @@ returns : tie.Need-returns
 returns c =
     let a = c .before .before .before .args in
     let post : has (a .o .word) postOnly ≡ true = sym (c .before .has .ensures) ∙ c .if1 .taken in
-    walks-post (a .o) (a .away) (now (a .took)) post
+    walks-post (a .o) (a .away) (side (a .n) (now (a .x)) (now (a .t))) (now (a .took)) post
 
 bound-of-requires : tie.Need-bound-of-requires
 bound-of-requires c κs = search needs
@@ -47,7 +48,7 @@ module _ (c : tie.After-walk) where
   walk-is =
       let a = c .before .before .before .before .before .before .before .args in
       c .walk .ensures .0
-      ∙ ap (λ (b : Cents). walkedOf (isWithin (buying (a .o)) b) (a .o .shares .0) (side (a .n) (now (a .x)) (now (a .t)))) (c .before .before .before .bound-of .ensures)
+      ∙ ap (λ (b : Cents). walkedOf (isWithin (buying (a .o)) b) (a .o .shares .0) (parts (side (a .n) (now (a .x)) (now (a .t))))) (c .before .before .before .bound-of .ensures)
 
 returns-2 : tie.Need-returns-2
 returns-2 c =
@@ -57,7 +58,7 @@ returns-2 c =
     let s = side (a .n) (now (a .x)) (now (a .t)) in
     let killed : (has (a .o .word) fok && ltb 0 (boundWalk (a .o) (a .away) s .left .0)) ≡ true =
     rw (walk-is w, c .before .before .has2 .ensures) at (c .if2 .taken) in
-    walks-killed (a .o) (a .away) (start .pre .1) (plain w) (w .walk .last .1 .1 .1 .1 .1 .1 .0) killed
+    walks-killed (a .o) (a .away) s (start .pre .1) (start .pre .2) (plain w) (w .walk .last .1 .1 .1 .1 .1 .1 .0) killed
 
 returns-3 : tie.Need-returns-3
 returns-3 c =
@@ -67,12 +68,12 @@ returns-3 c =
     let s = side (a .n) (now (a .x)) (now (a .t)) in
     let alive : (has (a .o .word) fok && ltb 0 (boundWalk (a .o) (a .away) s .left .0)) ≡ false =
     rw (walk-is w, c .before .before .has2 .ensures) at (c .if2 .left) in
-    let took : w .walk .last .1 .1 .1 .1 .1 .1 .0 ≡ laid (map takingRow (takingsOf (isWithin (buying (a .o)) (boundOf (a .o) (a .away))) (a .o .shares .0) s)) (now (a .took)) =
+    let took : w .walk .last .1 .1 .1 .1 .1 .1 .0 ≡ laid (map takingRow (takingsOf (isWithin (buying (a .o)) (boundOf (a .o) (a .away))) (a .o .shares .0) (parts s))) (now (a .took)) =
     w .walk .ensures .1
-    ∙ ap (λ (b : Cents). laid (map takingRow (takingsOf (isWithin (buying (a .o)) b) (a .o .shares .0) s)) (now (a .took))) (w .before .before .before .bound-of .ensures) in
+    ∙ ap (λ (b : Cents). laid (map takingRow (takingsOf (isWithin (buying (a .o)) b) (a .o .shares .0) (parts s))) (now (a .took))) (w .before .before .before .bound-of .ensures) in
     let fits = start .pre .0 .fits in
     rw (walk-is w)
-    (walks-on (a .o) (a .away) (start .pre .1) (plain w) (now (a .took)) (w .walk .last .1 .1 .1 .1 .1 .1 .0)
+    (walks-on (a .o) (a .away) s (start .pre .1) (start .pre .2) (plain w) (now (a .took)) (w .walk .last .1 .1 .1 .1 .1 .1 .0)
     (omega (arith, fits, length-side (a .n) (now (a .x)) (now (a .t)))) alive took)
 
 pub walk-of-spec : {M : Type 1} → statement M

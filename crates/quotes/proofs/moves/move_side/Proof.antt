@@ -14,9 +14,9 @@ use borrow.Author.Needs.{needs}
 use borrow.Author.Tests.{lt-ltb, ltb-true, ltb-false, le-ltb}
 use denote.Ref.{now}
 use Rattle.basics.specs.Choice.{if_then_else_}
-use Rattle.basics.specs.Lists.{none, also}
+use Rattle.basics.specs.Lists.{All, none, also}
 use Rattle.basics.proofs.LawsChoice.{holds-or-not, by-choice, and-left, and-right, and-none}
-use Rattle.basics.proofs.LawsLists.{all-alike, all-both, each-there}
+use Rattle.basics.proofs.LawsLists.{all-alike, all-at, all-both, each-there}
 use Rattle.kinds.specs.declared.Cents.{Cents}
 use Rattle.side.specs.Table.{side, Holds}
 use Rattle.side.proofs.rows.LawsShown.{length-side}
@@ -24,17 +24,18 @@ use Rattle.rules.specs.declared.Fate.{Fate}
 use Rattle.rules.specs.declared.Fate.the-variants.{Stays, IsCancelled, IsSet}
 use Rattle.rules.specs.declared.Resting.{Resting}
 use Rattle.rules.specs.declared.Stamp.{Stamp}
-use Rattle.rules.specs.Book.{placesASide, better, unused, inRankOrder}
+use Rattle.rules.specs.Book.{placesASide, better, unused, stamp, inRankOrder}
 use Rattle.rules.specs.EventLines.{eventLines, cancelledBack}
 use Rattle.rules.specs.Settling.{setAt, stampedAs, toldBy, told}
 use Rattle.rules.specs.Working.{lockingPrice, absent, beyond}
-use Rattle.rules.proofs.LawsCommands.{not-beyond-itself}
+use Rattle.rules.proofs.LawsCommands.{IfSet, not-beyond-itself}
 use Rattle.side.specs.Looking.{priceBound}
+use Rattle.side.specs.Shifts.{Countable}
 use Rattle.rules.proofs.LawsRank.{rank-price, ranked-first, ranked-rest}
 use Rattle.quotes.specs.Moves.{goesOn, fateAt}
-use Rattle.settling.specs.OneByOne.{setBelow}
+use Rattle.settling.specs.OneByOne.{setBelow, settledAt}
 use Rattle.settling.proofs.LawsOneByOne.{Stay, SetStays}
-use Rattle.settling.proofs.LawsSettling.{Settling, settling-start, room-now, ranked-others, older-others, next-fits, settle-leaves, IsSettled, settled-all}
+use Rattle.settling.proofs.LawsSettling.{Settling, settling-start, room-now, ranked-others, older-others, next-fits, settle-leaves, settled-at-all, IsSettled, settled-all}
 use Rattle.quotes.proofs.moves.move_side.Statement.{statement}
 use Rattle.quotes.proofs.moves.move_side.Tie as tie
 
@@ -65,6 +66,9 @@ module _ (buy : Bool) (locking : Cents) where
   set-stays : (h : Resting) (anew : Stamp) → SetStays (quoted buy locking) anew (quoted buy locking h)
   set-stays h anew =
       by-fate (SetStays (quoted buy locking) anew) h tt tt (within-stays (stampedAs anew (setAt locking h)) (not-beyond-itself buy locking))
+
+  set-countable : (h : Resting) (anew : Stamp) → Countable h → IfSet (λ (new : Resting). Countable (stampedAs anew new)) (quoted buy locking h)
+  set-countable h anew c = by-fate (IfSet (λ (new : Resting). Countable (stampedAs anew new))) h tt tt c
 
   set-below : locking .0 < priceBound → (h : Resting) → setBelow (quoted buy locking h)
   set-below l h = by-fate setBelow h tt tt l
@@ -110,6 +114,7 @@ Inv-loop x₀ t₀ n buying number first out₀ locking m₀ at₀ x t out m at 
     let fate = quoted buying locking in
     let s = side (m .held) x t in
     Holds (m .held) x t × Settling fate number buying first (side n x₀ t₀) out₀ s (m .next) (m .length) out × Stay fate (take at s) × (length out ≡ length out₀)
+    × All Countable s
 
 abbrev μ-loop : tie.MeasureT-loop
 μ-loop x₀ t₀ n buying number first out₀ locking m₀ at₀ x t out m at = length (told (quoted buying locking) (side (m .held) x t)) + (placesASide - at)
@@ -123,7 +128,7 @@ loop-holds c =
     let a = start .args in
     let p = start .pre in
     let fate = quoted (a .buying) (c .locking-price .result) in
-    (p .0, settling-start fate (a .number) (a .buying) (a .first) (side (a .n) (now (a .x)) (now (a .t))) (now (a .out)) (p .1) (p .4 .1), none, refl)
+    (p .0, settling-start fate (a .number) (a .buying) (a .first) (side (a .n) (now (a .x)) (now (a .t))) (now (a .out)) (p .1) (p .4 .1), none, refl, p .5)
 
 goes-on-requires : tie.Need-goes-on-requires Inv-loop μ-loop
 goes-on-requires c κs = c .before .before .loop .inv .0
@@ -171,7 +176,7 @@ loop-again c =
     let o = c .before .at .result in
     let i = here k .loop .inv in
     let stays = also (displayed-stays (buying k) (locking k) o (c .if2 .taken)) none in
-    (i .0, i .1, rw (add-one (here k .loop .at), take-suc (left k) (here k .loop .at) unused (below k), ← order-is (c .before)) (all-both (i .2) stays), i .3)
+    (i .0, i .1, rw (add-one (here k .loop .at), take-suc (left k) (here k .loop .at) unused (below k), ← order-is (c .before)) (all-both (i .2) stays), i .3, i .4)
 
 -- ── One that is not meets its fate ──
 
@@ -206,6 +211,7 @@ settle-requires c κs =
       ranked-others (i .1) (below b) o (order-is k),
       omega (arith, fits, room, i .3),
       omega (arith, next-fits (i .1), length-side (a .n) (now (a .x)) (now (a .t)), p .2),
+      subst Countable (sym (order-is k)) (all-at unused (here b .loop .at) (i .4) (below b)),
       (set-below (a .buying) (locking b) (omega (arith, p .4 .0, ap (λ (l : Cents). l .0) q)) o, older-others (i .1) (below b) o (order-is k)),
     )
 
@@ -224,6 +230,7 @@ module _ (c : tie.After-settle Inv-loop μ-loop) where
       × Settling fate (a .number) (a .buying) (a .first) (side (a .n) (now (a .x)) (now (a .t))) (now (a .out)) (side (m .held) x t) (m .next) (m .length)
       (c .settle .last .1 .1 .1 .1 .1 .1 .1 .1 .0)
       × Stay fate (take at (side (m .held) x t)) × (length (told fate (side (m .held) x t)) < length (told fate (left (read .before))))
+      × All Countable (side (m .held) x t)
   settled =
       let b = read .before in
       let a = here b .before .before .before .args in
@@ -236,7 +243,12 @@ module _ (c : tie.After-settle Inv-loop μ-loop) where
       (set-stays (a .buying) (locking b) o _) (set-below (a .buying) (locking b) (omega (arith, p .4 .0, ap (λ (l : Cents). l .0) q)) o)
       (c .settle .result) (c .settle .last .0) (c .settle .last .1 .0) _ (c .settle .ensures .0) (c .settle .ensures .1 .0) (c .settle .ensures .1 .1) in
       let once = ap (λ (g : Fate). length (toldBy g o)) (c .before .before .fate-beyond .ensures) ∙ told-once (locking b) o in
-      (left .0, left .1, left .2, omega (arith, left .3, once))
+      let number = a .number in
+      let counted = subst Countable (sym (order-is read)) (all-at unused (here b .loop .at) (i .4) (below b)) in
+      let kept : All Countable (settledAt number (here b .loop .m .next) (a .buying) f (here b .loop .at) (side (here b .loop .m .held) (here b .loop .x) (here b .loop .t))) =
+      settled-at-all number (here b .loop .m .next) (a .buying) f (subst (IfSet (λ (new : Resting). Countable (stampedAs (stamp number (here b .loop .m .next)) new))) (sym (fate-is (c .before .before)))
+      (set-countable (a .buying) (locking b) o (stamp number (here b .loop .m .next)) counted)) (here b .loop .at) (i .4) in
+      (left .0, left .1, left .2, omega (arith, left .3, once), subst (All Countable) (sym (left .4)) kept)
 
 loop-less-2 : tie.Need-loop-less-2 Inv-loop μ-loop
 loop-less-2 c = omega (arith, settled (c .before .before) .3)
@@ -245,7 +257,7 @@ loop-again-2 : tie.Need-loop-again-2 Inv-loop μ-loop
 loop-again-2 c =
     let s = c .before .before in
     let d = settled s in
-    (d .0, d .1, d .2, omega (arith, s .settle .kept .1 .1 .1 .1 .1 .1 .1 .1 .0, here (read s .before) .loop .inv .3))
+    (d .0, d .1, d .2, omega (arith, s .settle .kept .1 .1 .1 .1 .1 .1 .1 .1 .0, here (read s .before) .loop .inv .3), d .4)
 
 same-length : tie.Need-same-length Inv-loop μ-loop
 same-length c = search needs

@@ -1,0 +1,2 @@
+pub mod LawsAhead
+pub mod LawsParts

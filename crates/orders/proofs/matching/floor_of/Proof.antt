@@ -1,0 +1,19 @@
+-- `orders::matching::floor_of` meets its contract. Assumes nothing.
+use borrow.Author.Needs.{needs}
+use Rattle.orders.proofs.matching.floor_of.Statement.{statement}
+use Rattle.orders.proofs.matching.floor_of.Tie as tie
+
+enum-told : tie.Need-enum-told
+enum-told c = search needs
+
+enum-known-carried : tie.Need-enum-known-carried
+enum-known-carried c = search needs
+
+returns : tie.Need-returns
+returns c = rw (c .enum-told .given .1)
+
+returns-2 : tie.Need-returns-2
+returns-2 c = rw (c .before .carried .given .1)
+
+pub floor-of-spec : {M : Type 1} → statement M
+floor-of-spec = tie.close (tie.spec enum-told enum-known-carried returns returns-2)
