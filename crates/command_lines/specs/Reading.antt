@@ -1,20 +1,31 @@
--- The fields that every order has (01, Command lines), as they are read before what it carries: as an order that carries nothing.
+-- Orders of the several kinds are read together (01, Command lines; 02, W4): what one carries comes first, with the end of its line.
 use Prim.Native.Nat.{ℕ}
-use mathlib.Core.Bool.{_&&_}
-use mathlib.Core.List.{List}
-use Rattle.digits.specs.declared.Field.{Field}
-use Rattle.digits.specs.Digits.{numberAt, fieldOf}
-use Rattle.kinds.specs.Kinds.{cents, shares}
-use Rattle.rules.specs.declared.Carried.the-variants.{Nothing}
-use Rattle.command_lines.specs.declared.reader.OrderFields.{OrderFields}
+use mathlib.Core.List.{List, [], _∷_}
+use lib.Dec.{eqb}
+use Rattle.basics.specs.Choice.{if_then_else_}
+use Rattle.digits.specs.declared.Value.{Value}
+use Rattle.digits.specs.declared.Value.the-variants as value
+use Rattle.digits.specs.Digits.{numberAt}
+use Rattle.kinds.specs.Kinds.{shares}
+use Rattle.rules.specs.declared.Carried.the-variants.{Nothing, MaxFloor}
+use Rattle.rules.specs.CommandLines.{Kind, orderKind, orderForm, orderMade, reserveKind, reserveForm, reserveMade, digitsIn, isEnded}
+use Rattle.command_lines.specs.declared.reader.CarriedReading.{CarriedReading}
+use Rattle.command_lines.specs.declared.reader.CarriedReading.the-variants.{Is, Bad}
 
--- all of them good, or not, and the order of their numbers
-abbrev fieldsMade : Field → Field → Field → Field → OrderFields
-fieldsMade side word price count = record {
-  good = side .good && word .good && price .good && count .good;
-  order = record { side = side .number; word = word .number; price = cents (price .number); shares = shares (count .number); carried = Nothing };
-}
+-- the kinds of order in the table of kinds
+abbrev pub orderKinds : List Kind
+orderKinds =
+    record { code = orderKind; form = orderForm; make = orderMade }
+    ∷ record { code = reserveKind; form = reserveForm; make = reserveMade }
+    ∷ []
 
--- side (1), instruction word (2), price (4), shares (4), from digits 0, 2, 6 and 14 of the body on
-abbrev pub orderFields : List ℕ → OrderFields
-orderFields s = fieldsMade (fieldOf (numberAt 1 0 s)) (fieldOf (numberAt 2 2 s)) (fieldOf (numberAt 4 6 s)) (fieldOf (numberAt 4 14 s))
+abbrev pub maxFloorOf : Value → CarriedReading
+maxFloorOf (value.Is n) = Is (MaxFloor (shares n))
+maxFloorOf value.Bad = Bad
+
+-- the Max Floor stands behind the fields that every order has
+unfoldable pub carriedIn : ℕ → List ℕ → CarriedReading
+carriedIn kind s =
+    if eqb kind orderKind then (if isEnded (digitsIn orderForm) s then Is Nothing else Bad)
+    else if eqb kind reserveKind then (if isEnded (digitsIn reserveForm) s then maxFloorOf (numberAt 4 (digitsIn orderForm) s) else Bad)
+    else Bad

@@ -12,10 +12,9 @@ use rules::Order;
 use rules::Reading;
 ghost use mathlib.Core.Path.{_≡_};
 ghost use Prim.Native.Nat.{_<_};
-ghost use Rattle.rules.specs.CommandLines.{orderForm, cancelForm, quoteForm, closeForm, reserveForm};
-ghost use Rattle.rules.specs.CommandLines.{orderMade, cancelMade, quoteMade, closeMade, reserveMade};
-ghost use Rattle.rules.specs.CommandLines.{isEnded, bodyOfForm, bodyIn, commandIn};
-ghost use Rattle.command_lines.specs.Reading.{orderFields};
+ghost use Rattle.rules.specs.CommandLines.{cancelForm, quoteForm, closeForm, cancelMade, quoteMade, closeMade};
+ghost use Rattle.rules.specs.CommandLines.{isEnded, bodyOfForm, bodyFrom, bodyIn, commandIn};
+ghost use Rattle.command_lines.specs.Reading.{carriedIn, orderKinds};
 
 // Whether `n` digits are followed by one line feed, and by no more.
 fn is_ended(s: &[u8], n: usize) -> bool
@@ -28,61 +27,56 @@ fn is_ended(s: &[u8], n: usize) -> bool
     s[n] == 10
 }
 
-// The fields that every order has, as an order that carries nothing, and whether all of them are good.
-struct OrderFields {
-    good: bool,
-    order: Order,
+// What reading the end of an order finds.
+enum CarriedReading {
+    Is(Carried),
+    Bad,
 }
 
-fn order_fields(s: &[u8]) -> OrderFields
-    ensures { λ r. ⌜ r ≡ orderFields (now (s .entry)) ⌝ }
+// What an order of a kind carries behind the fields that every order has: nothing, or the Max Floor after the shares (02, W4). Bad where
+// the line does not end there, and for any other kind.
+fn read_carried(kind: u32, s: &[u8]) -> CarriedReading
+    ensures { λ r. ⌜ r ≡ carriedIn kind (now (s .entry)) ⌝ }
 {
+    if kind == 1 {
+        if !is_ended(s, rules::ORDER_BODY) {
+            return CarriedReading::Bad;
+        }
+        return CarriedReading::Is(Carried::Nothing);
+    }
+    if kind != 5 {
+        return CarriedReading::Bad;
+    }
+    if !is_ended(s, rules::RESERVE_BODY) {
+        return CarriedReading::Bad;
+    }
+    let floor = digits::field_at(s, 22, 4);
+    if !floor.good {
+        return CarriedReading::Bad;
+    }
+    CarriedReading::Is(Carried::MaxFloor(Shares(floor.number)))
+}
+
+// An order, of whichever kind: one function for all, so that it is compiled where it is called.
+fn read_order(kind: u32, s: &[u8]) -> BodyReading
+    ensures { λ r. ⌜ r ≡ bodyFrom orderKinds kind (now (s .entry)) ⌝ }
+{
+    let CarriedReading::Is(carried) = read_carried(kind, s) else {
+        return BodyReading::Bad;
+    };
     let side = digits::field_at(s, 0, 1);
     let word = digits::field_at(s, 2, 2);
     let price = digits::field_at(s, 6, 4);
     let shares = digits::field_at(s, 14, 4);
-    OrderFields {
-        good: side.good & word.good & price.good & shares.good,
-        order: Order {
-            side: side.number as u8,
-            word: word.number as u16,
-            price: Cents(price.number),
-            shares: Shares(shares.number),
-            carried: Carried::Nothing,
-        },
-    }
-}
-
-fn read_order(s: &[u8]) -> BodyReading
-    ensures { λ r. ⌜ r ≡ bodyOfForm orderForm orderMade (now (s .entry)) ⌝ }
-{
-    if !is_ended(s, rules::ORDER_BODY) {
+    if !(side.good & word.good & price.good & shares.good) {
         return BodyReading::Bad;
     }
-    let fields = order_fields(s);
-    if !fields.good {
-        return BodyReading::Bad;
-    }
-    let order = fields.order;
-    BodyReading::Is(Body::Order(order))
-}
-
-// An order of kind 05: the Max Floor stands after the shares (02, W4).
-fn read_reserve(s: &[u8]) -> BodyReading
-    ensures { λ r. ⌜ r ≡ bodyOfForm reserveForm reserveMade (now (s .entry)) ⌝ }
-{
-    if !is_ended(s, rules::RESERVE_BODY) {
-        return BodyReading::Bad;
-    }
-    let fields = order_fields(s);
-    let floor = digits::field_at(s, 22, 4);
-    if !(fields.good & floor.good) {
-        return BodyReading::Bad;
-    }
-    let order = fields.order;
     BodyReading::Is(Body::Order(Order {
-        carried: Carried::MaxFloor(Shares(floor.number)),
-        ..order
+        side: side.number as u8,
+        word: word.number as u16,
+        price: Cents(price.number),
+        shares: Shares(shares.number),
+        carried: carried,
     }))
 }
 
@@ -130,12 +124,10 @@ fn read_body(kind: u32, s: &[u8]) -> BodyReading
     ensures { λ r. ⌜ r ≡ bodyIn kind (now (s .entry)) ⌝ }
 {
     match kind {
-        1 => read_order(s),
         2 => read_cancel(s),
         3 => read_quote(s),
         4 => read_close(s),
-        5 => read_reserve(s),
-        _ => BodyReading::Bad,
+        _ => read_order(kind, s),
     }
 }
 

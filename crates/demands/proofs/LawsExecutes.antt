@@ -62,21 +62,25 @@ workLines m o away s =
     executions m (holdings s) (takings o away s)
     ++ (lastLine m (remainder o away s) (ending o away s) ++ told refillFate (after s (takings o away s)))
 
+-- they tell, of the order, which is none of the side, what it takes in all
+pub lines-tell : (m : Number) (o : Order) (away : Away) (s : List Resting) → NoneIs m s
+    → executedIn m (workLines m o away s) ≡ total (takings o away s)
+lines-tell m o away s new =
+    let es = executions m (holdings s) (takings o away s) in
+    let last = lastLine m (remainder o away s) (ending o away s) in
+    let refills = told refillFate (after s (takings o away s)) in
+    omega (
+      arith,
+      sumOf-append (executedBy m) es (last ++ refills),
+      sumOf-append (executedBy m) last refills,
+      executed-total m (takings-within o away s) (all-alike (λ h p. one-of-all new p) (holdings-there s)),
+      last-executes-none m m (remainder o away s) (ending o away s),
+      refills-execute-none m (after s (takings o away s)),
+    )
+
 module _ (m : Number) (o : Order) (away : Away) (s : List Resting) (w : Works m o s) where
-  -- they tell, of the order, what it takes in all
   lines-execute : executedIn m (workLines m o away s) ≡ total (takings o away s)
-  lines-execute =
-      let es = executions m (holdings s) (takings o away s) in
-      let last = lastLine m (remainder o away s) (ending o away s) in
-      let refills = told refillFate (after s (takings o away s)) in
-      omega (
-        arith,
-        sumOf-append (executedBy m) es (last ++ refills),
-        sumOf-append (executedBy m) last refills,
-        executed-total m (takings-within o away s) (all-alike (λ h p. one-of-all (w .new) p) (holdings-there s)),
-        last-executes-none m m (remainder o away s) (ending o away s),
-        refills-execute-none m (after s (takings o away s)),
-      )
+  lines-execute = lines-tell m o away s (w .new)
 
   -- they kill exactly a Fill-or-Kill of which something is left
   lines-kill : isKilled m (workLines m o away s) ≡ (not (eqb (remainder o away s) 0) && has (o .word) fok)

@@ -22,9 +22,9 @@ use Rattle.rules.specs.declared.Event.the-variants.{Executed, Rested, Cancelled
 use Rattle.rules.specs.declared.Order.{Order}
 use Rattle.rules.specs.declared.Resting.{Resting}
 use Rattle.rules.specs.Book.{Book, inRankOrder, sound}
-use Rattle.rules.specs.Holdings.{Holding, size, walksBefore}
+use Rattle.rules.specs.Holdings.{Holding, size, walksBefore, BeforeAll, InWalkOrder, nobody, somebody}
 use Rattle.rules.specs.Working.{buying}
-use Rattle.rules.proofs.LawsWalkOrder.{BeforeAll, InWalkOrder, nobody, somebody, holdings-walk}
+use Rattle.rules.proofs.LawsWalkOrder.{holdings-walk}
 use Rattle.soundness.proofs.LawsSides.{sides-of}
 use Rattle.soundness.proofs.LawsSound.{sound-is}
 use Rattle.demands.specs.Executes.{executionsIn, linesOf, Executes}

@@ -17,12 +17,12 @@ use Rattle.rules.specs.declared.Away.{Away}
 use Rattle.rules.specs.declared.Order.{Order}
 use Rattle.rules.specs.declared.Resting.{Resting}
 use Rattle.rules.specs.Book.{inRankOrder}
-use Rattle.rules.specs.Holdings.{Holding, size, holdings, walksBefore, nothing, walk, smaller}
+use Rattle.rules.specs.Holdings.{Holding, size, holdings, walksBefore, nothing, walk, smaller, BeforeAll, InWalkOrder, somebody}
 use Rattle.rules.specs.Instructions.{fok, iso, market, postOnly, has}
 use Rattle.rules.proofs.LawsInTurn.{InTurn, next, takings-in-turn}
 use Rattle.rules.proofs.LawsTakings.{nothing-total, walk-at-most}
 use Rattle.rules.specs.Working.{buying, beyond, lockingPrice, absent, mayTouch, walked, takings}
-use Rattle.rules.proofs.LawsWalkOrder.{walks-transitive, walks-not-itself, walks-price, BeforeAll, InWalkOrder, somebody, holdings-walk}
+use Rattle.rules.proofs.LawsWalkOrder.{walks-transitive, walks-not-itself, walks-price, holdings-walk}
 use Rattle.demands.specs.ShareOut.{Given, Beside, here, later, Fair, LawfulGiving, given, Lawful, Fills}
 use Rattle.demands.proofs.LawsWalked.{taken, couldGive, available, walk-total}
 

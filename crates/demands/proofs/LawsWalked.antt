@@ -13,11 +13,10 @@ use Rattle.basics.proofs.LawsChoice.{holds-or-not}
 use Rattle.rules.specs.declared.Away.{Away}
 use Rattle.rules.specs.declared.Order.{Order}
 use Rattle.rules.specs.declared.Resting.{Resting}
-use Rattle.rules.specs.Holdings.{Holding, size, holdings, nothing, walk, smaller}
+use Rattle.rules.specs.Holdings.{Holding, size, holdings, nothing, walk, smaller, BeforeAll, InWalkOrder, nobody, somebody}
 use Rattle.rules.specs.Instructions.{fok, has}
 use Rattle.rules.specs.Working.{walked, takings}
 use Rattle.rules.proofs.LawsTakings.{nothing-total}
-use Rattle.rules.proofs.LawsWalkOrder.{BeforeAll, InWalkOrder, nobody, somebody}
 
 -- ── A walk, with any test of which may be touched ──
 

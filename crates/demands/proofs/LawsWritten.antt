@@ -1,6 +1,6 @@
 -- What each accepted command writes and leaves (01, How an order is worked): an order's lines one by one, a cancel, a close, and what every
 -- command leaves of the number, the time, the away quote and the session. Assumes nothing.
-use Prim.Native.Nat.{ℕ, _<_}
+use Prim.Native.Nat.{ℕ, _+_, _<_}
 use mathlib.Core.Bool.{Bool, true, false, not, _||_, true≢false}
 use mathlib.Core.List.{List, [], _∷_, _++_, map}
 use mathlib.Core.Logic.{_≢_, ⊎-elim}
@@ -8,7 +8,7 @@ use mathlib.Core.Path.{_≡_, refl, sym, ap, subst, _∙_}
 use lib.Dec.{eqb}
 use native.Mathlib.Omega.{arith}
 use borrow.Author.Tests.{eq-eqb, ne-eqb, eqb-true, eqb-false, not-false}
-use Rattle.basics.specs.Lists.{any, gathered, none, also, OneOf, first, later, Each, empty, with}
+use Rattle.basics.specs.Lists.{any, total, gathered, none, also, OneOf, first, later, Each, empty, with}
 use Rattle.basics.proofs.LawsChoice.{holds-or-not}
 use Rattle.basics.proofs.LawsLists.{map-append, all-alike, one-of-all, each-there, in-front, behind, gathered-append, gathered-all, gathered-has}
 use Rattle.kinds.specs.Kinds.{shares, number}
@@ -40,19 +40,19 @@ use Rattle.rules.specs.Working.{buying, takings, remainder, ending, lastLine, f
 use Rattle.rules.proofs.LawsCommands.{cancel-fate, order-does, cancel-does, quote-does, close-does, does-tells, does-number-and-time}
 use Rattle.rules.proofs.LawsFloors.{shown-at-most}
 use Rattle.rules.proofs.LawsRefusals.{none-given}
-use Rattle.rules.proofs.LawsTakings.{takings-within}
-use Rattle.soundness.proofs.LawsInsert.{added-insert, added-new}
+use Rattle.rules.proofs.LawsTakings.{takings-at-most, takings-within}
+use Rattle.soundness.proofs.LawsInsert.{added-insert, added-new, added-old, added-other}
 use Rattle.soundness.proofs.LawsSettled.{staying-are}
 use Rattle.soundness.proofs.LawsSides.{sides-of}
 use Rattle.soundness.proofs.LawsSound.{sound-is}
 use Rattle.demands.specs.Beyond.{NoExecution}
 use Rattle.demands.specs.Once.{acts}
-use Rattle.demands.specs.Told.{eventsIn}
+use Rattle.demands.specs.Told.{executedIn, eventsIn}
 use Rattle.demands.specs.Written.{Executions, ofNobody, ofNone, ofOne, LastLine, filled, rests, isCancelled, OrderWrites, CancelWrites, closeLine, IsOrder}
-use Rattle.demands.proofs.LawsExecutes.{acts-accepted, acts-lines, workLines}
+use Rattle.demands.proofs.LawsExecutes.{acts-accepted, acts-lines, workLines, lines-tell}
 use Rattle.demands.proofs.LawsFairly.{every-told}
 use Rattle.demands.proofs.LawsGave.{refills-told}
-use Rattle.demands.proofs.LawsHeld.{NoMore}
+use Rattle.demands.proofs.LawsHeld.{NoMore, Leaves, ending-leaves}
 use Rattle.demands.proofs.LawsLinesTell.{onceEach, NoneIs, once-first, once-rest, opposite-once}
 use Rattle.demands.proofs.LawsOrigins.{another-number}
 use Rattle.demands.proofs.LawsRows.{NoneHas, has-other, either-holds}
@@ -88,27 +88,50 @@ executions-are n (with {y = t} m e) =
     (holds-or-not (eqb t 0))
 
 -- the last line says what becomes of the rest, on its own side, where no order had its number
-last-line-is : (n : Number) (o : Order) (left : ℕ) (e : Ending) (side : List Resting) → NoneHas n side
-    → LastLine n o (withRemainder n o left e side) (lastLine n left e)
-last-line-is n o left Filled side new = filled new
-last-line-is n o left (Rests price) side new =
+last-line-is : (n : Number) (o : Order) (executed left : ℕ) (e : Ending) (side : List Resting) → Leaves left e → executed + left ≡ o .shares .0
+    → NoneHas n side → LastLine n o executed (withRemainder n o left e side) (lastLine n left e)
+last-line-is n o executed left Filled side f all new = filled (omega (arith, all, f refl)) new
+last-line-is n o executed left (Rests price) side f all new =
     let x = remainderOf n o left price in
     let whole : sharesLeft x ≡ left = omega (arith, shown-at-most (floorOf (o .carried)) left) in
-    subst (λ (k : ℕ). LastLine n o (insert (buying o) x side) (Rested n price (shares k) ∷ [])) whole
-    (rests x (added-new (added-insert (buying o) x side)) refl refl (ap (shownOf (floorOf (o .carried))) (sym whole)))
-last-line-is n o left (Cancels reason) side new = isCancelled (shares left) reason new
+    subst (λ (k : ℕ). LastLine n o executed (insert (buying o) x side) (Rested n price (shares k) ∷ [])) whole
+    (rests x (added-new (added-insert (buying o) x side)) refl refl (ap (shownOf (floorOf (o .carried))) (sym whole)) (omega (arith, whole, all)))
+last-line-is n o executed left (Cancels reason) side f all new = isCancelled (shares left) reason all new
+
+-- the other orders of its side stay, and none but itself is new
+remainder-others : (n : Number) (o : Order) (left : ℕ) (e : Ending) (side : List Resting) (h : Resting)
+    → OneOf h side → OneOf h (withRemainder n o left e side)
+remainder-others n o left Filled side h p = p
+remainder-others n o left (Rests price) side h p = added-old (added-insert (buying o) (remainderOf n o left price) side) p
+remainder-others n o left (Cancels reason) side h p = p
+
+remainder-none-new : (n : Number) (o : Order) (left : ℕ) (e : Ending) (side : List Resting) (h : Resting) → h .number ≢ n
+    → OneOf h (withRemainder n o left e side) → OneOf h side
+remainder-none-new n o left Filled side h d p = p
+remainder-none-new n o left (Rests price) side h d p = added-other (added-insert (buying o) (remainderOf n o left price) side) d p
+remainder-none-new n o left (Cancels reason) side h d p = p
+
+-- what is taken and what is left is what was entered
+entered-split : (o : Order) (away : Away) (s : List Resting) → total (takings o away s) + remainder o away s ≡ o .shares .0
+unfolding remainder
+entered-split o away s = omega (arith, takings-at-most o away s)
 
 -- so of an order that is entered under a number that no order has
 accept-writes : (b : Book) → sound b ≡ true → (n : Number) (time : ℕ) (o : Order) → NoneHas n (ownSide (buying o) b)
+    → NoneIs n (oppositeSide (buying o) b)
     → OrderWrites n o b (does n time (body.Order o) b .book) (workLines n o (b .held .away) (oppositeSide (buying o) b))
-accept-writes b s n time o new =
+accept-writes b s n time o new other =
     let away = b .held .away in
     let side = oppositeSide (buying o) b in
     let ts = takings o away side in
     let left = remainder o away side in
     let end = ending o away side in
     let sides = sides-of (buying o) b (sound-is b s) in
-    let last = last-line-is n o left end (ownSide (buying o) b) new in
+    let all : executedIn n (workLines n o away side) + left ≡ o .shares .0 = omega (arith, lines-tell n o away side other, entered-split o away side) in
+    let own = ownSide (buying o) b in
+    let last = last-line-is n o (executedIn n (workLines n o away side)) left end own (ending-leaves o away side) all new in
+    let others = remainder-others n o left end own in
+    let none-other = remainder-none-new n o left end own in
     record {
       executions = executions n (holdings side) ts;
       last = lastLine n left end;
@@ -122,6 +145,18 @@ accept-writes b s n time o new =
           (λ (t : buying o ≡ false). rw t (rw t at last))
           (holds-or-not (buying o)));
       asDue = refills-told n o away side (opposite-once sides) (sides .oppositeInRange);
+      others =
+          rw (order-does n time b o .0)
+          (⊎-elim
+          (λ (t : buying o ≡ true). rw t (rw t at others))
+          (λ (t : buying o ≡ false). rw t (rw t at others))
+          (holds-or-not (buying o)));
+      noneNew =
+          rw (order-does n time b o .0)
+          (⊎-elim
+          (λ (t : buying o ≡ true). rw t (rw t at none-other))
+          (λ (t : buying o ≡ false). rw t (rw t at none-other))
+          (holds-or-not (buying o)));
     }
 
 -- no order of a sound book has the number of the next command
@@ -135,7 +170,10 @@ pub order-writes : (b : Book) (line : List ℕ) (c : Command) (o : Order) → so
 order-writes b line c o s t e f =
     let next = acts-accepted b line c t e .next in
     let new = none-new b s (c .number) (omega (arith, next)) (buying o) in
-    rw (line-told b line s, acts-lines b line c o t e f, accepted-does b line c e t .0, f) (accept-writes b s (c .number) (c .time) o new)
+    let sides = sides-of (buying o) b (sound-is b s) in
+    let other : NoneIs (c .number) (oppositeSide (buying o) b) =
+    all-alike (λ h r. λ (z : c .number .0 ≡ h .number .0). omega (arith, z, r .upToLast, next)) (sides .oppositeInRange) in
+    rw (line-told b line s, acts-lines b line c o t e f, accepted-does b line c e t .0, f) (accept-writes b s (c .number) (c .time) o new other)
 
 -- ── A cancel ──
 

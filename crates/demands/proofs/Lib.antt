@@ -1,4 +1,5 @@
 pub mod LawsRoom
+pub mod LawsWorst
 pub mod LawsRuns
 pub mod LawsOnce
 pub mod LawsWalked

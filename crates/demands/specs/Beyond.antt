@@ -43,7 +43,8 @@ NoExecution (Moved n price shares) = Unit {0}
 
 -- ── Where an order was last told to stand ──
 
--- an event tells the price at which an order stands from then on: `12` when it comes to rest, `14` when it is moved
+-- an event tells the price at which an order stands from then on: `12` when it comes to rest, `14` when it is moved or
+-- refilled
 abbrev pub priceTold : Number → Event → Cents → Cents
 priceTold n (Executed incoming resting price shares) before = before
 priceTold n (Rested m price shares) before = if eqb (n .0) (m .0) then price else before

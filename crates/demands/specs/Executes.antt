@@ -1,5 +1,5 @@
--- Demand 3 of one accepted order, said of what its own lines tell: the customer's sentences one by one, each by the fields below it. With W4
--- the holdings of the opposite orders, shown parts and reserves, are "each as an order of its own at its rank in the walk".
+-- Demand 3 of one accepted order, said of what its own lines tell: the customer's sentences one by one, each by the fields below it. With
+-- W4 the holdings of the opposite orders, shown parts and reserves, are "each as an order of its own at its rank in the walk".
 use Prim.Native.Nat.{_≤_, _<_}
 use mathlib.Core.Bool.{true, false, not}
 use mathlib.Core.List.{List, [], _∷_}

@@ -8,3 +8,4 @@ pub mod Refilled
 pub mod Quoted
 pub mod Beyond
 pub mod Written
+pub mod Room

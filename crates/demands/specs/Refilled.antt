@@ -1,6 +1,6 @@
--- Refills, in 02's words (W4): "refilled to the Max Floor .., or to what is left if that is less. Refill is due when the shown part is used up
--- and reserve is left; it happens after the incoming order's last line, in former rank order, with a new stamp and a `14` line." Said of the
--- side that an order meets, before and after, and of the order's lines; `LawsRefilled` has the proofs.
+-- Refills, in 02's words (W4): "refilled to the Max Floor .., or to what is left if that is less. Refill is due when the shown part is
+-- used up and reserve is left; it happens after the incoming order's last line, in former rank order, with a new stamp and a `14` line."
+-- Said of the side that an order meets, before and after, and of the order's lines; `LawsRefilled` has the proofs.
 use Prim.Native.Nat.{ℕ, _+_, _-_, _≤_, _<_, min}
 use mathlib.Core.Bool.{Bool, true}
 use mathlib.Core.List.{List, [], _∷_}

@@ -39,7 +39,7 @@ eventsIn bytes = eventsOn (linesIn bytes)
 
 -- ── Shares, summed from events ──
 
--- A move changes no order's shares (02, W2), so its line counts for nothing in any of these sums.
+-- Neither a move nor a refill changes what an order has in all (02, W2, W4), so a line `14` counts for nothing in any of these sums.
 
 -- k where the two numbers are one, else nothing
 abbrev pub countedIf : Number → Number → ℕ → ℕ

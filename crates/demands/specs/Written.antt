@@ -1,7 +1,7 @@
 -- What each accepted command writes and leaves, in 01's words, said of its own event lines and of the book before and after: an order's
 -- lines one by one, a cancel, a close, and what every command leaves of the number, the time, the away quote and the rest. `LawsWritten`
 -- has the proofs. (What a quote writes and moves stands in `Quoted`.)
-use Prim.Native.Nat.{ℕ, _≤_}
+use Prim.Native.Nat.{ℕ, _+_, _≤_}
 use mathlib.Core.List.{List, [], _∷_, _++_}
 use mathlib.Core.Logic.{_≢_}
 use mathlib.Core.Path.{_≡_}
@@ -22,6 +22,7 @@ use Rattle.rules.specs.Working.{floorOf}
 use Rattle.demands.specs.ExactlyWhen.{own}
 use Rattle.demands.specs.Refilled.{RefillLines}
 use Rattle.demands.specs.ShareOut.{opposite, against}
+use Rattle.demands.specs.Told.{executedIn}
 
 -- ── An order ──
 
@@ -33,25 +34,29 @@ pub data Executions (n : Number) : List Holding → List Event → Type 0 where
   ofOne : {h : Holding} {s : List Holding} {es : List Event} (given : Shares) → 1 ≤ given .0 → given .0 ≤ size h → Executions n s es
       → Executions n (h ∷ s) (Executed n (h .of .number) (h .of .price) given ∷ es)
 
--- "then at most one `12` or `13`": nothing where it is filled; or it rests, as the line says, on its own side, both parts counted, and shows
--- its Max Floor, or what is left if that is less, or all of it where it has none (02, W4); or what is left of it is cancelled, and no order
--- of its number rests
-pub data LastLine (n : Number) (o : Order) (own : List Resting) : List Event → Type 0 where
-  filled : All (λ (h : Resting). h .number ≢ n) own → LastLine n o own []
-  rests : (h : Resting) → OneOf h own → h .number ≡ n → h .floor .0 ≡ floorOf (o .carried) → h .shares .0 ≡ shownOf (h .floor .0) (sharesLeft h)
-      → LastLine n o own (Rested n (h .price) (shares (sharesLeft h)) ∷ [])
-  isCancelled : (left : Shares) (reason : ℕ) → All (λ (h : Resting). h .number ≢ n) own → LastLine n o own (Cancelled n left reason ∷ [])
+-- "then at most one `12` or `13`", of an order of which so many shares are executed: nothing where these are all; or the others rest, as
+-- the line says, on its own side, both parts counted, and it shows its Max Floor, or what is left if that is less, or all of it where it
+-- has none (02, W4); or they are cancelled, all of them, and no order of its number rests
+pub data LastLine (n : Number) (o : Order) (executed : ℕ) (own : List Resting) : List Event → Type 0 where
+  filled : executed ≡ o .shares .0 → All (λ (h : Resting). h .number ≢ n) own → LastLine n o executed own []
+  rests : (h : Resting) → OneOf h own → h .number ≡ n → h .floor .0 ≡ floorOf (o .carried)
+      → h .shares .0 ≡ shownOf (h .floor .0) (sharesLeft h) → executed + sharesLeft h ≡ o .shares .0
+      → LastLine n o executed own (Rested n (h .price) (shares (sharesLeft h)) ∷ [])
+  isCancelled : (left : Shares) (reason : ℕ) → executed + left .0 ≡ o .shares .0 → All (λ (h : Resting). h .number ≢ n) own
+      → LastLine n o executed own (Cancelled n left reason ∷ [])
 
 -- the lines of an order, on the book that stood and the book that it leaves: its executions, its last line, and then those of the refills
--- that are due (02, W4)
+-- that are due (02, W4); every other order of its own side stands as before, and no new one but itself
 pub record OrderWrites (n : Number) (o : Order) (stood after : Book) (es : List Event) : Type 0 where
   pub executions : List Event
   pub last : List Event
   pub refills : List Event
   pub inTurn : es ≡ executions ++ (last ++ refills)
   pub inRank : Executions n (against o stood) executions
-  pub atMostOne : LastLine n o (own o after) last
+  pub atMostOne : LastLine n o (executedIn n es) (own o after) last
   pub asDue : RefillLines es (opposite o stood) refills
+  pub others : (h : Resting) → OneOf h (own o stood) → OneOf h (own o after)
+  pub noneNew : (h : Resting) → h .number ≢ n → OneOf h (own o after) → OneOf h (own o stood)
 
 -- ── A cancel and a close ──
 

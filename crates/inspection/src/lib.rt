@@ -35,7 +35,7 @@ fn left_in_range(o: Resting) -> bool
     (wide(Shares::FEWEST) <= left) & (left <= wide(Shares::MOST))
 }
 
-// No Max Floor, and then no reserve; or one no less than the shown part, of a displayed order (02, W4).
+// No Max Floor, and then no reserve; or a share count in range, no less than the shown part, of a displayed order (02, W4).
 fn floor_in_range(o: Resting) -> bool
     ensures { λ r. ⌜ r ≡ floorInRange o ⌝ }
 {

@@ -1,6 +1,6 @@
--- A cursor over the parts of a side's orders, as a walk reaches them (02, W4): "the shown part at its rank, the reserve behind every other order
--- at that price, reserves among themselves in the rank of their shown parts". A reserve that is empty is no part. `LawsParts` shows that
--- these are 01's and 02's holdings.
+-- A cursor over the parts of a side's orders, as a walk reaches them (02, W4): "the shown part at its rank, the reserve behind every other
+-- order at that price, reserves among themselves in the rank of their shown parts". A reserve that is empty is no part. `LawsParts` shows
+-- that these are 01's and 02's holdings.
 use Prim.Native.Nat.{ℕ, _+_, _≤_, _<_, max}
 use mathlib.Core.Bool.{not, _&&_}
 use mathlib.Core.List.{List, [], _∷_, _++_}

@@ -1,6 +1,6 @@
-// The parts of a side's orders in the order in which a walk reaches them (02, W4): each order's shown part at its rank, its reserve, if it has
-// one, behind every other order at that price. A cursor goes from one part to the next and reads each order once; only where a price
-// has a reserve does it pass that price's orders again.
+// The parts of a side's orders, which are 02's holdings without empty reserves, in the order in which a walk reaches them (W4): each shown
+// part at its rank, each reserve behind every other order at its price. A cursor goes from one part to the next and passes the orders
+// once; only where a price has a reserve does it pass that price's orders again, and look behind them once more for each reserve.
 use kinds::Cents;
 use kinds::Shares;
 use side::rows;

@@ -144,8 +144,9 @@ fn finish(
     reached: usize,
     out: &mut [u8],
 ) -> Finished
-    requires { ⌜ Holds n (now x) (now own) × (isRest end ≡ true → n < placesASide) × MayRest (buying o) number end (side n (now x) (now own))
-        × Holds m (now y) (now opposite) × MayRefill (not (buying o)) number reached (side m (now y) (now opposite))
+    requires { ⌜ Holds n (now x) (now own) × (isRest end ≡ true → n < placesASide)
+        × MayRest (buying o) number end (side n (now x) (now own)) × Holds m (now y) (now opposite)
+        × MayRefill (not (buying o)) number reached (side m (now y) (now opposite))
         × (27 + 27 * m ≤ length (now out)) ⌝ }
     ensures { λ r. ⌜ r ≡ finished number left end (not (buying o)) (side m (now (y .entry)) (now (opposite .entry))) ⌝ }
     ensures { λ _. ⌜ Shows (withRemainder number o (left .0) end (side n (now (x .entry)) (now (own .entry)))) (now (x .exit))

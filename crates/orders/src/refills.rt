@@ -1,5 +1,5 @@
-// Refills (02, W4): a resting order whose shown part a walk has used up, and of which reserve is left, is shown anew, to its Max Floor or what is
-// left, with a new stamp and a line. One function for both sides of the market.
+// Refills (02, W4): a resting order whose shown part a walk has used up, and of which reserve is left, is shown anew, to its Max Floor or
+// what is left, with a new stamp and a line. One function for both sides of the market.
 use kinds::Number;
 use kinds::Shares;
 use rules::Fate;
@@ -46,8 +46,9 @@ fn refill_order(o: Resting) -> Resting
     }
 }
 
-// The refills that are due on a side: of its first `reached` orders, which a walk reached, those that show nothing, in rank order. One that is
-// refilled takes its place behind all displayed at its price, which may be before others that are due: so the loop passes it there.
+// The refills that are due on a side: of its first `reached` orders, which a walk reached, those that show nothing, in rank order. One
+// that is refilled takes its place behind all displayed at its price, which may be before others that are due: so the loop passes it
+// there.
 pub(crate) fn refill(
     x: &mut Index,
     t: &mut Rows,

@@ -2,7 +2,7 @@
 -- believe these a reader needs the definitions that they name: 01 itself in `rules/specs`, the customer's words in `demands/specs`; for the
 -- tally `tally/specs/Tally`, for the program `day/specs/Turns` with `Feed` and `Pieces` beside it and `command_lines/specs/Pieces`. What else holds of a day, and
 -- of the lent table, stands in `Beyond` beside this file, and what the code itself is proved to do in `Entries`. Assumes nothing.
-use Prim.Native.Nat.{ℕ, _+_, _≤_}
+use Prim.Native.Nat.{ℕ, _+_, _≤_, _<_}
 use mathlib.Core.Bool.{Bool, true, false, not}
 use mathlib.Core.List.{List, [], _∷_, _++_, map}
 use mathlib.Core.Logic.{_⊎_, _≢_}
@@ -22,22 +22,23 @@ use Rattle.rules.specs.declared.EventReading.the-variants as event
 use Rattle.rules.specs.declared.Order.{Order}
 use Rattle.rules.specs.declared.Reading.the-variants as reading
 use Rattle.rules.specs.declared.Resting.{Resting}
-use Rattle.rules.specs.Book.{Book, BookRecord, fresh, inRankOrder, sound, bookIn, recordOf, recordSound}
+use Rattle.rules.specs.Book.{Book, BookRecord, placesASide, fresh, inRankOrder, sound, bookIn, recordOf, recordSound}
 use Rattle.rules.specs.CommandLines.{commandIn, lineOf, Fits}
 use Rattle.rules.specs.Commands.{does}
 use Rattle.rules.specs.Day.{printed, bookAfter, printedOf, output}
 use Rattle.rules.specs.EventLines.{FitsEvent, eventLine, eventLines, refusalLine}
 use Rattle.rules.specs.EventReading.{eventIn}
-use Rattle.rules.specs.Examples.{DeskExamples, QuoteExamples}
-use Rattle.rules.specs.Holdings.{holdings}
+use Rattle.rules.specs.Examples.{DeskExamples, QuoteExamples, ReserveExamples}
+use Rattle.rules.specs.Holdings.{holdings, InWalkOrder, ordersOf}
 use Rattle.rules.specs.Instructions.{has, postOnly}
 use Rattle.rules.specs.Refusals.{leastRoom}
 use Rattle.rules.specs.Step.{answerTo, step, stepOn}
 use Rattle.rules.specs.Working.{buying}
-use Rattle.rules.proofs.Examples.{desk-examples, quote-examples}
+use Rattle.rules.proofs.Examples.{desk-examples, quote-examples, reserve-examples}
 use Rattle.rules.proofs.LawsEventReading.{eventIn-eventLine, eventIn-is}
 use Rattle.rules.proofs.LawsLines.{commandIn-lineOf, commandIn-is, lineOf-once}
-use Rattle.rules.proofs.LawsWalkOrder.{InWalkOrder, holdings-walk}
+use Rattle.rules.proofs.LawsHoldings.{holdings-shown, holdings-reserves}
+use Rattle.rules.proofs.LawsWalkOrder.{holdings-walk}
 use Rattle.soundness.proofs.LawsKept.{fresh-sound, after-sound}
 use Rattle.demands.specs.Beyond.{oneTo, repeated}
 use Rattle.demands.specs.ExactlyWhen.{Applies, NoLower}
@@ -45,6 +46,7 @@ use Rattle.demands.specs.Executes.{executionsIn, Executes}
 use Rattle.demands.specs.Once.{EventLines, Refused, endOf, eventLinesOf, actingNumbers, struckOut, noneRefused, acts, byLine, readingOf, lineAsked, Call, returned, byCall, linesWithRoom}
 use Rattle.demands.specs.Quoted.{Crosses, Quoted, WritesBoth}
 use Rattle.demands.specs.Refilled.{Refills}
+use Rattle.demands.specs.Room.{worstLines, fullOfReserves, nextLine}
 use Rattle.demands.specs.Run.{eventsOf, Enters}
 use Rattle.demands.specs.ShareOut.{opposite}
 use Rattle.demands.specs.Told.{eventsIn, executedIn, givenIn, cancelledIn, restingOf}
@@ -55,7 +57,9 @@ use Rattle.demands.proofs.LawsFills as fills
 use Rattle.demands.proofs.LawsOnce as once
 use Rattle.demands.proofs.LawsQuoted as quoted
 use Rattle.demands.proofs.LawsRefilled as refilled
+use Rattle.demands.proofs.LawsRoom as room
 use Rattle.demands.proofs.LawsRun as run
+use Rattle.demands.proofs.LawsWorst as worst
 use Rattle.demands.proofs.LawsWritten as written
 use Rattle.command_lines.specs.Pieces.{allOf}
 use Rattle.day.specs.Turns.{Runs, Ran, Stops, Begins}
@@ -215,12 +219,16 @@ pub only-a-close-closes : (b : Book) (line : List ℕ) (c : Command) → acts b 
     → answerTo b line .book .held .closed ≡ false
 only-a-close-closes = written.open-unless-closed
 
--- P1 to P12, "a single table with a single proved claim", and the sources' examples of a moved quote (02, W2)
+-- P1 to P12, "a single table with a single proved claim", the sources' examples of a moved quote (02, W2), and a table of a reserve's, the
+-- sources' own first (02, W4)
 pub examples-from-the-desk : DeskExamples
 examples-from-the-desk = desk-examples
 
 pub examples-of-a-moved-quote : QuoteExamples
 examples-of-a-moved-quote = quote-examples
+
+pub examples-of-a-reserve : ReserveExamples
+examples-of-a-reserve = reserve-examples
 
 -- every call keeps a sound record sound, so the record of a day is always sound, and so is the book of a day of lines
 pub sound-after-a-call : (r : BookRecord) (c : Call) → recordSound r ≡ true → recordSound (returned r c .book) ≡ true
@@ -377,33 +385,28 @@ pub an-order-refills : (b : Book) (line : List ℕ) (c : Command) (o : Order) �
     → Refills (not (buying o)) (c .number) (opposite o b) (opposite o (answerTo b line .book)) (eventsIn (printed (answerTo b line)))
 an-order-refills = refilled.order-refills
 
--- "the shown part at its rank, the reserve behind every other order at that price, reserves among themselves in the rank of their shown
--- parts": the holdings of a side in rank order stand so that each comes before all behind it (`InWalkOrder` of `rules/proofs/LawsWalkOrder`), by
--- better price, then shown parts before reserves, then the rank of their orders (`walksBefore` of `rules/specs/Holdings`)
-pub the-holdings-stand-in-rank : (buy : Bool) (s : List Resting) → inRankOrder buy s ≡ true → InWalkOrder buy (holdings s)
-the-holdings-stand-in-rank = holdings-walk
+-- "During one walk the order counts as two holdings: the shown part at its rank, the reserve behind every other order at that price, reserves
+-- among themselves in the rank of their shown parts": the shown parts among the holdings of a side are those of its orders, one each, and
+-- so are the reserves; and on a side in rank order each holding comes before all behind it (`InWalkOrder`), by better price, then shown parts
+-- before reserves, then the rank of their orders (`walksBefore`, both of `rules/specs/Holdings`)
+pub the-holdings-stand-in-rank : (buy : Bool) (s : List Resting) → inRankOrder buy s ≡ true
+    → (ordersOf false (holdings s) ≡ s) × (ordersOf true (holdings s) ≡ s) × InWalkOrder buy (holdings s)
+the-holdings-stand-in-rank buy s ranked = (holdings-shown s, holdings-reserves s, holdings-walk buy s ranked)
 
--- ── The program ──
+-- "Output room becomes 8,192 bytes": what is printed of any line to a sound book, the event lines of a command or a refusal's, has at most
+-- `worstLines` bytes, 70 for each place of a side and 27
+pub the-most-that-a-line-prints : (b : Book) (line : List ℕ) → sound b ≡ true → length (printed (answerTo b line)) ≤ worstLines
+the-most-that-a-line-prints = room.printed-long
 
--- Turns are taken as in `Runs`, which is how `program/src/main.rt` calls them (that is read there, and not proved): each is
--- `day::night::take_turn` (`turn-says`), the end is `day::night::finish` (`finish-says`), and what a read gave is `command_lines::lines::after_read` (`after-read-says`).
+-- and so any call writes, with any record lent and any output
+pub the-most-that-a-call-writes : (r : BookRecord) (c : Call) → returned r c .length ≤ worstLines
+the-most-that-a-call-writes r c = room.returned-long r (readingOf (c .asks)) (c .out)
 
--- whatever the reads give, piece by piece, all that such turns have handed to `write` when the input ends is what 01 says of the whole
--- input ..
-pub the-program-prints : (room : ℕ) (pieces : List (List ℕ)) (handed : List ℕ) → Runs room fresh [] pieces handed → handed ≡ output (allOf pieces)
-the-program-prints = turns.runs-output
+-- this is reached by an order that walks through a full side of reserves, on a sound book
+pub the-most-is-printed : (sound (fullOfReserves placesASide) ≡ true) × (acts (fullOfReserves placesASide) (nextLine placesASide) ≡ true)
+    × (length (printed (answerTo (fullOfReserves placesASide) (nextLine placesASide))) ≡ worstLines)
+the-most-is-printed = worst.worst-reached
 
--- .. and there are such turns for every input, however it is cut
-pub there-are-such-turns : (room : ℕ) → leastRoom ≤ room → (pieces : List (List ℕ)) → Ran room pieces
-there-are-such-turns = turns.runs-end
-
--- where a read or a write fails, what was written is the beginning of it
-pub the-program-stops : (room : ℕ) (pieces : List (List ℕ)) (written : List ℕ) → Stops room fresh [] pieces written
-    → Begins written (output (allOf pieces))
-the-program-stops = turns.stops-output
-
--- what one turn leaves the next one finds: the book in its header and the two sides that are lent, and the bytes that wait at the front of the
--- input
-pub a-turn-hands-on : (b : Book) (waits input x : List ℕ) (t : List (List ℕ)) (y : List ℕ) (u : List (List ℕ)) → Shows (b .buys) x t → Shows (b .sells) y u
-    → (bookOn (headOf b) x t y u ≡ b) × (take (length waits) (onto waits input) ≡ waits)
-a-turn-hands-on = turns.hands-on
+-- it is more than the 4,096 bytes of 01, and fits the room
+pub the-room-is-needed : (worstLines ≡ 4507) × (4096 < worstLines) × (worstLines ≤ leastRoom)
+the-room-is-needed = (room.worst-is, room.worst-needs, room.worst-fits)

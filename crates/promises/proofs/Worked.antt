@@ -1,17 +1,19 @@
--- The promises are not empty: a night that trades, is refused, is sent again and is killed (`specs/Night`) is computed, and demand 3's
--- are read at it. Assumes nothing.
-use Prim.Native.Nat.{ℕ, _≤_}
+-- The promises are not empty: a night that trades, is refused, is sent again, is killed and is refilled (`specs/Night`) is computed, and
+-- demand 3's and W4's are read at it. Assumes nothing.
+use Prim.Native.Nat.{ℕ, _≤_, _<_}
 use mathlib.Core.Bool.{true, false}
 use mathlib.Core.List.{List, [], _∷_}
-use mathlib.Core.Path.{_≡_, refl, subst}
+use mathlib.Core.Path.{_≡_, refl, sym, subst}
 use lib.Count.{ones, onesIn}
 use lib.ListN.{take}
 use native.Mathlib.Omega.{arith}
 use Rattle.basics.specs.Bytes.{onto}
-use Rattle.basics.specs.Lists.{every, any, distinct, total, sumOf, gathered}
+use Rattle.basics.specs.Lists.{every, any, distinct, total, sumOf, gathered, OneOf, first}
 use Rattle.digits.specs.Digits.{digits, nibbleOf, allDigits, numberAfter, numberIn}
 use Rattle.kinds.specs.Kinds.{number}
-use Rattle.rules.specs.Book.{fresh, ranksBefore, inRankOrder, apart, sound}
+use Rattle.rules.specs.declared.Event.{Event}
+use Rattle.rules.specs.declared.Reading.the-variants as reading
+use Rattle.rules.specs.Book.{Book, fresh, ranksBefore, inRankOrder, apart, sound, sharesLeft}
 use Rattle.rules.specs.CommandLines.{written, lineOf, numbersFrom, kinds, bodyOfForm, bodyFrom, bodyIn, commandIn}
 use Rattle.rules.specs.Commands.{cancel, quote, close, carriedOut, does}
 use Rattle.rules.specs.Day.{inFront, cut, unendedLine, linesIn, printed, bookAfter, printedOf}
@@ -23,28 +25,45 @@ use Rattle.rules.specs.Refusals.{firstOf, restsOnFullSide, headerRefusals, body
 use Rattle.rules.specs.Settling.{insert, insertAll, staying, setAnew, told, stampedFrom, settledSide, settled, bothSettled}
 use Rattle.rules.specs.Step.{doneBy, answer, answerTo}
 use Rattle.rules.specs.Working.{walked, takings, remainder, seeks, endingWith, ending, worked, accept}
-use Rattle.demands.specs.Once.{actingNumbers, struckOut, byLine}
+use Rattle.demands.specs.Once.{actingNumbers, struckOut, byLine, acts}
+use Rattle.demands.specs.Refilled.{Due, Stands, IsRefilled}
 use Rattle.demands.specs.Run.{Enters, now, later}
 use Rattle.demands.specs.ShareOut.{Given, given, Lawful, Fills}
-use Rattle.demands.specs.Told.{eventsOn, eventsIn, isKilled, executedIn, cancelledIn, restingOf}
-use Rattle.promises.proofs.Promises.{executes-the-greatest, no-share-lost}
-use Rattle.promises.specs.Night.{night, nightStruckOut, nightEvents, killed, greedy, resting, theKilled, theGreedy, theResting}
+use Rattle.demands.specs.Told.{eventsOn, eventsIn, isKilled, executedIn, givenIn, cancelledIn, restingOf}
+use Rattle.promises.proofs.Promises.{sound-all-day-by-line, executes-the-greatest, no-share-lost, an-order-refills}
+use Rattle.promises.specs.Night.{night, nightStruckOut, nightEvents, reservedRests}
+use Rattle.promises.specs.Night.{killed, greedy, resting, reserved, taking, theKilled, theGreedy, theResting, theReserved, theTaking}
+
+-- ── What the night is computed by ──
+
+-- to unfold a definition is to unfold all that its own line names: these two stand for such names, their values say nothing
+lines-answered : ℕ
+unfolding ones onesIn onto every any distinct total digits nibbleOf allDigits numberAfter numberIn ranksBefore inRankOrder apart sound
+    written lineOf numbersFrom kinds bodyOfForm bodyFrom bodyIn commandIn lawful firstOf restsOnFullSide headerRefusals
+    bodyRefusals lineRefusals refusals doneBy answer answerTo behindItsPrice holdings nothing walk walked takings remainder
+    executions takenOf keeping after seeks endingWith ending worked insert insertAll gathered staying setAnew told stampedFrom
+    settledSide settled bothSettled accept cancel quote close carriedOut does
+lines-answered = 0
+
+lines-read : ℕ
+unfolding lines-answered inFront cut unendedLine linesIn printed eventLine eventLines refusalLine ofFields ofKind eventIn eventsOn
+lines-read = 0
 
 -- ── Demand 1 ──
 
--- nine of the twelve lines act, each number once; the line sent again, the empty one and the one that leaves out a number do not
-night-acts : actingNumbers byLine fresh night ≡ 1 ∷ 2 ∷ 3 ∷ 4 ∷ 5 ∷ 6 ∷ 7 ∷ 8 ∷ 9 ∷ []
-unfolding ones onesIn onto every any distinct total digits nibbleOf allDigits numberAfter numberIn ranksBefore inRankOrder apart sound written lineOf numbersFrom kinds bodyOfForm bodyFrom bodyIn commandIn lawful firstOf restsOnFullSide headerRefusals bodyRefusals lineRefusals refusals doneBy answer answerTo behindItsPrice holdings nothing walk walked takings remainder executions takenOf keeping after seeks endingWith ending worked insert insertAll gathered staying setAnew told stampedFrom settledSide settled bothSettled accept cancel quote close carriedOut does actingNumbers
+-- eleven of the fourteen lines act, each number once; the line sent again, the empty one and the one that leaves out a number do not
+night-acts : actingNumbers byLine fresh night ≡ 1 ∷ 2 ∷ 3 ∷ 4 ∷ 5 ∷ 6 ∷ 7 ∷ 8 ∷ 9 ∷ 10 ∷ 11 ∷ []
+unfolding lines-answered actingNumbers
 night-acts = refl
 
 night-struck-out : struckOut byLine fresh night ≡ nightStruckOut
-unfolding ones onesIn onto every any distinct total digits nibbleOf allDigits numberAfter numberIn ranksBefore inRankOrder apart sound written lineOf numbersFrom kinds bodyOfForm bodyFrom bodyIn commandIn lawful firstOf restsOnFullSide headerRefusals bodyRefusals lineRefusals refusals doneBy answer answerTo behindItsPrice holdings nothing walk walked takings remainder executions takenOf keeping after seeks endingWith ending worked insert insertAll gathered staying setAnew told stampedFrom settledSide settled bothSettled accept cancel quote close carriedOut does struckOut
+unfolding lines-answered struckOut
 night-struck-out = refl
 
 -- ── What the night tells ──
 
 night-tells : eventsIn (printedOf fresh night) ≡ nightEvents
-unfolding ones onesIn onto every any distinct total digits nibbleOf allDigits numberAfter numberIn ranksBefore inRankOrder apart sound written lineOf numbersFrom kinds bodyOfForm bodyFrom bodyIn commandIn inFront cut unendedLine linesIn printed bookAfter printedOf eventLine eventLines refusalLine lawful firstOf restsOnFullSide headerRefusals bodyRefusals lineRefusals refusals doneBy answer answerTo behindItsPrice holdings nothing walk walked takings remainder executions takenOf keeping after seeks endingWith ending worked insert insertAll gathered staying setAnew told stampedFrom settledSide settled bothSettled accept cancel quote close carriedOut does ofFields ofKind eventIn eventsOn
+unfolding lines-read bookAfter printedOf
 night-tells = refl
 
 -- ── Demand 3 ──
@@ -52,20 +71,20 @@ night-tells = refl
 -- three of the night's orders enter it: the Fill-or-Kill that the away price kills, the one that takes all it may, and the one whose
 -- remainder rests
 killed-enters : Enters byLine fresh night (bookAfter fresh (take 5 night)) (lineOf theKilled) theKilled killed
-unfolding ones onesIn onto every any distinct total digits nibbleOf allDigits numberAfter numberIn ranksBefore inRankOrder apart sound written lineOf numbersFrom kinds bodyOfForm bodyFrom bodyIn commandIn lawful firstOf restsOnFullSide headerRefusals bodyRefusals lineRefusals refusals doneBy answer answerTo behindItsPrice holdings nothing walk walked takings remainder executions takenOf keeping after seeks endingWith ending worked insert insertAll gathered staying setAnew told stampedFrom settledSide settled bothSettled accept cancel quote close carriedOut does bookAfter
+unfolding lines-answered bookAfter
 killed-enters = later (later (later (later (later (now refl refl refl)))))
 
 greedy-enters : Enters byLine fresh night (bookAfter fresh (take 6 night)) (lineOf theGreedy) theGreedy greedy
-unfolding ones onesIn onto every any distinct total digits nibbleOf allDigits numberAfter numberIn ranksBefore inRankOrder apart sound written lineOf numbersFrom kinds bodyOfForm bodyFrom bodyIn commandIn lawful firstOf restsOnFullSide headerRefusals bodyRefusals lineRefusals refusals doneBy answer answerTo behindItsPrice holdings nothing walk walked takings remainder executions takenOf keeping after seeks endingWith ending worked insert insertAll gathered staying setAnew told stampedFrom settledSide settled bothSettled accept cancel quote close carriedOut does bookAfter
+unfolding lines-answered bookAfter
 greedy-enters = later (later (later (later (later (later (now refl refl refl))))))
 
 resting-enters : Enters byLine fresh night (bookAfter fresh (take 8 night)) (lineOf theResting) theResting resting
-unfolding ones onesIn onto every any distinct total digits nibbleOf allDigits numberAfter numberIn ranksBefore inRankOrder apart sound written lineOf numbersFrom kinds bodyOfForm bodyFrom bodyIn commandIn lawful firstOf restsOnFullSide headerRefusals bodyRefusals lineRefusals refusals doneBy answer answerTo behindItsPrice holdings nothing walk walked takings remainder executions takenOf keeping after seeks endingWith ending worked insert insertAll gathered staying setAnew told stampedFrom settledSide settled bothSettled accept cancel quote close carriedOut does bookAfter
+unfolding lines-answered bookAfter
 resting-enters = later (later (later (later (later (later (later (later (now refl refl refl))))))))
 
 -- 300 shares rest within the limit of the Fill-or-Kill, and yet no lawful share-out fills it, for 100 of them rest above the away offer
 kills : isKilled (number 5) (eventsIn (printed (answerTo (bookAfter fresh (take 5 night)) (lineOf theKilled)))) ≡ true
-unfolding ones onesIn onto every any distinct total digits nibbleOf allDigits numberAfter numberIn ranksBefore inRankOrder apart sound written lineOf numbersFrom kinds bodyOfForm bodyFrom bodyIn commandIn lawful firstOf restsOnFullSide headerRefusals bodyRefusals lineRefusals refusals doneBy answer answerTo behindItsPrice holdings nothing walk walked takings remainder executions takenOf keeping after seeks endingWith ending worked insert insertAll gathered staying setAnew told stampedFrom settledSide settled bothSettled accept cancel quote close carriedOut does bookAfter inFront cut unendedLine linesIn printed eventLine eventLines refusalLine ofFields ofKind eventIn eventsOn
+unfolding lines-read bookAfter
 kills = refl
 
 pub away-price-kills : Fills killed (bookAfter fresh (take 5 night) .held .away) (holdings (bookAfter fresh (take 5 night) .sells)) → ⊥
@@ -74,18 +93,19 @@ away-price-kills =
 
 -- the next order executes 200 shares, and no lawful share-out gives it more
 takes-200 : executedIn (number 6) (eventsIn (printed (answerTo (bookAfter fresh (take 6 night)) (lineOf theGreedy)))) ≡ 200
-unfolding ones onesIn onto every any distinct total digits nibbleOf allDigits numberAfter numberIn ranksBefore inRankOrder apart sound written lineOf numbersFrom kinds bodyOfForm bodyFrom bodyIn commandIn lawful firstOf restsOnFullSide headerRefusals bodyRefusals lineRefusals refusals doneBy answer answerTo behindItsPrice holdings nothing walk walked takings remainder executions takenOf keeping after seeks endingWith ending worked insert insertAll gathered staying setAnew told stampedFrom settledSide settled bothSettled accept cancel quote close carriedOut does bookAfter inFront cut unendedLine linesIn printed eventLine eventLines refusalLine ofFields ofKind eventIn eventsOn sumOf
+unfolding lines-read bookAfter sumOf
 takes-200 = refl
 
 lives : isKilled (number 6) (eventsIn (printed (answerTo (bookAfter fresh (take 6 night)) (lineOf theGreedy)))) ≡ false
-unfolding ones onesIn onto every any distinct total digits nibbleOf allDigits numberAfter numberIn ranksBefore inRankOrder apart sound written lineOf numbersFrom kinds bodyOfForm bodyFrom bodyIn commandIn lawful firstOf restsOnFullSide headerRefusals bodyRefusals lineRefusals refusals doneBy answer answerTo behindItsPrice holdings nothing walk walked takings remainder executions takenOf keeping after seeks endingWith ending worked insert insertAll gathered staying setAnew told stampedFrom settledSide settled bothSettled accept cancel quote close carriedOut does bookAfter inFront cut unendedLine linesIn printed eventLine eventLines refusalLine ofFields ofKind eventIn eventsOn
+unfolding lines-read bookAfter
 lives = refl
 
-pub nobody-gives-more : (gs : List Given) → Lawful greedy (bookAfter fresh (take 6 night) .held .away) (holdings (bookAfter fresh (take 6 night) .sells)) gs
-    → given gs ≤ 200
+pub nobody-gives-more : (gs : List Given)
+    → Lawful greedy (bookAfter fresh (take 6 night) .held .away) (holdings (bookAfter fresh (take 6 night) .sells)) gs → given gs ≤ 200
 nobody-gives-more gs l =
     subst (λ (k : ℕ). given gs ≤ k) takes-200
-    (executes-the-greatest night (bookAfter fresh (take 6 night)) (lineOf theGreedy) theGreedy greedy greedy-enters refl .greatest lives gs l)
+    (executes-the-greatest night (bookAfter fresh (take 6 night)) (lineOf theGreedy) theGreedy greedy greedy-enters refl .greatest lives
+    gs l)
 
 -- 150 shares are entered: 100 are executed, 50 rest and are cancelled at the close, none rests then
 executed-100 : executedIn (number 8) nightEvents ≡ 100
@@ -98,5 +118,71 @@ cancelled-50 = refl
 
 pub none-rests : restingOf (number 8) (bookAfter fresh night) ≡ 0
 none-rests =
-    let sum = rw (night-tells, executed-100, cancelled-50) at (no-share-lost night (bookAfter fresh (take 8 night)) (lineOf theResting) theResting resting resting-enters) in
+    let kept = no-share-lost night (bookAfter fresh (take 8 night)) (lineOf theResting) theResting resting resting-enters in
+    let sum = rw (night-tells, executed-100, cancelled-50) at kept in
     omega (arith, sum)
+
+-- ── W4 ──
+
+-- 300 shares are entered with a Max Floor of 100: 150 are executed, the shown part and 50 of the reserve, 150 are cancelled at the close,
+-- none rests then
+reserved-enters : Enters byLine fresh night (bookAfter fresh (take 9 night)) (lineOf theReserved) theReserved reserved
+unfolding lines-answered bookAfter
+reserved-enters = later (later (later (later (later (later (later (later (later (now refl refl refl)))))))))
+
+executed-150 : executedIn (number 9) nightEvents ≡ 150
+unfolding sumOf
+executed-150 = refl
+
+cancelled-150 : cancelledIn (number 9) nightEvents ≡ 150
+unfolding sumOf
+cancelled-150 = refl
+
+pub none-of-the-reserve-rests : restingOf (number 9) (bookAfter fresh night) ≡ 0
+none-of-the-reserve-rests =
+    let kept = no-share-lost night (bookAfter fresh (take 9 night)) (lineOf theReserved) theReserved reserved reserved-enters in
+    let sum = rw (night-tells, executed-150, cancelled-150) at kept in
+    omega (arith, sum)
+
+-- the order that takes the 150 finds it alone on its side, uses up its shown part, and leaves reserve
+abbrev found : Book
+found = bookAfter fresh (take 10 night)
+
+abbrev takingTells : List Event
+takingTells = eventsIn (printed (answerTo found (lineOf theTaking)))
+
+stands-alone : found .sells ≡ reservedRests ∷ []
+unfolding lines-answered bookAfter
+stands-alone = refl
+
+taking-acts : acts found (lineOf theTaking) ≡ true
+unfolding lines-answered bookAfter
+taking-acts = refl
+
+taking-reads : commandIn (lineOf theTaking) ≡ reading.Is theTaking
+unfolding lines-answered
+taking-reads = refl
+
+gives-150 : givenIn (number 9) takingTells ≡ 150
+unfolding lines-read bookAfter sumOf
+gives-150 = refl
+
+is-due : Due takingTells reservedRests
+is-due = record {
+  usedUp = subst (λ (k : ℕ). 100 ≤ k) (sym gives-150) (omega arith);
+  isLeft = subst (λ (k : ℕ). k < 300) (sym gives-150) (omega arith);
+}
+
+-- so it is refilled: it shows its Max Floor, and keeps what it had less what it gave
+pub is-refilled : Stands (IsRefilled (number 10) takingTells reservedRests) (answerTo found (lineOf theTaking) .book .sells)
+is-refilled =
+    let all-refills = an-order-refills found (lineOf theTaking) theTaking taking (sound-all-day-by-line (take 10 night)) in
+    all-refills taking-acts taking-reads refl .refills reservedRests (subst (OneOf reservedRests) (sym stands-alone) first) is-due
+
+pub shows-100 : is-refilled .order .shares .0 ≡ 100
+shows-100 = rw gives-150 at (is-refilled .is .shown)
+
+pub keeps-150 : sharesLeft (is-refilled .order) ≡ 150
+keeps-150 =
+    let kept = rw gives-150 at (is-refilled .is .inAll) in
+    omega (arith, kept)

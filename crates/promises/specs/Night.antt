@@ -1,18 +1,21 @@
 -- A night worth looking at: it trades, it is refused, a line is sent again with a newer time, two Fill-or-Kills are killed, one of
--- them by the away price alone, and the close cancels what is left.
+-- them by the away price alone, an order with reserve gives of both its parts and is refilled, and the close cancels what is left.
 use Prim.Native.Nat.{ℕ, _+_}
+use mathlib.Core.Bool.{true, false}
 use mathlib.Core.List.{List, [], _∷_}
 use Rattle.kinds.specs.Kinds.{cents, shares, number}
 use Rattle.rules.specs.declared.Body.{Body}
 use Rattle.rules.specs.declared.Body.the-variants as body
-use Rattle.rules.specs.declared.Carried.the-variants.{Nothing}
+use Rattle.rules.specs.declared.Carried.{Carried}
+use Rattle.rules.specs.declared.Carried.the-variants.{Nothing, MaxFloor}
 use Rattle.rules.specs.declared.Command.{Command}
 use Rattle.rules.specs.declared.Event.{Event}
-use Rattle.rules.specs.declared.Event.the-variants.{Executed, Rested, Cancelled}
+use Rattle.rules.specs.declared.Event.the-variants.{Executed, Rested, Cancelled, Moved}
 use Rattle.rules.specs.declared.Order.{Order}
-use Rattle.rules.specs.Book.{opening}
+use Rattle.rules.specs.declared.Resting.{Resting}
+use Rattle.rules.specs.Book.{opening, stamp}
 use Rattle.rules.specs.CommandLines.{lineOf}
-use Rattle.rules.specs.Instructions.{ioc, fok, day, displayed, nonDisplayed, priceAdjust}
+use Rattle.rules.specs.Instructions.{ioc, fok, day, displayed, nonDisplayed, priceAdjust, reserve}
 
 -- ── The commands ──
 
@@ -20,8 +23,11 @@ use Rattle.rules.specs.Instructions.{ioc, fok, day, displayed, nonDisplayed, pr
 abbrev command : ℕ → ℕ → Body → Command
 command n after b = record { number = number n; time = opening + after; body = b }
 
+abbrev orderWith : Carried → ℕ → ℕ → ℕ → ℕ → Order
+orderWith carried side word count price = record { side = side; word = word; price = cents price; shares = shares count; carried = carried }
+
 abbrev order : ℕ → ℕ → ℕ → ℕ → Order
-order side word count price = record { side = side; word = word; price = cents price; shares = shares count; carried = Nothing }
+order = orderWith Nothing
 
 abbrev quote : ℕ → ℕ → Body
 quote bid offer = body.Quote (record { bid = cents bid; offer = cents offer })
@@ -36,6 +42,13 @@ greedy = order 0 (ioc + displayed + priceAdjust) 250 1005
 abbrev pub resting : Order
 resting = order 0 (day + displayed + priceAdjust) 150 1002
 
+-- 300 shares, of which 100 are shown
+abbrev pub reserved : Order
+reserved = orderWith (MaxFloor (shares 100)) 1 (day + displayed + priceAdjust + reserve) 300 1004
+
+abbrev pub taking : Order
+taking = order 0 (ioc + displayed + priceAdjust) 150 1004
+
 abbrev pub theKilled : Command
 theKilled = command 5 40 (body.Order killed)
 
@@ -44,6 +57,12 @@ theGreedy = command 6 50 (body.Order greedy)
 
 abbrev pub theResting : Command
 theResting = command 8 70 (body.Order resting)
+
+abbrev pub theReserved : Command
+theReserved = command 9 80 (body.Order reserved)
+
+abbrev pub theTaking : Command
+theTaking = command 10 90 (body.Order taking)
 
 -- ── The lines, as they arrive ──
 
@@ -73,20 +92,21 @@ noise = 10 ∷ []
 
 -- a number is left out
 abbrev pub ahead : List ℕ
-ahead = lineOf (command 10 80 body.Close)
+ahead = lineOf (command 12 100 body.Close)
 
 abbrev pub closes : List ℕ
-closes = lineOf (command 9 90 body.Close)
+closes = lineOf (command 11 110 body.Close)
 
 abbrev pub night : List (List ℕ)
 night =
     sells100 ∷ sells200 ∷ sentAgain ∷ asksTooMuch ∷ quotes ∷ lineOf theKilled ∷ lineOf theGreedy ∷ unquotes ∷ lineOf theResting ∷
-    noise ∷ ahead ∷ closes ∷ []
+    lineOf theReserved ∷ lineOf theTaking ∷ noise ∷ ahead ∷ closes ∷ []
 
 -- the same without the three that are refused
 abbrev pub nightStruckOut : List (List ℕ)
 nightStruckOut =
-    sells100 ∷ sells200 ∷ asksTooMuch ∷ quotes ∷ lineOf theKilled ∷ lineOf theGreedy ∷ unquotes ∷ lineOf theResting ∷ closes ∷ []
+    sells100 ∷ sells200 ∷ asksTooMuch ∷ quotes ∷ lineOf theKilled ∷ lineOf theGreedy ∷ unquotes ∷ lineOf theResting ∷
+    lineOf theReserved ∷ lineOf theTaking ∷ closes ∷ []
 
 -- ── What it tells ──
 
@@ -100,5 +120,25 @@ nightEvents =
     ∷ Cancelled (number 6) (shares 50) 2
     ∷ Executed (number 8) (number 1) (cents 1002) (shares 100)
     ∷ Rested (number 8) (cents 1002) (shares 50)
+    ∷ Rested (number 9) (cents 1004) (shares 300)
+    ∷ Executed (number 10) (number 9) (cents 1004) (shares 100)
+    ∷ Executed (number 10) (number 9) (cents 1004) (shares 50)
+    ∷ Moved (number 9) (cents 1004) (shares 100)
     ∷ Cancelled (number 8) (shares 50) 7
+    ∷ Cancelled (number 9) (shares 150) 7
     ∷ []
+
+-- ── What rests of it ──
+
+-- the order with reserve, before anything is taken of it
+abbrev pub reservedRests : Resting
+reservedRests = record {
+  number = number 9;
+  price = cents 1004;
+  shares = shares 100;
+  displayed = true;
+  back = false;
+  stamp = stamp (number 9) 0;
+  reserve = shares 200;
+  floor = shares 100;
+}

@@ -15,14 +15,9 @@ use Rattle.basics.specs.Lists.{total, sumOf, All, Each, empty, with}
 use Rattle.basics.proofs.LawsChoice.{holds-or-not, by-choice, and-none}
 use Rattle.rules.specs.declared.Resting.{Resting}
 use Rattle.rules.specs.Book.{sharesLeft}
-use Rattle.rules.specs.Holdings.{Holding, shownPart, reservePart, behindItsPrice, holdings, takenOf, reducedBy, keeping, after}
+use Rattle.rules.specs.Holdings.{Holding, shownPart, reservePart, behindItsPrice, holdings, ordersOf, takenOf, reducedBy, keeping, after}
 
 -- ── The parts are the orders ──
-
--- the orders of the shown parts, or of the reserves, among holdings
-unfoldable pub ordersOf : Bool → List Holding → List Resting
-ordersOf reserves [] = []
-ordersOf reserves (h ∷ s) = if Bool·beq (h .isReserve) reserves then h .of ∷ ordersOf reserves s else ordersOf reserves s
 
 behind-shown : (o : Resting) (hs : List Holding) → ordersOf false (behindItsPrice (reservePart o) hs) ≡ ordersOf false hs
 unfolding behindItsPrice ordersOf
@@ -59,18 +54,6 @@ pub holdings-reserves : (s : List Resting) → ordersOf true (holdings s) ≡ s
 unfolding holdings ordersOf
 holdings-reserves [] = refl
 holdings-reserves (o ∷ s) = behind-reserve o (holdings s) ∙ ap (λ (l : List Resting). o ∷ l) (holdings-reserves s)
-
-behind-length : (r : Holding) (hs : List Holding) → length (behindItsPrice r hs) ≡ suc (length hs)
-unfolding behindItsPrice
-behind-length r [] = refl
-behind-length r (h ∷ s) =
-    by-choice (λ (l : List Holding). length l ≡ suc (length (h ∷ s))) (eqb (h .of .price .0) (r .of .price .0) && not (h .isReserve))
-    (λ t. ap suc (behind-length r s)) (λ t. refl)
-
-pub holdings-length : (s : List Resting) → length (holdings s) ≡ length s + length s
-unfolding holdings
-holdings-length [] = refl
-holdings-length (o ∷ s) = omega (arith, behind-length (reservePart o) (holdings s), holdings-length s)
 
 -- ── What each holding gives, and each order ──
 

@@ -1,5 +1,5 @@
 -- The order of the walk (02, W4), and what it leaves: holdings of a side in rank order stand in the order of the walk; what is taken of each
--- order, which orders are left, which of them are refilled, and how many there are at most. Assumes nothing.
+-- order, which orders are left, which of them are refilled, and how many holdings there are. Assumes nothing.
 use Prim.Native.Nat.{ℕ, _+_, _*_, _≤_, _<_}
 use mathlib.Core.Bool.{Bool, true, false, not, _&&_, Bool·beq, true≢false}
 use mathlib.Core.List.{List, [], _∷_}
@@ -20,7 +20,7 @@ use Rattle.rules.specs.declared.Fate.the-variants.{Stays, IsCancelled, I
 use Rattle.rules.specs.declared.Order.{Order}
 use Rattle.rules.specs.declared.Resting.{Resting}
 use Rattle.rules.specs.Book.{better, firstAtOnePrice, ranksBefore, inRankOrder, sharesLeft}
-use Rattle.rules.specs.Holdings.{Holding, shownPart, reservePart, behindItsPrice, holdings, walksBefore, takenOf, reducedBy, keeping, after}
+use Rattle.rules.specs.Holdings.{Holding, shownPart, reservePart, behindItsPrice, holdings, walksBefore, BeforeAll, InWalkOrder, nobody, somebody, takenOf, reducedBy, keeping, after}
 use Rattle.rules.specs.Settling.{refilled}
 use Rattle.rules.specs.Working.{takings, refillFate}
 use Rattle.rules.proofs.LawsBest.{same-no-better, all-behind, all-holdings}
@@ -80,14 +80,6 @@ walks-price buy x y w =
     (holds-or-not (eqb (x .of .price .0) (y .of .price .0)))
 
 -- ── Holdings in the order of the walk ──
-
--- the walk reaches a holding before some others
-abbrev pub BeforeAll : Bool → Holding → List Holding → Type 0
-BeforeAll buy h hs = All (λ (x : Holding). walksBefore buy h x ≡ true) hs
-
-pub data InWalkOrder (buy : Bool) : List Holding → Type 0 where
-  nobody : InWalkOrder buy []
-  somebody : {h : Holding} {hs : List Holding} → BeforeAll buy h hs → InWalkOrder buy hs → InWalkOrder buy (h ∷ hs)
 
 -- an order that ranks before another: its shown part walks before both parts of the other, its reserve before the other's reserve, and
 -- before the other's shown part where that has another price
@@ -254,18 +246,3 @@ holdings-length (o ∷ s) = omega (arith, behind-length (reservePart o) (holding
         (λ (t : goesBehind (r .of) h ≡ true). rw t (omega (arith, behind-length r hs)))
         (λ (t : goesBehind (r .of) h ≡ false). rw t (omega arith))
         (holds-or-not (goesBehind (r .of) h))
-
--- a walk leaves no more orders than there were
-pub after-length : (s : List Resting) (ts : List ℕ) → length (after s ts) ≤ length s
-unfolding after keeping
-after-length s ts = keeping-length s (takenOf false (holdings s) ts) (takenOf true (holdings s) ts)
-  where
-    keeping-length : (s : List Resting) (ts rs : List ℕ) → length (keeping s ts rs) ≤ length s
-    keeping-length [] ts rs = omega arith
-    keeping-length (o ∷ s) [] rs = omega arith
-    keeping-length (o ∷ s) (t ∷ ts) [] = omega arith
-    keeping-length (o ∷ s) (t ∷ ts) (r ∷ rs) =
-        ⊎-elim
-        (λ (z : eqb (sharesLeft (reducedBy t r o)) 0 ≡ true). rw z (omega (arith, keeping-length s ts rs)))
-        (λ (z : eqb (sharesLeft (reducedBy t r o)) 0 ≡ false). rw z (omega (arith, keeping-length s ts rs)))
-        (holds-or-not (eqb (sharesLeft (reducedBy t r o)) 0))

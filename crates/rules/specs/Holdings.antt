@@ -3,8 +3,10 @@
 use Prim.Native.Nat.{ℕ, _-_, min}
 use mathlib.Core.Bool.{Bool, true, false, not, _&&_, Bool·beq}
 use mathlib.Core.List.{List, [], _∷_}
+use mathlib.Core.Path.{_≡_}
 use lib.Dec.{eqb}
 use Rattle.basics.specs.Choice.{if_then_else_}
+use Rattle.basics.specs.Lists.{All}
 use Rattle.kinds.specs.declared.Number.{Number}
 use Rattle.kinds.specs.Kinds.{shares}
 use Rattle.rules.specs.declared.Event.{Event}
@@ -49,6 +51,19 @@ walksBefore buy x y =
     if not (eqb (x .of .price .0) (y .of .price .0)) then better buy (x .of .price) (y .of .price)
     else if not (Bool·beq (x .isReserve) (y .isReserve)) then y .isReserve
     else firstAtOnePrice (x .of) (y .of)
+
+-- the walk reaches a holding before some others
+abbrev pub BeforeAll : Bool → Holding → List Holding → Type 0
+BeforeAll buy h hs = All (λ (x : Holding). walksBefore buy h x ≡ true) hs
+
+pub data InWalkOrder (buy : Bool) : List Holding → Type 0 where
+  nobody : InWalkOrder buy []
+  somebody : {h : Holding} {hs : List Holding} → BeforeAll buy h hs → InWalkOrder buy hs → InWalkOrder buy (h ∷ hs)
+
+-- the orders of the shown parts, or of the reserves, among holdings
+unfoldable pub ordersOf : Bool → List Holding → List Resting
+ordersOf reserves [] = []
+ordersOf reserves (h ∷ s) = if Bool·beq (h .isReserve) reserves then h .of ∷ ordersOf reserves s else ordersOf reserves s
 
 -- ── The walk ──
 

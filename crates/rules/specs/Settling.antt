@@ -1,5 +1,6 @@
--- What becomes of resting orders by a command, other than by executions: a cancel, the moves of a quote (02, W2) and a close all have this
--- one shape. Each resting order has a fate; those that stay, those that are set anew, and the lines of all that do not stay follow from it.
+-- What becomes of resting orders by a command, other than by executions: a cancel, the moves of a quote (02, W2), a close and the refills
+-- after an order (02, W4) all have this one shape. Each resting order has a fate; those that stay, those that are set anew, and the lines
+-- of all that do not stay follow from it.
 use Prim.Native.Nat.{ℕ, suc, _+_, _-_, min}
 use mathlib.Core.Bool.{Bool, true, false}
 use mathlib.Core.List.{List, [], _∷_, _++_}

@@ -2,7 +2,7 @@
 use Prim.Native.Nat.{ℕ, suc, _+_, _≤_}
 use mathlib.Core.Bool.{Bool, true, false}
 use mathlib.Core.List.{List, [], _∷_, _++_}
-use mathlib.Core.Logic.{⊎-elim}
+use mathlib.Core.Logic.{_≢_, ⊎-elim}
 use mathlib.Core.Path.{_≡_, refl, ap}
 use lib.Dec.{eqb}
 use lib.ListN.{length}
@@ -62,6 +62,13 @@ pub added-old : {x h : Resting} {s r : List Resting} → Added x s r → OneOf h
 added-old here p = OneOf.later p
 added-old (later a) first = first
 added-old (later a) (OneOf.later p) = OneOf.later (added-old a p)
+
+-- .. and nobody else: whoever is there and has another number was there
+pub added-other : {x h : Resting} {s r : List Resting} → Added x s r → h .number ≢ x .number → OneOf h r → OneOf h s
+added-other here d first = absurd (d refl)
+added-other here d (OneOf.later p) = p
+added-other (later a) d first = first
+added-other (later a) d (OneOf.later p) = OneOf.later (added-other a d p)
 
 -- a number that no other order has stands once more, and every other number as often as before
 pub added-distinct : {x : Resting} {s r : List Resting} → Added x s r → any (eqb (x .number .0)) (numbers s) ≡ false

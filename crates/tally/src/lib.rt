@@ -11,7 +11,8 @@ ghost use Rattle.demands.specs.Told.{cancelledBy};
 ghost use Rattle.digits.specs.Digits.{numberAt};
 ghost use Rattle.rules.specs.EventLines.{refusalKind};
 ghost use Rattle.rules.specs.EventReading.{isKind};
-ghost use Rattle.tally.specs.Tally.{noneCounted, executedShares, oneMore, stoppedBy, passedOver, added, counted, isGoing, turn, fedOn};
+ghost use Rattle.tally.specs.Tally.{noneCounted, executedShares, oneMore, stoppedBy, passedOver, added, counted};
+ghost use Rattle.tally.specs.Tally.{isGoing, turn, fedOn};
 
 // What stopped a tally: nothing yet, a line that is no event line, or a sum that four bytes would not hold.
 pub enum Stop {

@@ -1,54 +1,119 @@
--- `command_lines::reader::read_order` meets its contract: the ending is tested, and then the fields at once. Assumes nothing.
+-- `command_lines::reader::read_order` meets its contract: what the order carries is read, and then its fields at once. Assumes nothing.
 use Prim.Native.Nat.{ℕ}
-use mathlib.Core.Bool.{true, false}
-use mathlib.Core.List.{List}
-use mathlib.Core.Path.{_≡_, refl, sym, ap, _∙_}
+use mathlib.Core.Bool.{true}
+use mathlib.Core.List.{List, [], _∷_}
+use mathlib.Core.Path.{_≡_, refl, sym, _∙_}
+use native.Mathlib.Omega.{arith}
 use borrow.Author.Needs.{needs}
 use borrow.Author.Tests.{not-true, not-false}
 use denote.Ref.{now}
 use Rattle.digits.specs.declared.Field.{Field}
-use Rattle.rules.specs.CommandLines.{isEnded, orderForm, bodyOfForm}
-use Rattle.rules.proofs.LawsFields.{fieldsFrom, goodAfter, numbers-good, numbers-bad}
+use Rattle.digits.proofs.LawsDigits.{field-fits}
+use Rattle.rules.specs.CommandLines.{orderForm}
+use Rattle.rules.proofs.LawsFields.{fieldsFrom, numbers-good, numbers-bad}
+use Rattle.command_lines.specs.declared.reader.CarriedReading.{CarriedReading}
+use Rattle.command_lines.specs.declared.reader.CarriedReading.the-variants.{Is, Bad}
+use Rattle.command_lines.specs.Reading.{carriedIn}
+use Rattle.command_lines.proofs.reader.LawsOrder.{withCarried, order-body}
 use Rattle.command_lines.proofs.reader.read_order.Statement.{statement}
 use Rattle.command_lines.proofs.reader.read_order.Tie as tie
 
-is-ended-requires : tie.Need-is-ended-requires
-is-ended-requires c κs = search needs
+read-carried-requires : tie.Need-read-carried-requires
+read-carried-requires c κs = search needs
+
+enum-known-carried : tie.Need-enum-known-carried
+enum-known-carried c = search needs
+
+enum-told : tie.Need-enum-told
+enum-told c = search needs
+
+-- the digits of the body, and what the order was found to carry
+module _ (c : tie.After-read-carried) where
+  abbrev body : List ℕ
+  body = now (c .before .before .args .s)
+
+  carries : (r : CarriedReading) → c .read-carried .result ≡ r → carriedIn (c .before .before .args .kind) body ≡ r
+  carries r e = sym (c .read-carried .ensures) ∙ e
 
 returns : tie.Need-returns
-unfolding bodyOfForm
-returns c = let e = sym (c .before .is-ended .ensures) ∙ not-true _ (c .if1 .taken) in rw e
+unfolding withCarried
+returns c =
+    let f = c .before .before in
+    rw (order-body (body f) (f .before .before .args .kind), carries f Bad (c .enum-told .given .1))
 
-order-fields-requires : tie.Need-order-fields-requires
-order-fields-requires c κs = search needs
+field-at-requires : tie.Need-field-at-requires
+field-at-requires c κs = search needs
 
--- the body, which is known to end after 22 digits, and whether its fields are good
-module _ (c : tie.After-order-fields) where
-  abbrev body : List ℕ
-  body = now (c .before .before .before .before .args .s)
+field-at-requires-2 : tie.Need-field-at-requires-2
+field-at-requires-2 c κs = search needs
 
-  ended : isEnded 22 body ≡ true
-  ended = sym (c .before .before .is-ended .ensures) ∙ not-false _ (c .before .if1 .left)
+field-at-requires-3 : tie.Need-field-at-requires-3
+field-at-requires-3 c κs = search needs
+
+field-at-requires-4 : tie.Need-field-at-requires-4
+field-at-requires-4 c κs = search needs
+
+-- its fields
+module _ (c : tie.After-field-at4) where
+  abbrev end : tie.After-read-carried
+  end = c .before .before .before .before .before .before .before
 
   abbrev read : List Field
-  read = fieldsFrom 0 orderForm body
+  read = c .before .before .before .field-at .result ∷ c .before .before .field-at2 .result ∷ c .before .field-at3 .result ∷ c .field-at4 .result ∷ []
 
-  are-good : c .order-fields .result .good ≡ goodAfter true read
-  are-good = rw (c .order-fields .ensures)
+  are-read : fieldsFrom 0 orderForm (body end) ≡ read
+  are-read =
+      let side = c .before .before .before .field-at .ensures in
+      let word = c .before .before .field-at2 .ensures in
+      let price = c .before .field-at3 .ensures in
+      let count = c .field-at4 .ensures in
+      λ i. sym side i ∷ sym word i ∷ sym price i ∷ sym count i ∷ []
 
 returns-2 : tie.Need-returns-2
-unfolding bodyOfForm
+unfolding withCarried
 returns-2 c =
-    let f = c .before .before in
-    let bad : goodAfter true (read f) ≡ false = sym (are-good f) ∙ not-true _ (c .if2 .taken) in
-    rw (ended f, numbers-bad 0 orderForm (body f) (read f) refl bad)
+    let f = c .before .before .before .before .before in
+    let e = end f in
+    rw (
+      order-body (body e) (e .before .before .args .kind),
+      carries e (Is (f .before .before .before .before .before .carried .given .0 .0)) (f .before .before .before .before .before .carried .given .1),
+      numbers-bad 0 orderForm (body e) (read f) (are-read f) (not-true _ (c .if1 .taken)),
+    )
+
+cast-t13 : tie.Need-cast-t13
+cast-t13 c =
+    let f = c .before .before .before .before .before .before in
+    omega (arith, field-fits 1 0 (body (end f)) (f .before .before .before .field-at .ensures))
+
+cast-t14 : tie.Need-cast-t14
+cast-t14 c =
+    let f = c .before .before .before .before .before .before .before in
+    omega (arith, field-fits 2 2 (body (end f)) (f .before .before .field-at2 .ensures))
 
 returns-3 : tie.Need-returns-3
-unfolding bodyOfForm
+unfolding withCarried
 returns-3 c =
-    let f = c .before .before .before in
-    let good : goodAfter true (read f) ≡ true = sym (are-good f) ∙ not-false _ (c .before .if2 .left) in
-    rw (ended f, numbers-good 0 orderForm (body f) (read f) refl good, f .order-fields .ensures)
+    let f = c .before .before .before .before .before .before .before in
+    let e = end f in
+    rw (
+      order-body (body e) (e .before .before .args .kind),
+      carries e (Is (f .before .before .before .before .before .carried .given .0 .0)) (f .before .before .before .before .before .carried .given .1),
+      numbers-good 0 orderForm (body e) (read f) (are-read f) (not-false _ (c .before .before .if1 .left)),
+    )
 
 pub read-order-spec : {M : Type 1} → statement M
-read-order-spec = tie.close (tie.spec is-ended-requires returns order-fields-requires returns-2 returns-3)
+read-order-spec =
+    tie.close
+    (tie.spec
+    read-carried-requires
+    enum-known-carried
+    enum-told
+    returns
+    field-at-requires
+    field-at-requires-2
+    field-at-requires-3
+    field-at-requires-4
+    returns-2
+    cast-t13
+    cast-t14
+    returns-3)

@@ -1,0 +1,172 @@
+-- The most that one command writes (`specs/Room`) is reached: on a book that is sound, by a line that is accepted. Said of any number of
+-- orders, by induction, so that no number of places is ever counted out. Assumes nothing.
+use Prim.Native.Nat.{ℕ, zero, suc, _+_, _-_, _*_, _≤_, _<_}
+use mathlib.Core.Bool.{Bool, true, false}
+use mathlib.Core.List.{List}
+use mathlib.Core.Path.{_≡_, refl, ap, _∙_}
+use lib.Count.{ones}
+use lib.Dec.{eqb}
+use lib.ListN.{length}
+use native.Mathlib.Omega.{arith}
+use borrow.Author.Tests.{eq-eqb, le-leb, le-ltb, lt-leb, lt-ltb, ne-eqb}
+use Rattle.basics.specs.Lists.{every, any, distinct, total, All, none, also}
+use Rattle.basics.proofs.LawsChoice.{and-none}
+use Rattle.kinds.specs.Kinds.{number, shares, lowestPrice, mostShares}
+use Rattle.kinds.specs.declared.Number.{Number}
+use Rattle.rules.specs.declared.Event.the-variants.{Rested}
+use Rattle.rules.specs.declared.Resting.{Resting}
+use Rattle.rules.specs.Book.{placesASide, opening, inRankOrder, ranksBefore, restingInRange, numbers, apart, sound}
+use Rattle.rules.specs.CommandLines.{empty, fits, Fits, orderKind}
+use Rattle.rules.specs.Commands.{does}
+use Rattle.rules.specs.Day.{printed}
+use Rattle.rules.specs.EventLines.{eventLines}
+use Rattle.rules.specs.Holdings.{Holding, size, holdings, walk, smaller, executions}
+use Rattle.rules.specs.Instructions.{lawful}
+use Rattle.rules.specs.Refusals.{firstOf, isRest, restsOnFullSide, headerRefusals, bodyRefusals, lineRefusals, refusals}
+use Rattle.rules.specs.Step.{doneBy, answer, answerTo}
+use Rattle.rules.specs.Working.{mayTouch, walked, takings, remainder, seeks, endingWith, ending, lastLine}
+use Rattle.rules.proofs.LawsBest.{all-holdings}
+use Rattle.rules.proofs.LawsEvents.{eventLines-one, none-long, rested-length, executions-more}
+use Rattle.rules.proofs.LawsLines.{commandIn-lineOf}
+use Rattle.rules.proofs.LawsWalkOrder.{holdings-length}
+use Rattle.soundness.proofs.LawsSound.{is-sound}
+use Rattle.demands.proofs.LawsRoom.{order-writes, order-long}
+use Rattle.demands.specs.Once.{acts}
+use Rattle.demands.specs.Room.{worstLines, twoShares, reservesFrom, fullOfReserves, walksThrough, nextCommand, nextLine}
+
+-- ── The book is sound ──
+
+reserves-length : (k n : ℕ) → length (reservesFrom k n) ≡ n
+unfolding reservesFrom
+reserves-length k zero = refl
+reserves-length k (suc n) = omega (arith, reserves-length (suc k) n)
+
+reserves-ranked : (k n : ℕ) → inRankOrder false (reservesFrom k n) ≡ true
+unfolding reservesFrom inRankOrder ranksBefore
+reserves-ranked k zero = refl
+reserves-ranked k (suc zero) = refl
+reserves-ranked k (suc (suc n)) =
+    rw (ne-eqb k (suc k) (λ e. omega (arith, e)), lt-ltb k (suc k) (omega arith)) (reserves-ranked (suc k) (suc n))
+
+reserves-in-range : (k n last : ℕ) → 1 ≤ k → k + n ≤ last + 1 → every (restingInRange (number last)) (reservesFrom k n) ≡ true
+unfolding reservesFrom every
+reserves-in-range k zero last l m = refl
+reserves-in-range k (suc n) last l m =
+    rw (le-leb 1 k l, le-leb k last (omega arith), le-leb k k (omega arith)) (reserves-in-range (suc k) n last (omega arith) (omega arith))
+
+reserves-above : (j k n : ℕ) → j < k → any (eqb j) (numbers (reservesFrom k n)) ≡ false
+unfolding reservesFrom any
+reserves-above j k zero l = refl
+reserves-above j k (suc n) l = rw (ne-eqb j k (λ e. omega (arith, e))) (reserves-above j (suc k) n (omega arith))
+
+reserves-distinct : (k n : ℕ) → distinct (numbers (reservesFrom k n)) ≡ true
+unfolding reservesFrom distinct
+reserves-distinct k zero = refl
+reserves-distinct k (suc n) = rw (reserves-above k (suc k) n (omega arith)) (reserves-distinct (suc k) n)
+
+worst-sound : (n : ℕ) → n ≤ placesASide → sound (fullOfReserves n) ≡ true
+unfolding inRankOrder apart
+worst-sound n fit =
+    is-sound (fullOfReserves n)
+    (record {
+      buysFit = omega arith;
+      sellsFit = omega (arith, reserves-length 1 n);
+      buysRanked = refl;
+      sellsRanked = reserves-ranked 1 n;
+      inRange = reserves-in-range 1 n n (omega arith) (omega arith);
+      once = reserves-distinct 1 n;
+      isApart = refl;
+      opened = refl;
+      inTime = refl;
+      bid = refl;
+      offer = refl;
+      closedEmpty = refl;
+    })
+
+-- ── The walk takes all ──
+
+-- where each may be touched and holds one share, each gives it
+walk-all : (n : Number) (may : Holding → Bool) {hs : List Holding} → All (λ (h : Holding). (may h ≡ true) × (size h ≡ 1)) hs
+    → (left : ℕ) → length hs ≤ left
+    → let ts = walk may smaller left hs in
+    (length (eventLines (executions n hs ts)) ≡ 35 * length hs) × (total ts ≡ length hs)
+unfolding walk executions total
+walk-all n may none left l = (none-long, refl)
+walk-all n may (also {x = h} {s = s} c a) left l =
+    let gives = smaller left h in
+    let ts = walk may smaller (left - gives) s in
+    let others = walk-all n may a (left - gives) (omega (arith, c .1)) in
+    rw (c .0)
+    (omega (arith, c .1, others .0, executions-more n h s gives ts), omega (arith, c .1, others .1))
+
+reserves-all : {P : Resting → Type 0} → ((k : ℕ) → P (twoShares k)) → (k n : ℕ) → All P (reservesFrom k n)
+unfolding reservesFrom
+reserves-all p k zero = none
+reserves-all p k (suc n) = also (p k) (reserves-all p (suc k) n)
+
+-- a line for each of their holdings, and one for what rests: since no command writes more, there is no other
+worst-does : (n : ℕ)
+    → let c = nextCommand n in
+    length (eventLines (does (c .number) (c .time) (c .body) (fullOfReserves n) .events)) ≡ 70 * n + 27
+unfolding takings walked remainder ending endingWith seeks
+worst-does n =
+    let c = nextCommand n in
+    let o = walksThrough n in
+    let b = fullOfReserves n in
+    let away = b .held .away in
+    let s = b .sells in
+    let may : Holding → Bool = λ h. mayTouch o away (h .of .price) in
+    let all : All (λ (h : Holding). (may h ≡ true) × (size h ≡ 1)) (holdings s) =
+    all-holdings (reserves-all (λ k. (refl, refl)) 1 n) (reserves-all (λ k. (refl, refl)) 1 n) in
+    let long : length (holdings s) ≡ 2 * n = omega (arith, holdings-length s, reserves-length 1 n) in
+    let taken = walk-all (c .number) may all (2 * n + 1) (omega (arith, long)) in
+    let left : remainder o away s ≡ 1 = omega (arith, taken .1, long) in
+    let rested = Rested (c .number) (o .price) (shares 1) in
+    let last : length (eventLines (lastLine (c .number) (remainder o away s) (ending o away s))) ≡ 27 =
+    rw left (ap length (eventLines-one rested) ∙ rested-length (c .number) (o .price) (shares 1)) in
+    omega (
+      arith,
+      order-writes (c .number) (c .time) b o,
+      order-long (c .number) (c .time) b o,
+      taken .0,
+      long,
+      last,
+      reserves-length 1 n,
+    )
+
+-- ── Its line is accepted ──
+
+module _ (n : ℕ) (fit : n ≤ placesASide) where
+  next-fits : Fits (nextCommand n)
+  next-fits = record {
+    header = fits 1 orderKind (omega arith) (fits 4 (n + 1) (omega arith) (fits 4 opening (omega arith) empty));
+    body = fits 1 0 (omega arith)
+        (fits 2 (walksThrough n .word) (omega arith) (fits 4 lowestPrice (omega arith) (fits 4 (2 * n + 1) (omega arith) empty)));
+  }
+
+  worst-accepted : answerTo (fullOfReserves n) (nextLine n) .refusal ≡ 0
+  unfolding answerTo answer refusals lineRefusals headerRefusals bodyRefusals firstOf lawful ones restsOnFullSide
+  worst-accepted =
+      let b = fullOfReserves n in
+      let o = walksThrough n in
+      rw (
+        commandIn-lineOf (nextCommand n) next-fits,
+        lt-leb (n + 1) n (omega arith),
+        le-ltb (n + 1) (n + 1) (omega arith),
+        le-leb 1 (2 * n + 1) (omega arith),
+        le-leb (2 * n + 1) mostShares (omega arith),
+        and-none (isRest (ending o (b .held .away) (b .sells))),
+      )
+      refl
+
+  worst-acts : acts (fullOfReserves n) (nextLine n) ≡ true
+  worst-acts = eq-eqb (answerTo (fullOfReserves n) (nextLine n) .refusal) 0 worst-accepted
+
+  worst-printed : length (printed (answerTo (fullOfReserves n) (nextLine n))) ≡ 70 * n + 27
+  unfolding printed answerTo answer doneBy
+  worst-printed = rw (worst-acts, commandIn-lineOf (nextCommand n) next-fits) (worst-does n)
+
+-- so with as many orders as a side has places
+pub worst-reached : (sound (fullOfReserves placesASide) ≡ true) × (acts (fullOfReserves placesASide) (nextLine placesASide) ≡ true)
+    × (length (printed (answerTo (fullOfReserves placesASide) (nextLine placesASide))) ≡ worstLines)
+worst-reached = (worst-sound placesASide (omega arith), worst-acts placesASide (omega arith), worst-printed placesASide (omega arith))
