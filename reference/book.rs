@@ -1,4 +1,4 @@
-//! The order book of paper 01 with requests W2 and W4 of paper 02: command lines read,
+//! The order book of paper 01 with requests W2, W4 and W5 of paper 02: command lines read,
 //! orders worked, shown parts refilled, hidden orders moved by a quote, event lines written.
 //!
 //! Shared by `ordinary.rs` (the program) and `days.rs` (the generator of test days).
@@ -13,7 +13,7 @@ pub const MIN_PRICE: u32 = 100;
 pub const MAX_PRICE: u32 = 200_000;
 pub const MAX_SHARES: u32 = 1_000_000;
 /// Resting orders a side.
-pub const PLACES: usize = 64;
+pub const PLACES: usize = 256;
 /// The Regular Session, in milliseconds after midnight Eastern.
 pub const SESSION_START: u32 = 34_200_000;
 pub const SESSION_END: u32 = 57_600_000;
@@ -121,8 +121,13 @@ impl Resting {
 #[derive(Clone, Copy)]
 struct Stamp {
     command: u32,
-    place: u8, // a quote moves at most both sides, 128 orders; an order has 64 refilled at most
+    place: u16, // a quote moves at most both sides, 512 orders; an order has 256 refilled at most
 }
+
+/// A rank is, from its lowest bits up: the stamp's place, the stamp's command, display, price.
+const PLACE_BITS: u32 = 10;
+const STAMP_BITS: u32 = PLACE_BITS + 32;
+const _: () = assert!(2 * PLACES < 1 << PLACE_BITS, "the moves of one quote must fit the place");
 
 pub struct Book {
     pub last_number: u32,
@@ -275,7 +280,9 @@ impl Book {
                     let shown = order.max_floor.unwrap_or(remainder).min(remainder);
                     let reserve = remainder - shown;
                     let max_floor = order.max_floor.unwrap_or(0);
-                    put_in(own, Resting { rank, number, price, shown, reserve, max_floor, hidden, cancel_back });
+                    let resting =
+                        Resting { rank, number, price, shown, reserve, max_floor, hidden, cancel_back };
+                    put_in(own, resting);
                     write_rested(events, number, price, remainder);
                 }
                 Err(reason) => write_cancelled(events, number, remainder, reason),
@@ -321,15 +328,17 @@ fn reaches<const BUY: bool>(bound: u32, price: u32) -> bool {
 /// non-displayed; then lower stamp.
 fn rank<const BUY: bool>(price: u32, hidden: bool, stamp: Stamp) -> u64 {
     let distance = if BUY { MAX_PRICE - price } else { price };
-    with_stamp((distance as u64) << 41 | (hidden as u64) << 40, stamp)
+    with_stamp((distance as u64) << (STAMP_BITS + 1) | (hidden as u64) << STAMP_BITS, stamp)
 }
 
 /// The rank with another stamp, price and display as they are.
 fn with_stamp(rank: u64, stamp: Stamp) -> u64 {
-    rank >> 40 << 40 | (stamp.command as u64) << 8 | stamp.place as u64
+    rank >> STAMP_BITS << STAMP_BITS | (stamp.command as u64) << PLACE_BITS | stamp.place as u64
 }
 
-/// Puts an order in by its rank: from the best down, as most orders come near the best.
+/// Puts an order in by its rank: from the best down, as most orders come near the best. Halving the
+/// range instead was tried: a plain day takes about 5% longer where 40 orders rest a side, 3% less
+/// at 120 and 9% less at 200. The scan stays, so that it is no slower at 40 than before.
 fn put_in(side: &mut Vec<Resting>, order: Resting) {
     let worse = side.iter().rposition(|resting| resting.rank > order.rank);
     let place = worse.map_or(0, |worse| worse + 1);
@@ -399,7 +408,12 @@ fn refill(side: &mut Vec<Resting>, due: usize, command: u32, events: &mut Vec<u8
 /// A quote and one side: each hidden order that would now cross the Locking Price (0 for
 /// none) is set at it with the next stamp, or cancelled if it is Cancel Back, in the order
 /// of their ranks. Displayed orders stay, so none with a reserve is moved.
-fn move_hidden<const BUY: bool>(side: &mut Vec<Resting>, locking: u32, stamp: &mut Stamp, events: &mut Vec<u8>) {
+fn move_hidden<const BUY: bool>(
+    side: &mut Vec<Resting>,
+    locking: u32,
+    stamp: &mut Stamp,
+    events: &mut Vec<u8>,
+) {
     if locking == 0 {
         return;
     }
@@ -522,7 +536,8 @@ pub fn read_command(input: &[u8]) -> Option<(Command, usize)> {
             // Side and word are six digits; the reader takes eight, the first two set to 0.
             let short = [b'0', b'0', fields[0], fields[1], fields[2], fields[3], fields[4], fields[5]];
             let side_and_word = read_field(&short, 0)?;
-            let (max_floor, digits) = if kind == b'5' { (Some(read_field(body, 22)?), 30) } else { (None, 22) };
+            let (max_floor, digits) =
+                if kind == b'5' { (Some(read_field(body, 22)?), 30) } else { (None, 22) };
             let order = Order {
                 side: (side_and_word >> 16) as u8,
                 word: side_and_word as u16,

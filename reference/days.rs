@@ -3,16 +3,19 @@
 //!
 //! Kinds:
 //!   plain     orders around a moving price, a few of them with reserve, cancels and quotes, about
-//!             40 orders resting a side
-//!   nasty     valid and damaged lines mixed; most days are closed somewhere, with more lines after
-//!             it, and the last line feed is missing now and then
-//!   full      both sides kept at or near 64 resting orders
-//!   crossing  sweeps, FOK just fillable and just not, Post Only that meets, ISO, locked and
-//!             crossed away quotes, Price Adjust at the edges of the price range
-//!   moving    quotes that move or cancel hidden orders, from one to whole sides at once, and
+//!             40 orders resting a side; `days plain SEED LINES DEPTH` makes it about DEPTH orders,
+//!             at prices spread in proportion
+//!   nasty     valid and damaged lines mixed; a side is filled now and then; most days are closed
+//!             somewhere, with more lines after it, and the last line feed is missing now and then
+//!   full      both sides kept at or near 256 resting orders; the first 512 lines fill them, if the
+//!             day has more
+//!   crossing  sweeps, now and then of full sides, FOK just fillable and just not, Post Only that
+//!             meets, ISO, locked and crossed away quotes, Price Adjust at the edges of the price range
+//!   moving    quotes that move or cancel hidden orders, from one to both full sides at once, and
 //!             small orders after them that show the new ranks
-//!   reserve   orders with reserve, hidden and displayed ones at few prices, and orders that end at
-//!             or beside each edge of the walk over their holdings, so that refills come all the time
+//!   reserve   orders with reserve, hidden and displayed ones at few prices, on some stretches full
+//!             sides of them, and orders that end at or beside each edge of the walk over their
+//!             holdings, so that refills come all the time
 //!   short     a few lines (at most 12, and at most LINES) of one of the kinds above
 //! The last line is the close in all but the nasty days.
 //!
@@ -30,6 +33,8 @@ use std::process::ExitCode;
 
 const BUY: u8 = 0;
 const SELL: u8 = 1;
+/// The orders that rest a side on a plain day, if no other number is asked for.
+const DEPTH: usize = 40;
 /// The length of the session in milliseconds.
 const SESSION: u64 = (SESSION_END - SESSION_START) as u64;
 /// Day, Displayed, Price Adjust: the ordinary word.
@@ -47,7 +52,9 @@ const KILLER: u16 = FOK | DISPLAYED | PRICE_ADJUST;
 fn main() -> ExitCode {
     let arguments: Vec<String> = std::env::args().skip(1).collect();
     let Some((kind, seed, lines)) = read_arguments(&arguments) else {
-        eprintln!("usage: days plain|nasty|full|crossing|moving|reserve|short SEED LINES");
+        eprintln!("usage: days plain SEED LINES [DEPTH]");
+        eprintln!("       days nasty|full|crossing|moving|reserve|short SEED LINES");
+        eprintln!("DEPTH is 1 to {PLACES}, or else {DEPTH}.");
         return ExitCode::from(2);
     };
     let mut output = BufWriter::with_capacity(64 * 1024, io::stdout().lock());
@@ -62,7 +69,8 @@ fn main() -> ExitCode {
 
 #[derive(Clone, Copy)]
 enum Kind {
-    Plain,
+    /// With the number of orders that rest a side.
+    Plain(usize),
     Nasty,
     Full,
     Crossing,
@@ -72,15 +80,16 @@ enum Kind {
 }
 
 fn read_arguments(arguments: &[String]) -> Option<(Kind, u64, u64)> {
-    let [kind, seed, lines] = arguments else { return None };
-    let kind = match kind.as_str() {
-        "plain" => Kind::Plain,
-        "nasty" => Kind::Nasty,
-        "full" => Kind::Full,
-        "crossing" => Kind::Crossing,
-        "moving" => Kind::Moving,
-        "reserve" => Kind::Reserve,
-        "short" => Kind::Short,
+    let [kind, seed, lines, depth @ ..] = arguments else { return None };
+    let kind = match (kind.as_str(), depth) {
+        ("plain", []) => Kind::Plain(DEPTH),
+        ("plain", [depth]) => Kind::Plain(depth.parse().ok().filter(|depth| (1..=PLACES).contains(depth))?),
+        ("nasty", []) => Kind::Nasty,
+        ("full", []) => Kind::Full,
+        ("crossing", []) => Kind::Crossing,
+        ("moving", []) => Kind::Moving,
+        ("reserve", []) => Kind::Reserve,
+        ("short", []) => Kind::Short,
         _ => return None,
     };
     Some((kind, seed.parse().ok()?, lines.parse().ok()?))
@@ -91,7 +100,7 @@ fn print_day(kind: Kind, seed: u64, lines: u64, output: &mut impl Write) -> io::
     let (kind, lines) = match kind {
         Kind::Short => {
             let kinds = [
-                Kind::Plain,
+                Kind::Plain(DEPTH),
                 Kind::Nasty,
                 Kind::Nasty,
                 Kind::Full,
@@ -111,7 +120,7 @@ fn print_day(kind: Kind, seed: u64, lines: u64, output: &mut impl Write) -> io::
         let line = match kind {
             Kind::Nasty => day.nasty_line(),
             _ if is_last => day.closing_line(),
-            Kind::Plain => day.plain_line(),
+            Kind::Plain(depth) => day.plain_line(depth),
             Kind::Full => day.full_line(),
             Kind::Crossing => day.crossing_line(),
             Kind::Moving => day.moving_line(),
@@ -168,8 +177,25 @@ struct Day {
     cut_end: bool,
     /// Full and reserve: the number of orders that each side is held at, changed now and then.
     hold: usize,
-    /// Reserve: the number of prices that orders come at, changed with it.
+    /// Full and reserve: the number of prices that orders come at, changed with it.
     prices: u32,
+    /// Reserve: the place of the next such change.
+    change_at: u64,
+    /// Whether only orders come that rest, until enough do.
+    filling: bool,
+    /// Moving: the next step to a quote that moves both full sides, if one is under way.
+    whole: Option<Whole>,
+}
+
+/// The steps to a quote that moves both sides whole: the sides are swept empty, as what stands there
+/// may be displayed or moved already, and filled with hidden orders.
+#[derive(Clone, Copy)]
+enum Whole {
+    SweepSells,
+    SweepBuys,
+    /// With the percentage of orders that may be of any word.
+    Fill(u64),
+    Quote,
 }
 
 impl Day {
@@ -192,7 +218,10 @@ impl Day {
             close_at,
             cut_end,
             hold: PLACES,
-            prices: 1,
+            prices: 30,
+            change_at: 0,
+            filling: false,
+            whole: None,
         }
     }
 
@@ -283,6 +312,11 @@ impl Day {
         self.side(side).last().map(|resting| resting.price)
     }
 
+    /// The away price that orders of that side may not cross, 0 for none.
+    fn locking(&self, side: u8) -> u32 {
+        if side == BUY { self.book.away_offer } else { self.book.away_bid }
+    }
+
     /// A price `steps` cents from the middle, on the side where it does not cross; may be 0.
     fn passive(&self, side: u8, steps: u32) -> u32 {
         if side == BUY { self.middle.saturating_sub(steps) } else { self.middle + steps }
@@ -312,9 +346,39 @@ impl Day {
         self.side(1 - side).get(place).map_or(self.middle, |resting| resting.price)
     }
 
+    // Filling sides: 256 places would seldom be taken by orders that come by chance.
+
+    fn shorter_side(&self) -> u8 {
+        if self.book.buys.len() <= self.book.sells.len() { BUY } else { SELL }
+    }
+
+    /// An order for that side that rests, at one of so many prices, once nothing is in its way.
+    fn filler(&mut self, side: u8, word: u16, prices: u32) -> Command {
+        if let Some(clearing) = self.clear_the_way(side) {
+            return clearing;
+        }
+        let steps = self.random.between(1, prices);
+        let price = self.passive(side, steps);
+        let shares = self.random.between(1, 60);
+        self.order(side, word, price, shares)
+    }
+
+    /// What ends an away price or opposite orders that would keep passive orders from resting.
+    fn clear_the_way(&mut self, side: u8) -> Option<Command> {
+        let (locking, middle) = (self.locking(side), self.middle);
+        if locking != 0 {
+            return Some(self.quote(0, 0));
+        }
+        let best = self.best(1 - side)?;
+        let is_met = if side == BUY { best <= middle } else { best >= middle };
+        is_met.then(|| self.order(side, TAKER | ISO, middle, MAX_SHARES))
+    }
+
     // Plain days.
 
-    fn plain_line(&mut self) -> Vec<u8> {
+    fn plain_line(&mut self, depth: usize) -> Vec<u8> {
+        // As many orders at one price whatever the depth, so that walks stay alike.
+        let spread = (12 * depth / DEPTH) as u32;
         if self.random.below(40) == 0 {
             self.middle = (self.middle + self.random.between(0, 2) - 1).clamp(1000, 9000);
         }
@@ -333,12 +397,12 @@ impl Day {
                 self.command(Body::Cancel { order })
             }
             choice => {
-                // Half orders, half cancels, held near 40 resting orders.
+                // Half orders, half cancels, held within a tenth of the depth.
                 let wants_order = choice % 2 == 0;
-                if resting < 36 || (wants_order && resting < 44) {
-                    self.plain_maker(side)
+                if resting < depth - depth / 10 || (wants_order && resting < depth + depth / 10) {
+                    self.plain_maker(side, spread)
                 } else {
-                    self.cancel(side).expect("a side of 36 orders is not empty")
+                    self.cancel(side).expect("a side that is not below the depth is not empty")
                 }
             }
         };
@@ -346,24 +410,24 @@ impl Day {
     }
 
     /// An order that mostly rests.
-    fn plain_maker(&mut self, side: u8) -> Command {
+    fn plain_maker(&mut self, side: u8, spread: u32) -> Command {
         let word = match self.random.below(100) {
             0..=57 => ORDINARY,
-            58..=64 => return self.plain_reserve(side),
+            58..=64 => return self.plain_reserve(side, spread),
             65..=79 => HIDDEN,
             80..=87 => DAY | DISPLAYED | CANCEL_BACK,
             88..=97 => ORDINARY | POST_ONLY,
             _ => ORDINARY | ISO,
         };
-        let steps = self.random.between(0, 12);
+        let steps = self.random.between(0, spread);
         let price = self.passive(side, steps);
         let shares = 100 * self.random.between(1, 10);
         self.order(side, word, price, shares)
     }
 
     /// An order with reserve that shows a round lot or a few.
-    fn plain_reserve(&mut self, side: u8) -> Command {
-        let steps = self.random.between(0, 12);
+    fn plain_reserve(&mut self, side: u8, spread: u32) -> Command {
+        let steps = self.random.between(0, spread);
         let price = self.passive(side, steps);
         let shares = 100 * self.random.between(5, 30);
         let max_floor = Some(100 * self.random.between(1, 5));
@@ -406,10 +470,23 @@ impl Day {
             let command = self.order(side, RESERVED, self.middle, 100);
             return write_command(&command);
         }
-        if self.random.below(60) == 0 {
+        if self.printed % 2000 == 500 {
+            // Early enough that most days of 1,500 lines see a full side.
+            self.filling = true;
+            self.middle = 2000;
+        }
+        let most = self.book.buys.len().max(self.book.sells.len());
+        self.filling &= most < PLACES && self.book.open;
+        if !self.filling && self.random.below(60) == 0 {
             self.middle = self.random.pick(&[100, 103, 500, 2000, 199_997, 200_000]);
         }
-        let mut command = self.nasty_command();
+        let mut command = if self.filling {
+            // The side that has more already; at prices of which the next orders sweep only a few.
+            let word = self.random.pick(&[ORDINARY, HIDDEN, HIDDEN_BACK, RESERVED]);
+            self.filler(1 - self.shorter_side(), word, 60)
+        } else {
+            self.nasty_command()
+        };
         match self.random.below(100) {
             0..=64 => write_command(&command),
             65..=87 => {
@@ -482,7 +559,8 @@ impl Day {
                 command.time = self.random.pick(&times);
             }
             5 => {
-                // A close is taken only where the day is to be closed, so it gets a number seen or a bad time.
+                // A close is taken only where the day is to be closed: this one gets a number seen or a
+                // bad time.
                 command.body = Body::Close;
                 if self.random.percent(50) {
                     command.number = last;
@@ -521,7 +599,8 @@ impl Day {
                 }
                 9 => {
                     let shares = order.shares;
-                    let max_floors = [0, 0, 1, shares, shares.wrapping_add(1), shares.wrapping_add(1), MAX_SHARES, u32::MAX];
+                    let above = shares.wrapping_add(1);
+                    let max_floors = [0, 0, 1, shares, above, above, MAX_SHARES, u32::MAX];
                     order.max_floor = Some(self.random.pick(&max_floors));
                     if self.random.percent(90) {
                         order.word = self.random.pick(&[RESERVED, RESERVED | ISO, RESERVED | POST_ONLY]);
@@ -600,7 +679,9 @@ impl Day {
             9 => line.clear(),
             10 => {
                 // Another kind, or this kind with another's body.
-                let kind = self.random.pick(&[b"00", b"01", b"02", b"03", b"04", b"05", b"06", b"0a", b"10", b"11", b"ff"]);
+                let kinds =
+                    [b"00", b"01", b"02", b"03", b"04", b"05", b"06", b"0a", b"10", b"11", b"ff"];
+                let kind = self.random.pick(&kinds);
                 line[..2].copy_from_slice(kind);
                 if line.starts_with(b"04") && line.len() == 18 {
                     line[1] = b'5';
@@ -634,15 +715,36 @@ impl Day {
     // Full days.
 
     fn full_line(&mut self) -> Vec<u8> {
+        let words = [
+            ORDINARY,
+            ORDINARY,
+            HIDDEN,
+            HIDDEN,
+            HIDDEN_BACK,
+            DAY | DISPLAYED | CANCEL_BACK,
+            ORDINARY | POST_ONLY,
+            ORDINARY | ISO,
+            RESERVED,
+            RESERVED,
+        ];
+        let word = self.random.pick(&words);
+        // On a day that is long enough, sides that have lost many orders are filled before all else.
+        let shorter = self.shorter_side();
+        let least = self.side(shorter).len();
+        let is_long = self.lines > 2 * PLACES as u64;
+        self.filling = is_long && (self.filling || least < PLACES - 32) && least < self.hold;
+        if self.filling {
+            return write_command(&self.filler(shorter, word, self.prices));
+        }
         if self.random.below(300) == 0 {
-            self.hold = self.random.pick(&[PLACES, PLACES, PLACES, 62, 48]);
+            self.hold = self.random.pick(&[PLACES, PLACES, PLACES, PLACES - 2, PLACES - 16]);
+            self.prices = self.random.pick(&[30, 120]);
         }
         let side = self.any_side();
         let resting = self.side(side).len();
-        let steps = self.random.between(1, 30);
+        let steps = self.random.between(1, self.prices);
         let passive = self.passive(side, steps);
         let shares = self.random.between(1, 60);
-        let word = self.random.pick(&[ORDINARY, ORDINARY, HIDDEN, HIDDEN, HIDDEN_BACK, DAY | DISPLAYED | CANCEL_BACK, ORDINARY | POST_ONLY, ORDINARY | ISO, RESERVED, RESERVED]);
         let choice = self.random.below(100);
         let command = if resting > self.hold && choice < 60 {
             self.cancel(side).expect("more than the hold rest")
@@ -661,19 +763,22 @@ impl Day {
                 45..=69 => {
                     let limit = self.best(1 - side).unwrap_or(passive);
                     let found = self.fillable(side, limit);
-                    let shares = self.random.pick(&[1, found, found, found + 1, found.saturating_sub(1), found + 500]);
+                    let edges = [1, found, found, found + 1, found.saturating_sub(1), found + 500];
+                    let shares = self.random.pick(&edges);
                     let word = self.random.pick(&[ORDINARY, ORDINARY, word, TAKER, KILLER]);
                     self.order(side, word, limit, shares)
                 }
                 // Post Only that meets, or Price Adjust and Cancel Back against the away price.
                 70..=79 => {
                     let limit = self.aggressive(side, steps);
-                    let word = self.random.pick(&[ORDINARY | POST_ONLY, DAY | DISPLAYED | CANCEL_BACK, ORDINARY]);
+                    let words = [ORDINARY | POST_ONLY, DAY | DISPLAYED | CANCEL_BACK, ORDINARY];
+                    let word = self.random.pick(&words);
                     self.order(side, word, limit, shares)
                 }
                 80..=87 => {
-                    let bid = self.random.pick(&[0, self.middle - 1, self.middle, self.middle - 10, self.middle + 5]);
-                    let offer = self.random.pick(&[0, self.middle + 1, self.middle, self.middle + 10, self.middle - 5, 100]);
+                    let middle = self.middle;
+                    let bid = self.random.pick(&[0, middle - 1, middle, middle - 10, middle + 5]);
+                    let offer = self.random.pick(&[0, middle + 1, middle, middle + 10, middle - 5, 100]);
                     self.quote(bid, offer)
                 }
                 // A cancel of an order that has gone, mostly.
@@ -684,7 +789,8 @@ impl Day {
                 // Seldom, a sweep of a good part of the opposite side.
                 92 => {
                     let limit = self.opposite_price(side);
-                    self.order(side, TAKER, limit, 1000)
+                    let shares = self.random.pick(&[1000, 4000]);
+                    self.order(side, TAKER, limit, shares)
                 }
                 // Numbers again or too high, with any order.
                 93 => {
@@ -701,10 +807,18 @@ impl Day {
     // Crossing days.
 
     fn crossing_line(&mut self) -> Vec<u8> {
-        if self.printed % 200 == 0 {
+        // A few orders more come than the sides take.
+        self.filling &= self.side(self.shorter_side()).len() < PLACES || self.random.percent(75);
+        if self.printed % 200 == 0 && !self.filling {
             // Another stretch of prices; the orders left at the last one lie far off and are swept.
             let edges = [1500, 3000, 100, 102, 199_998, 200_000];
             self.middle = self.random.pick(&edges);
+            self.filling = self.random.below(12) == 0;
+        }
+        if self.filling {
+            self.middle = 1500;
+            let word = self.random.pick(&[ORDINARY, ORDINARY, HIDDEN, HIDDEN_BACK, RESERVED]);
+            return write_command(&self.filler(self.shorter_side(), word, 30));
         }
         let side = self.any_side();
         let command = match self.random.below(100) {
@@ -712,7 +826,8 @@ impl Day {
                 // Small orders at a few prices, for others to sweep.
                 let steps = self.random.between(0, 8);
                 let price = self.passive(side, steps);
-                let word = self.random.pick(&[ORDINARY, ORDINARY, HIDDEN, ORDINARY | ISO, HIDDEN_BACK, RESERVED]);
+                let words = [ORDINARY, ORDINARY, HIDDEN, ORDINARY | ISO, HIDDEN_BACK, RESERVED];
+                let word = self.random.pick(&words);
                 let shares = self.random.between(1, 40);
                 if self.side(side).len() == PLACES && self.random.percent(90) {
                     self.cancel(side).expect("a full side is not empty")
@@ -741,8 +856,9 @@ impl Day {
             80..=86 => {
                 // Post Only at, one before and one past a price of the opposite side.
                 let price = self.opposite_price(side) - 1 + self.random.between(0, 2);
-                let pricing = self.random.pick(&[PRICE_ADJUST, PRICE_ADJUST, CANCEL_BACK, PRICE_ADJUST | RESERVE]);
-                self.order(side, DAY | DISPLAYED | POST_ONLY | pricing, price, 25)
+                let choices = [PRICE_ADJUST, PRICE_ADJUST, CANCEL_BACK, PRICE_ADJUST | RESERVE];
+                let word = DAY | DISPLAYED | POST_ONLY | self.random.pick(&choices);
+                self.order(side, word, price, 25)
             }
             _ => {
                 // Large orders through many: IOC, market, ISO, and Day ones with a remainder to rest.
@@ -800,8 +916,14 @@ impl Day {
     // Moving days.
 
     fn moving_line(&mut self) -> Vec<u8> {
-        if self.printed % 150 == 0 {
+        if self.printed % 150 == 0 && self.whole.is_none() {
             self.middle = self.random.pick(&[1500, 1500, 3000, 104, 199_996]);
+            if self.random.below(10) == 0 {
+                self.whole = Some(Whole::SweepSells);
+            }
+        }
+        if let Some(step) = self.whole {
+            return write_command(&self.whole_sides(step));
         }
         let side = self.any_side();
         let command = match self.random.below(100) {
@@ -831,11 +953,54 @@ impl Day {
         write_command(&command)
     }
 
+    fn whole_sides(&mut self, step: Whole) -> Command {
+        match step {
+            Whole::SweepSells => {
+                self.whole = Some(Whole::SweepBuys);
+                self.order(BUY, TAKER | ISO, MAX_PRICE, MAX_SHARES)
+            }
+            Whole::SweepBuys => {
+                let any = self.random.pick(&[0, 0, 3, 50]);
+                self.whole = Some(Whole::Fill(any));
+                self.order(SELL, TAKER | ISO, MIN_PRICE, MAX_SHARES)
+            }
+            Whole::Fill(any) => {
+                if self.book.buys.len() + self.book.sells.len() + 1 == 2 * PLACES {
+                    self.whole = Some(Whole::Quote);
+                }
+                let word = if self.random.percent(any) { self.moving_word() } else { HIDDEN };
+                self.filler(self.shorter_side(), word, 5)
+            }
+            Whole::Quote => {
+                self.whole = None;
+                // All of both sides, all but the worst price, or about half.
+                let middle = self.middle;
+                let beyond = self.random.pick(&[6, 5, 3]);
+                let quotes = [(MAX_PRICE, MIN_PRICE), (middle + beyond, middle - beyond)];
+                let (bid, offer) = self.random.pick(&quotes);
+                self.quote(bid, offer)
+            }
+        }
+    }
+
     /// An order to be moved, cancelled or passed over by the quotes that follow.
     fn moving_maker(&mut self, side: u8) -> Command {
         if self.side(side).len() == PLACES && self.random.percent(90) {
             return self.cancel(side).expect("a full side is not empty");
         }
+        let word = self.moving_word();
+        // Few prices, so that many orders meet at one; now and then the Locking Price itself.
+        let steps = self.random.between(0, 5);
+        let locking = self.locking(side);
+        let price = match self.random.below(8) {
+            0 if locking != 0 => locking,
+            _ => self.passive(side, steps),
+        };
+        let shares = self.random.between(1, 40);
+        self.order(side, word, price, shares)
+    }
+
+    fn moving_word(&mut self) -> u16 {
         let words = [
             HIDDEN,
             HIDDEN,
@@ -852,16 +1017,7 @@ impl Day {
             RESERVED,
             RESERVED | ISO,
         ];
-        let word = self.random.pick(&words);
-        // Few prices, so that many orders meet at one; now and then the Locking Price itself.
-        let steps = self.random.between(0, 5);
-        let locking = if side == BUY { self.book.away_offer } else { self.book.away_bid };
-        let price = match self.random.below(8) {
-            0 if locking != 0 => locking,
-            _ => self.passive(side, steps),
-        };
-        let shares = self.random.between(1, 40);
-        self.order(side, word, price, shares)
+        self.random.pick(&words)
     }
 
     /// A quote at, just short of or just past the price of a resting order, on one side or on
@@ -894,12 +1050,21 @@ impl Day {
     // Reserve days.
 
     fn reserve_line(&mut self) -> Vec<u8> {
-        if self.printed % 250 == 0 {
+        if self.printed >= self.change_at {
             self.hold = self.random.pick(&[3, 6, 6, 12, 24, PLACES]);
+            self.change_at = self.printed + if self.hold == PLACES { 1500 } else { 250 };
             self.prices = self.random.between(1, 3);
             if self.random.percent(50) {
                 self.middle = self.random.pick(&[1500, 1500, 3000, 104, 199_996]);
             }
+        }
+        // Full sides are filled before all else, and again when half of one has gone.
+        let least = self.side(self.shorter_side()).len();
+        self.filling = (self.filling || least < PLACES / 2) && least < PLACES && self.hold == PLACES;
+        if self.filling {
+            let side = self.shorter_side();
+            let clearing = self.clear_the_way(side);
+            return write_command(&clearing.unwrap_or_else(|| self.reserve_maker(side)));
         }
         let side = self.any_side();
         // The more orders a side is to hold, the longer it is left alone to get them.
@@ -934,7 +1099,7 @@ impl Day {
             HIDDEN_BACK,
         ];
         let word = self.random.pick(&words);
-        // Nearly a whole side of them, for walks over 64 orders and their 64 reserves.
+        // Nearly a whole side of them, for walks over 256 orders and their 256 reserves.
         let word = if self.hold == PLACES && self.random.percent(95) { RESERVED } else { word };
         let steps = self.random.between(1, self.prices);
         let price = self.passive(side, steps);
@@ -948,10 +1113,14 @@ impl Day {
     /// the first reserve, all of them. Or one anywhere in between, or through every price.
     fn reserve_taker(&mut self, side: u8) -> Command {
         let Some(best) = self.best(1 - side) else { return self.reserve_maker(1 - side) };
-        let at_best: Vec<Resting> = self.side(1 - side).iter().rev().copied().filter(|resting| resting.price == best).collect();
-        let sum = |hidden: bool| at_best.iter().filter(|resting| resting.hidden == hidden).map(|resting| resting.shown).sum::<u32>();
+        let ranked = self.side(1 - side).iter().rev().copied();
+        let at_best: Vec<Resting> = ranked.take_while(|resting| resting.price == best).collect();
+        let sum = |hidden: bool| -> u32 {
+            at_best.iter().filter(|resting| resting.hidden == hidden).map(|resting| resting.shown).sum()
+        };
         let (shown, hidden) = (sum(false), sum(true));
-        let first_reserve = at_best.iter().map(|resting| resting.reserve).find(|&reserve| reserve > 0).unwrap_or(0);
+        let mut reserves = at_best.iter().map(|resting| resting.reserve);
+        let first_reserve = reserves.find(|&reserve| reserve > 0).unwrap_or(0);
         let all: u32 = at_best.iter().map(|resting| resting.shares()).sum();
         let ranked = self.random.between(1, shown + hidden);
         let any = self.random.between(1, all);
@@ -974,7 +1143,19 @@ impl Day {
         let worst = self.side(1 - side)[0].price;
         let limit = if through { worst } else { best };
         let shares = if through { self.fillable(side, limit) + self.random.between(0, 1) } else { shares };
-        let words = [TAKER, TAKER, TAKER, TAKER | ISO, KILLER, KILLER, TAKER | MARKET, ORDINARY, RESERVED, HIDDEN, HIDDEN_BACK | ISO];
+        let words = [
+            TAKER,
+            TAKER,
+            TAKER,
+            TAKER | ISO,
+            KILLER,
+            KILLER,
+            TAKER | MARKET,
+            ORDINARY,
+            RESERVED,
+            HIDDEN,
+            HIDDEN_BACK | ISO,
+        ];
         let word = self.random.pick(&words);
         self.order(side, word, limit, shares)
     }

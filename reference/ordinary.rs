@@ -1,6 +1,6 @@
 //! An ordinary order book: command lines on standard input to its end, event lines on
-//! standard output, from the fresh book. Its law is paper 01 with W2 and W4 of paper 02; the
-//! book itself is `book.rs`.
+//! standard output, from the fresh book. Its law is paper 01 with W2, W4 and W5 of paper 02;
+//! the book itself is `book.rs`.
 //!
 //! Compile: rustc -O --edition 2021 ordinary.rs
 
@@ -15,9 +15,9 @@ use std::process::ExitCode;
 const PIECE: usize = 64 * 1024;
 /// The longest command line has 48 digits and a line feed.
 const LONGEST_LINE: usize = 49;
-/// More than the event lines of any one command (64 shown parts and 64 reserves taken and a
-/// remainder rested: 4,507 bytes).
-const ROOM: usize = 8192;
+/// More than the event lines of any one command (256 shown parts and 256 reserves taken and a
+/// remainder rested: 17,947 bytes).
+const ROOM: usize = 32_768;
 
 fn main() -> ExitCode {
     let mut program = Program::new(io::stdout().lock());

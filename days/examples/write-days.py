@@ -6,6 +6,7 @@ import os
 HERE = os.path.dirname(os.path.abspath(__file__))
 B, S = 0, 1
 IOC, FOK, DAY, D, N, PA, CB, PO, ISO, MK = (1 << i for i in range(10))
+RESERVE = 1 << 10
 STD = DAY | D | PA
 T0 = 34200000
 
@@ -14,12 +15,14 @@ def order(n, side, price, shares, word=STD, t=T0):
     return '01' + h(n, 4) + h(t, 4) + h(side, 1) + h(word, 2) + h(price, 4) + h(shares, 4)
 def buy(n, shares, price, word=STD, t=T0): return order(n, B, price, shares, word, t)
 def sell(n, shares, price, word=STD, t=T0): return order(n, S, price, shares, word, t)
+def reserve(n, side, shares, price, floor): return '05' + order(n, side, price, shares, STD | RESERVE)[2:] + h(floor, 4)
 def cancel(n, num, t=T0): return '02' + h(n, 4) + h(t, 4) + h(num, 4)
 def quote(n, bid, offer, t=T0): return '03' + h(n, 4) + h(t, 4) + h(bid, 4) + h(offer, 4)
 def close(n, t=T0): return '04' + h(n, 4) + h(t, 4)
 # what comes out
 def X(inc, rest, shares, price): return '11' + h(inc, 4) + h(rest, 4) + h(price, 4) + h(shares, 4)
 def R(n, shares, price): return '12' + h(n, 4) + h(price, 4) + h(shares, 4)
+def M(n, shares, price): return '14' + h(n, 4) + h(price, 4) + h(shares, 4)
 def K(n, shares, reason): return '13' + h(n, 4) + h(shares, 4) + h(reason, 1)
 def F(no): return '1f' + h(no, 1)
 
@@ -58,19 +61,20 @@ day('buy-at-away-offer-cancel-back-non-displayed-rests-at-it', q + '... Cancel B
     (quote(1, 0, 1002),),
     (buy(2, 100, 1002, DAY | N | CB), R(2, 100, 1002)))
 
-b64 = [(buy(i, 10, 1000), R(i, 10, 1000)) for i in range(1, 65)]
-s64 = [(sell(i, 10, 1000), R(i, 10, 1000)) for i in range(1, 65)]
-day('64-buys-one-more-resting-buy-refused-11', '"64 buys rest: one more resting buy gets 11"',
-    '64 rested lines, then 11; the number is still free: a sell takes it and rests',
-    *b64,
-    (buy(65, 10, 1000), F(11)),
-    (sell(65, 10, 1001), R(65, 10, 1001)))
-day('64-buys-one-filled-whole-is-taken', '"64 buys rest: ... one filled whole is taken"',
-    '64 buys and a sell of 50 rest; a Day buy of 50 executes 50 against the sell at 1001, nothing more; then one more resting buy gets 11',
-    *b64,
-    (sell(65, 50, 1001), R(65, 50, 1001)),
-    (buy(66, 50, 1001), X(66, 65, 50, 1001)),
-    (buy(67, 10, 1000), F(11)))
+L = 256 # 01's 64 resting orders a side, which W5 raises
+full_buys = [(buy(i, 10, 1000), R(i, 10, 1000)) for i in range(1, L + 1)]
+full_sells = [(sell(i, 10, 1000), R(i, 10, 1000)) for i in range(1, L + 1)]
+day('256-buys-one-more-resting-buy-refused-11', '"64 buys rest: one more resting buy gets 11", with W5 256',
+    '256 rested lines, then 11; the number is still free: a sell takes it and rests',
+    *full_buys,
+    (buy(L + 1, 10, 1000), F(11)),
+    (sell(L + 1, 10, 1001), R(L + 1, 10, 1001)))
+day('256-buys-one-filled-whole-is-taken', '"64 buys rest: ... one filled whole is taken", with W5 256',
+    '256 buys and a sell of 50 rest; a Day buy of 50 executes 50 against the sell at 1001, nothing more; then one more resting buy gets 11',
+    *full_buys,
+    (sell(L + 1, 50, 1001), R(L + 1, 50, 1001)),
+    (buy(L + 2, 50, 1001), X(L + 2, L + 1, 50, 1001)),
+    (buy(L + 3, 10, 1000), F(11)))
 day('shares-0-and-1000001-refused-1-and-1000000-pass', '"Shares 0 and 1,000,001 get 9; 1 and 1,000,000 pass"',
     '9, 9, then 1 and 1,000,000 rest',
     (buy(1, 0, 1000), F(9)),
@@ -320,7 +324,7 @@ day('adjusted-order-ranks-at-its-adjusted-price', '"Rank within a side: better p
     (buy(3, 10, 1001), R(3, 10, 1001)),
     (buy(4, 10, 1010, DAY | N | PA), R(4, 10, 1002)),
     (sell(5, 30, 1001, IOC | D | PA), X(5, 4, 10, 1002), X(5, 2, 10, 1001), X(5, 3, 10, 1001)))
-day('one-buy-takes-64-sells', '"Up to 64 resting orders a side"; "walk the opposite side in rank order"',
+day('one-buy-takes-64-sells', '"walk the opposite side in rank order"',
     '64 sells rest at 1064 down to 1001; a buy of 641 executes 64 times, from 1001 (order 64) up to 1064 (order 1), and rests 1',
     *[(sell(i, 10, 1065 - i), R(i, 10, 1065 - i)) for i in range(1, 65)],
     (buy(65, 641, 1064), *[X(65, 65 - k, 10, 1000 + k) for k in range(1, 65)], R(65, 1, 1064)))
@@ -508,59 +512,73 @@ day('ioc-remainder-is-cancelled-whatever-its-words', '"A remainder of IOC is can
 
 # ------------------------------------------------------------------ full sides
 part('Full sides (refusal 11)')
-day('64-sells-one-more-resting-sell-refused-11', '"the rules would rest a remainder and that side holds 64", selling',
-    '64 rested lines, then 11; the number is still free: a buy takes it and rests',
-    *s64,
-    (sell(65, 10, 1000), F(11)),
-    (buy(65, 10, 999), R(65, 10, 999)))
-day('64-sells-one-filled-whole-is-taken', '"one filled whole is taken", selling',
-    '64 sells and a buy of 50 rest; a Day sell of 50 executes 50 against the buy at 999; one more resting sell gets 11',
-    *s64,
-    (buy(65, 50, 999), R(65, 50, 999)),
-    (sell(66, 50, 999), X(66, 65, 50, 999)),
-    (sell(67, 10, 1000), F(11)))
+day('256-sells-one-more-resting-sell-refused-11', '"the rules would rest a remainder and that side holds 64", with W5 256, selling',
+    '256 rested lines, then 11; the number is still free: a buy takes it and rests',
+    *full_sells,
+    (sell(L + 1, 10, 1000), F(11)),
+    (buy(L + 1, 10, 999), R(L + 1, 10, 999)))
+day('256-sells-one-filled-whole-is-taken', '"one filled whole is taken", selling',
+    '256 sells and a buy of 50 rest; a Day sell of 50 executes 50 against the buy at 999; one more resting sell gets 11',
+    *full_sells,
+    (buy(L + 1, 50, 999), R(L + 1, 50, 999)),
+    (sell(L + 2, 50, 999), X(L + 2, L + 1, 50, 999)),
+    (sell(L + 3, 10, 1000), F(11)))
 day('full-side-part-filled-order-refused-whole', '"the rules would rest a remainder"; "book and output bytes are untouched"',
-    '64 buys and a sell of 30 rest; a Day buy of 31 at 1001 gets 11 and executes nothing; IOC buy of 31 executes 30 and 1 is cancelled, reason 2',
-    *b64,
-    (sell(65, 30, 1001), R(65, 30, 1001)),
-    (buy(66, 31, 1001), F(11)),
-    (buy(66, 31, 1001, IOC | D | PA), X(66, 65, 30, 1001), K(66, 1, 2)))
+    '256 buys and a sell of 30 rest; a Day buy of 31 at 1001 gets 11 and executes nothing; IOC buy of 31 executes 30 and 1 is cancelled, reason 2',
+    *full_buys,
+    (sell(L + 1, 30, 1001), R(L + 1, 30, 1001)),
+    (buy(L + 2, 31, 1001), F(11)),
+    (buy(L + 2, 31, 1001, IOC | D | PA), X(L + 2, L + 1, 30, 1001), K(L + 2, 1, 2)))
 day('full-side-remainders-that-would-not-rest', '"Given exactly when ... the rules would rest a remainder"',
-    '64 buys rest: IOC reason 2, FOK 3, Post Only 6, Cancel Back 4, no price in range 5 are all taken; a buy that would rest gets 11',
-    *b64,
-    (sell(65, 50, 1001), R(65, 50, 1001)),
-    (buy(66, 20, 1000, IOC | D | PA), K(66, 20, 2)),
-    (buy(67, 51, 1001, fk), K(67, 51, 3)),
-    (buy(68, 5, 1001, po), K(68, 5, 6)),
-    (quote(69, 0, 1000),),
-    (buy(70, 5, 1000, DAY | D | CB), K(70, 5, 4)),
-    (quote(71, 0, 100),),
-    (buy(72, 5, 100), K(72, 5, 5)),
-    (quote(73, 0, 0),),
-    (buy(74, 5, 1000), F(11)),
-    (buy(74, 5, 999), F(11)),
-    (buy(74, 5, 1000, po), F(11)),
-    (buy(74, 5, 1000, DAY | N | CB), F(11)),
-    (buy(74, 5, 1000, STD | ISO), F(11)))
+    '256 buys rest: IOC reason 2, FOK 3, Post Only 6, Cancel Back 4, no price in range 5 are all taken; a buy that would rest gets 11',
+    *full_buys,
+    (sell(L + 1, 50, 1001), R(L + 1, 50, 1001)),
+    (buy(L + 2, 20, 1000, IOC | D | PA), K(L + 2, 20, 2)),
+    (buy(L + 3, 51, 1001, fk), K(L + 3, 51, 3)),
+    (buy(L + 4, 5, 1001, po), K(L + 4, 5, 6)),
+    (quote(L + 5, 0, 1000),),
+    (buy(L + 6, 5, 1000, DAY | D | CB), K(L + 6, 5, 4)),
+    (quote(L + 7, 0, 100),),
+    (buy(L + 8, 5, 100), K(L + 8, 5, 5)),
+    (quote(L + 9, 0, 0),),
+    (buy(L + 10, 5, 1000), F(11)),
+    (buy(L + 10, 5, 999), F(11)),
+    (buy(L + 10, 5, 1000, po), F(11)),
+    (buy(L + 10, 5, 1000, DAY | N | CB), F(11)),
+    (buy(L + 10, 5, 1000, STD | ISO), F(11)))
 day('full-side-freed-place-used-at-once', '"A freed place can be used at once"',
-    '64 buys rest; a sell executes order 1 away and a next buy rests; 11; cancel of 2 and a next buy rests; 11; a sell takes one buy whole and 9 of the 10 of another: one place is free, a buy rests, the next gets 11',
-    *b64,
-    (sell(65, 10, 1000), X(65, 1, 10, 1000)),
-    (buy(66, 5, 1000), R(66, 5, 1000)),
-    (buy(67, 5, 1000), F(11)),
-    (cancel(67, 2), K(2, 10, 1)),
-    (buy(68, 5, 1001), R(68, 5, 1001)),
-    (buy(69, 5, 1000), F(11)),
-    (sell(69, 14, 1000), X(69, 68, 5, 1001), X(69, 3, 9, 1000)),
-    (buy(70, 5, 1000), R(70, 5, 1000)),
-    (buy(71, 5, 1000), F(11)))
-day('full-sides-of-64-and-64-and-their-close', '"Up to 64 resting orders a side"; "Close cancels all buys in rank order, then all sells"',
-    '64 buys and 64 sells rest; one more of each gets 11; the close cancels 1 to 64, then 65 to 128, reason 7',
-    *b64,
-    *[(sell(64 + i, 10, 1001), R(64 + i, 10, 1001)) for i in range(1, 65)],
-    (buy(129, 10, 1000), F(11)),
-    (sell(129, 10, 1001), F(11)),
-    (close(129), *[K(i, 10, 7) for i in range(1, 129)]))
+    '256 buys rest; a sell executes order 1 away and a next buy rests; 11; cancel of 2 and a next buy rests; 11; a sell takes one buy whole and 9 of the 10 of another: one place is free, a buy rests, the next gets 11',
+    *full_buys,
+    (sell(L + 1, 10, 1000), X(L + 1, 1, 10, 1000)),
+    (buy(L + 2, 5, 1000), R(L + 2, 5, 1000)),
+    (buy(L + 3, 5, 1000), F(11)),
+    (cancel(L + 3, 2), K(2, 10, 1)),
+    (buy(L + 4, 5, 1001), R(L + 4, 5, 1001)),
+    (buy(L + 5, 5, 1000), F(11)),
+    (sell(L + 5, 14, 1000), X(L + 5, L + 4, 5, 1001), X(L + 5, 3, 9, 1000)),
+    (buy(L + 6, 5, 1000), R(L + 6, 5, 1000)),
+    (buy(L + 7, 5, 1000), F(11)))
+day('full-side-refused-order-leaves-a-reserve-as-it-was', '"A refusal hands back the same book" (11), with a reserve (02, W4)',
+    '256 buys and a sell of 200 that shows 100 rest; a buy of 201 at 1001 gets 11; a buy of 150 executes 100 and 50, and the 50 left are shown',
+    *full_buys,
+    (reserve(L + 1, S, 200, 1001, 100), R(L + 1, 200, 1001)),
+    (buy(L + 2, 201, 1001), F(11)),
+    (buy(L + 2, 150, 1001), X(L + 2, L + 1, 100, 1001), X(L + 2, L + 1, 50, 1001), M(L + 1, 50, 1001)))
+day('full-side-of-reserves-takes-one-more-after-a-fill', '"Such an order takes one place" (02, W4); "A freed place can be used at once"',
+    '256 sells of 2 that show 1 rest, the last at 1000; one more gets 11; a buy takes both parts of the last, and the next sell rests; one more gets 11',
+    *[(reserve(i, S, 2, 1001, 1), R(i, 2, 1001)) for i in range(1, L)],
+    (reserve(L, S, 2, 1000, 1), R(L, 2, 1000)),
+    (sell(L + 1, 10, 1001), F(11)),
+    (buy(L + 1, 2, 1000), X(L + 1, L, 1, 1000), X(L + 1, L, 1, 1000)),
+    (sell(L + 2, 10, 1001), R(L + 2, 10, 1001)),
+    (sell(L + 3, 10, 1001), F(11)))
+day('full-sides-of-256-and-256-and-their-close', '"Up to 64 resting orders a side", with W5 256; "Close cancels all buys in rank order, then all sells"',
+    '256 buys and 256 sells rest; one more of each gets 11; the close cancels 1 to 256, then 257 to 512, reason 7',
+    *full_buys,
+    *[(sell(L + i, 10, 1001), R(L + i, 10, 1001)) for i in range(1, L + 1)],
+    (buy(2 * L + 1, 10, 1000), F(11)),
+    (sell(2 * L + 1, 10, 1001), F(11)),
+    (close(2 * L + 1), *[K(i, 10, 7) for i in range(1, 2 * L + 1)]))
 
 # ------------------------------------------------------------------ cancel and close
 part('Cancel and close')
@@ -728,21 +746,21 @@ day('lowest-refusal-number-is-given', '"The lowest number that applies is given"
     (quote(2, 99, 99, t=0), F(5)),
     (quote(1, 99, 99, t=0), F(7)),
     (quote(1, 99, 99), F(9)),
-    *b64,
-    (order(65, B, 99, 0, 0, 0), F(7)),
-    (order(65, B, 99, 0, 0, T0), F(8)),
-    (order(65, B, 99, 10, STD, T0), F(9)),
-    (order(65, B, 1000, 0, STD, T0), F(9)),
-    (order(65, B, 1000, 10, STD, T0), F(11)),
-    (order(64, B, 1000, 10, STD, T0), F(4)),
-    (close(65), *[K(i, 10, 7) for i in range(1, 65)]),
-    (order(65, 2, 0, 0, 0, 0), F(4)),
-    (order(67, 2, 0, 0, 0, 0), F(5)),
-    (order(66, 2, 0, 0, 0, 0), F(6)),
-    (cancel(66, 1, t=0), F(6)),
-    (quote(66, 99, 99, t=0), F(6)),
-    (close(66, t=0), F(6)),
-    (close(66, t=57600001), F(6)))
+    *full_buys,
+    (order(L + 1, B, 99, 0, 0, 0), F(7)),
+    (order(L + 1, B, 99, 0, 0, T0), F(8)),
+    (order(L + 1, B, 99, 10, STD, T0), F(9)),
+    (order(L + 1, B, 1000, 0, STD, T0), F(9)),
+    (order(L + 1, B, 1000, 10, STD, T0), F(11)),
+    (order(L, B, 1000, 10, STD, T0), F(4)),
+    (close(L + 1), *[K(i, 10, 7) for i in range(1, L + 1)]),
+    (order(L + 1, 2, 0, 0, 0, 0), F(4)),
+    (order(L + 3, 2, 0, 0, 0, 0), F(5)),
+    (order(L + 2, 2, 0, 0, 0, 0), F(6)),
+    (cancel(L + 2, 1, t=0), F(6)),
+    (quote(L + 2, 99, 99, t=0), F(6)),
+    (close(L + 2, t=0), F(6)),
+    (close(L + 2, t=57600001), F(6)))
 
 # ------------------------------------------------------------------ refusal 8
 part('Refusal 8: unlawful words')
@@ -943,6 +961,6 @@ for d in DAYS:
     rows.append('| %s | %s | %s |' % (name, quoted, words))
     days += 1; lin += i.count(b'\n') + (not i.endswith(b'\n') and i != b''); lout += o.count(b'\n')
 head = ['# Days for the order book', '',
-        'Each day is NAME.in (the whole input of the program) and NAME.out (its whole output). They were derived by hand from paper 01; `write-days.py` only spells the lines. %d days, %d lines in, %d lines out. "3" in the last column stands for the line `1f03`, "11" for `1f0b`, and so on; prices are cents.' % (days, lin, lout)]
+        'Each day is NAME.in (the whole input of the program) and NAME.out (its whole output). They were derived by hand from paper 01, and two full sides with reserves from paper 02; `write-days.py` only spells the lines. %d days, %d lines in, %d lines out. "3" in the last column stands for the line `1f03`, "11" for `1f0b`, and so on; prices are cents.' % (days, lin, lout)]
 open(os.path.join(HERE, 'README.md'), 'w').write('\n'.join(head + rows) + '\n')
 print(days, 'days', lin, 'in', lout, 'out')

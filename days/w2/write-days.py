@@ -409,11 +409,11 @@ q 0/1000 -> 14 1 1000 10
 close -> 13 1 10 7
 q 0/900 -> 1f06
 ''', tally='1 0 10; 2 0 0')
-day('a-place-freed-by-a-quote-is-used-at-once', '"A freed place can be used at once"; refusal 11', '64 buys, the last of them hidden Cancel Back: one more gets 11; the quote cancels that one; the next buy rests, one more gets 11', '\n'.join(
-    [f'D buy 10@900 -> 12 {n} 900 10' for n in range(1, 64)] + ['Nc buy 10@1005 -> 12 64 1005 10', 'D buy 10@900 -> 1f0b', 'q 0/1000 -> 13 64 10 4', 'D buy 10@900 -> 12 66 900 10', 'D buy 10@900 -> 1f0b']))
-day('a-moved-order-keeps-its-place', 'refusal 11: "that side holds 64"', '64 buys, the last of them hidden: the quote moves it; one more buy gets 11 still; a sell side has room', '\n'.join(
-    [f'D buy 10@900 -> 12 {n} 900 10' for n in range(1, 64)] + ['N buy 10@1005 -> 12 64 1005 10', 'q 0/1000 -> 14 64 1000 10', 'D buy 10@900 -> 1f0b', 'D sell 10@1001 -> 12 66 1001 10']))
-day('one-quote-moves-128-orders', '"Up to 64 resting orders a side": the longest output of a quote, 3,456 bytes', 'hidden buys 1 to 64 at 1001 up to 1064, hidden sells 65 to 128 at 1199 down to 1136: away 2000 by 500 gives `14` for 64 down to 1 at 500, then for 128 down to 65 at 2000; they close in that order', '\n'.join(
+day('a-place-freed-by-a-quote-is-used-at-once', '"A freed place can be used at once"; refusal 11', '256 buys, the last of them hidden Cancel Back: one more gets 11; the quote cancels that one; the next buy rests, one more gets 11', '\n'.join(
+    [f'D buy 10@900 -> 12 {n} 900 10' for n in range(1, 256)] + ['Nc buy 10@1005 -> 12 256 1005 10', 'D buy 10@900 -> 1f0b', 'q 0/1000 -> 13 256 10 4', 'D buy 10@900 -> 12 258 900 10', 'D buy 10@900 -> 1f0b']))
+day('a-moved-order-keeps-its-place', 'refusal 11: "that side holds 64", with W5 256', '256 buys, the last of them hidden: the quote moves it; one more buy gets 11 still; a sell side has room', '\n'.join(
+    [f'D buy 10@900 -> 12 {n} 900 10' for n in range(1, 256)] + ['N buy 10@1005 -> 12 256 1005 10', 'q 0/1000 -> 14 256 1000 10', 'D buy 10@900 -> 1f0b', 'D sell 10@1001 -> 12 258 1001 10']))
+day('one-quote-moves-128-orders', '"buys first, in former rank order": many of both sides', 'hidden buys 1 to 64 at 1001 up to 1064, hidden sells 65 to 128 at 1199 down to 1136: away 2000 by 500 gives `14` for 64 down to 1 at 500, then for 128 down to 65 at 2000; they close in that order', '\n'.join(
     [f'N buy {n}@{1000 + n} -> 12 {n} {1000 + n} {n}' for n in range(1, 65)] + [f'N sell {n}@{1264 - n} -> 12 {n} {1264 - n} {n}' for n in range(65, 129)]
     + ['q 2000/500 -> ' + '; '.join([f'14 {n} 500 {n}' for n in range(64, 0, -1)] + [f'14 {n} 2000 {n}' for n in range(128, 64, -1)])]
     + ['close -> ' + '; '.join([f'13 {n} {n} 7' for n in range(64, 0, -1)] + [f'13 {n} {n} 7' for n in range(128, 64, -1)])]), tally='1 0 1; 2 0 2; 64 0 64; 65 0 65; 128 0 128; 129 0 0')
@@ -421,7 +421,7 @@ day('one-quote-cancels-128-orders', '"One with Cancel Back is cancelled, reason 
     [f'Nc buy {n}@{1065 - n} -> 12 {n} {1065 - n} {n}' for n in range(1, 65)] + [f'Nc sell {n}@{1071 + n} -> 12 {n} {1071 + n} {n}' for n in range(65, 129)]
     + ['q 2000/500 -> ' + '; '.join([f'13 {n} {n} 4' for n in range(1, 129)])]
     + ['q 0/0', 'M buy 10@0 -> 13 131 10 2', 'M sell 10@0 -> 13 132 10 2', 'D buy 10@1000 -> 12 133 1000 10', 'D sell 10@1001 -> 12 134 1001 10']))
-day('a-moved-line-is-no-command', 'kinds of commands are 01 to 04; `14` is an event', 'an event line 14 as input gets 3, so does 14 with the body of an order or of a quote; then order 1 rests', '''
+day('a-moved-line-is-no-command', '14 is no kind of command; `14` is an event', 'an event line 14 as input gets 3, so does 14 with the body of an order or of a quote; then order 1 rests', '''
 raw 1400000001000003e80000000a -> 1f03
 raw 14000000010209d9c000002c000003e80000000a -> 1f03
 raw 14000000010209d9c000000000000003e8 -> 1f03
@@ -431,7 +431,7 @@ N buy 10@1000 -> 12 1 1000 10
 days, given, wanted = len(TABLE), sum(row[4] for row in TABLE), sum(row[5] for row in TABLE)
 text = f'''# Days at the rules with W2
 
-`nasty-*` and `plain-*` are outside vectors, copied byte for byte; the other days were derived by hand from papers 01 and 02 and our readings of them, and `write-days.py` only spells their lines, as in `days/examples`: {days} days, {given} lines in, {wanted} lines out. "3" in the last column stands for the line `1f03`, "11" for `1f0b`, and so on; prices are cents.
+`plain-*` are outside vectors, copied byte for byte (four more, `nasty-7201` to `nasty-7204`, are gone: the last went with W4, since one of its lines is now a well-formed command of kind 05 and its given output calls it refusal 3, the others with W5, since their given outputs have refusal 11 at 64 orders a side); the other days were derived by hand from papers 01 and 02 and our readings of them, and `write-days.py` only spells their lines, as in `days/examples`: {days} days, {given} lines in, {wanted} lines out. "3" in the last column stands for the line `1f03`, "11" for `1f0b`, and so on; prices are cents.
 
 NAME.tally has shares executed and shares cancelled of some orders, as summed by hand from NAME.out: a line `14` counts for neither.
 '''

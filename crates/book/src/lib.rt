@@ -147,14 +147,15 @@ impl Book {
 
     // ── What was read of a line ──
 
-    // Refusals 1 and 2, or 0: they are tried before the line is read.
-    fn unfit(self, room: usize) -> u8
+    // Refusals 1 and 2, or 0: they are tried before the line is read. The two sides are loaded.
+    fn unfit(self, buys: &Rows, sells: &Rows, room: usize) -> u8
+        requires { ⌜ (now buys ≡ map rowOf (self .buys .places)) × (now sells ≡ map rowOf (self .sells .places)) ⌝ }
         ensures { λ r. ⌜ r ≡ firstOf (fitRefusals room (recordSound (recordIn self))) ⌝ }
     {
         if room < rules::LEAST_ROOM {
             return 1;
         }
-        if !self.is_sound() {
+        if !inspection::is_sound(self.head(), buys, sells) {
             return 2;
         }
         0
@@ -171,36 +172,25 @@ impl Book {
         }
     }
 
-    // A command to a sound book, with room for its lines.
-    fn work(self, c: Command, out: &mut [u8]) -> Reply
+    // A command to a sound book, with room for its lines. It is worked on the two sides that the book is loaded into.
+    fn work(self, c: Command, buys: &mut Rows, sells: &mut Rows, out: &mut [u8]) -> Reply
         requires { ⌜ (recordSound (recordIn self) ≡ true) × (leastRoom ≤ length (now out)) ⌝ }
+        requires { ⌜ (now buys ≡ map rowOf (self .buys .places)) × (now sells ≡ map rowOf (self .sells .places)) ⌝ }
         ensures { λ r. ⌜ r ≡ replyOf (stepOn (recordIn self) (reading.Is c) (now (out .entry))) ⌝ }
         ensures { λ _. ⌜ now (out .exit) ≡ stepOn (recordIn self) (reading.Is c) (now (out .entry)) .out ⌝ }
     {
-        let mut buys: Rows = [[0; rows::WORDS]; PLACES];
-        let mut sells: Rows = [[0; rows::WORDS]; PLACES];
         let mut x: Index = [0; rows::INDEX];
         let mut y: Index = [0; rows::INDEX];
         let mut took: Takings = [[0; 3]; walk::TAKINGS];
-        self.load(&mut buys, &mut sells);
         let head = self.head();
         tables::number(&mut x, head.buys);
         tables::number(&mut y, head.sells);
-        let step = commands::apply(
-            head,
-            c,
-            &mut x,
-            &mut buys,
-            &mut y,
-            &mut sells,
-            &mut took,
-            out,
-        );
+        let step = commands::apply(head, c, &mut x, buys, &mut y, sells, &mut took, out);
         if step.refusal != 0 {
             return self.refuse(step.refusal);
         }
         let h = step.head;
-        let book = Book::save(h, &x, &buys, &y, &sells);
+        let book = Book::save(h, &x, buys, &y, sells);
         Reply {
             refusal: 0,
             length: step.length,
@@ -213,14 +203,17 @@ impl Book {
         ensures { λ r. ⌜ r ≡ replyOf (stepOn (recordIn self) reading (now (out .entry))) ⌝ }
         ensures { λ _. ⌜ now (out .exit) ≡ stepOn (recordIn self) reading (now (out .entry)) .out ⌝ }
     {
-        let refusal = self.unfit(out.len());
+        let mut buys: Rows = [[0; rows::WORDS]; PLACES];
+        let mut sells: Rows = [[0; rows::WORDS]; PLACES];
+        self.load(&mut buys, &mut sells);
+        let refusal = self.unfit(&buys, &sells, out.len());
         if refusal != 0 {
             return self.refuse(refusal);
         }
         let Reading::Is(c) = reading else {
             return self.refuse(3);
         };
-        self.work(c, out)
+        self.work(c, &mut buys, &mut sells, out)
     }
 
     pub fn accept(self, number: Number, time: u32, order: Order, out: &mut [u8]) -> Reply

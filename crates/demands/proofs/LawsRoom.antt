@@ -215,14 +215,14 @@ printed-long b line s =
 
 -- ── The room ──
 
--- with reserves the 4,096 bytes of 01 would not do
-pub worst-needs : 4096 < worstLines
+-- with 256 orders a side the 8,192 bytes of W4 would not do
+pub worst-needs : 8192 < worstLines
 worst-needs = omega arith
 
 pub worst-fits : worstLines ≤ leastRoom
 worst-fits = omega arith
 
-pub worst-is : worstLines ≡ 4507
+pub worst-is : worstLines ≡ 17947
 worst-is = refl
 
 -- ── What was not refused with 1 or 2 ──

@@ -69,14 +69,14 @@ pub data AppliesTo (r : BookRecord) (c : Command) : ℕ → Type 0 where
   -- 10 "cancel of a number that isn't resting"
   notResting : (n : Number) → c .body ≡ body.Cancel n → All (λ (h : Resting). h .number ≢ n) (bookIn r .buys ++ bookIn r .sells)
       → AppliesTo r c 10
-  -- 11 "the rules would rest a remainder and that side holds 64"
+  -- 11 "the rules would rest a remainder and that side holds 64", which W5 makes 256
   sideFull : (o : Order) → c .body ≡ body.Order o → (price : Cents) → ending o (r .held .away) (opposite o (bookIn r)) ≡ Rests price
-      → 64 ≤ length (own o (bookIn r)) → AppliesTo r c 11
+      → 256 ≤ length (own o (bookIn r)) → AppliesTo r c 11
 
 -- the whole table
 pub data Applies (r : BookRecord) (line out : List ℕ) : ℕ → Type 0 where
-  -- 1 "output room below 4,096 bytes", which W4 makes 8,192
-  roomShort : length out < 8192 → Applies r line out 1
+  -- 1 "output room below 4,096 bytes", which W4 makes 8,192 and W5 32,768
+  roomShort : length out < 32768 → Applies r line out 1
   -- 2 "the book lent is not sound"
   notSound : recordSound r ≡ false → Applies r line out 2
   -- 3 "the line is not one of the .. forms": it is the line of no command

@@ -65,12 +65,12 @@ pub data Stood (n : Number) (es : List Event) (before : List Resting) (h′ : Re
 pub record Refills (buy : Bool) (n : Number) (before after : List Resting) (es : List Event) : Type 0 where
   -- who gave all is gone
   pub goes : (h : Resting) → OneOf h before → gave es h ≡ sharesLeft h → All (λ (x : Resting). x .number ≢ h .number) after
-  -- "an order whose shown part was not used up keeps its stamp"
+  -- an order whose shown part was not used up keeps its stamp
   pub keeps : (h : Resting) → OneOf h before → gave es h < h .shares .0 → Stands (Keeps es h) after
   -- who is due is refilled, nobody else ..
   pub refills : (h : Resting) → OneOf h before → Due es h → Stands (IsRefilled n es h) after
   pub noneElse : (h′ : Resting) → OneOf h′ after → Stood n es before h′
-  -- .. "behind all displayed at its price"
+  -- .. behind all displayed at its price that were not refilled
   pub behind : (h g h′ g′ : Resting) → OneOf h before → gave es h < h .shares .0 → h .displayed ≡ true → OneOf g before → Due es g
       → h .price ≡ g .price → Keeps es h h′ → OneOf h′ after → IsRefilled n es g g′ → OneOf g′ after → ranksBefore buy h′ g′ ≡ true
   -- .. and "in former rank order"

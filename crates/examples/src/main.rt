@@ -175,6 +175,9 @@ fn run_days(days: &[u8], out: &mut [u8])
     }
 }
 
+// Room for the lines of one command and for a few bytes more, so that turns end within a piece too.
+const OUTPUT: usize = rules::LEAST_ROOM + 104;
+
 // The room of the input. It is made apart from `main`: a proof that sees so many zeros counts them one by one, and its checker runs
 // out of stack.
 fn input_room() -> [u8; 1048576]
@@ -185,7 +188,7 @@ fn input_room() -> [u8; 1048576]
 
 fn main() {
     let mut input = input_room();
-    let mut out = [0u8; 8296];
+    let mut out = [0u8; OUTPUT];
     let end = io::read_full(STDIN_FILENO, &mut input);
     run_days(&input[..end], &mut out);
 }

@@ -132,7 +132,7 @@ length-used : (n : ℕ) (t : List (List ℕ)) → length t ≡ placesASide → n
 length-used n t whole fit = let e = length-map t orderOf in length-take-le n (map orderOf t) (omega arith)
 
 module _ (h : Head) (t u : List (List ℕ)) where
-  -- a count is above 64
+  -- a count is above the limit
   pub over-full : (ltb placesASide (h .buys) || ltb placesASide (h .sells)) ≡ true → recordSound (recordOn h t u) ≡ false
   unfolding recordSound
   over-full over =
@@ -144,7 +144,7 @@ module _ (h : Head) (t u : List (List ℕ)) where
       (holds-or-not (ltb placesASide (h .buys)))
 
   module _ (wholeBuys : length t ≡ placesASide) (wholeSells : length u ≡ placesASide) (fit : (ltb placesASide (h .buys) || ltb placesASide (h .sells)) ≡ false) where
-    -- what is left once the counts are at most 64
+    -- what is left once the counts are at most the limit
     pub inspected : recordSound (recordOn h t u)
         ≡ (sideSound true (h .held .last) (numbers (loaded (h .sells) u)) (h .buys) (map orderOf t)
         && sideSound false (h .held .last) [] (h .sells) (map orderOf u)

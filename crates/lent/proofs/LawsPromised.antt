@@ -22,7 +22,7 @@ unfolding step stepOn answer onto eventLines
 refused-out r line out n = rw (ne-eqb (step r line out .refusal) 0 n) refl
 
 module _ (buys : Bool) (r : BookRecord) (table : List Resting) (line out : List ℕ) where
-  -- "The table (64 records, else refusal 2) .. The book lent with it has all places of that side zero, else refusal 2"
+  -- "The table (64 records, else refusal 2) .. The book lent with it has all places of that side zero, else refusal 2" (256 records with W5)
   pub unfit-refused : fits buys r table ≡ false → leastRoom ≤ length out → lentStep buys r table line out .refusal ≡ 2
   unfolding lentStep firstOf
   unfit-refused f room = rw (f, le-ltb (length out) leastRoom room) refl

@@ -1,6 +1,6 @@
 -- One side as a lent table of resting-order records (01, The book): "The table (64 records, else refusal 2) stands for that side and is
 -- left as the core would leave it; a refusal leaves it untouched. The book lent with it has all places of that side zero, else
--- refusal 2, and comes back so."
+-- refusal 2, and comes back so." With W5 it has 256 records.
 use Prim.Native.Nat.{ℕ}
 use mathlib.Core.Bool.{Bool, false, _&&_}
 use mathlib.Core.List.{List}
@@ -14,7 +14,7 @@ use Rattle.rules.specs.Book.{Places, BookRecord, placesASide, unused, isUnused}
 use Rattle.rules.specs.Refusals.{firstOf, fitRefusals}
 use Rattle.rules.specs.Step.{Returned, step}
 use Rattle.book.specs.declared.Reply.{Reply}
-use Rattle.book.specs.Record.{bookWith}
+use Rattle.book.specs.Record.{recordIn, bookWith}
 use Rattle.lent.specs.declared.GivenBack.{GivenBack}
 
 -- the table has no count, and 01 does not say which of its records are used: its leading ones that are not all zero
@@ -28,6 +28,10 @@ noPlaces = record { used = 0; places = replicate placesASide unused }
 -- .. and of no count either: a record that tells of orders where all places are zero is none that 01 would lend
 unfoldable pub isEmpty : Places → Bool
 isEmpty p = eqb (p .used) 0 && eqb (length (p .places)) placesASide && every isUnused (p .places)
+
+-- a side's count is that of its leading records
+abbrev pub isCounted : Places → Bool
+isCounted p = eqb (p .used) (firstWhere isUnused (p .places))
 
 -- the side that the caller names
 abbrev pub sideOf : Bool → BookRecord → Places
@@ -81,6 +85,20 @@ replyLent l = record { refusal = l .refusal; length = l .length; book = bookWith
 
 abbrev pub workedOf : Lent → GivenBack
 workedOf l = record { reply = replyLent l; places = l .table }
+
+-- a reply of the whole book, and what is handed back of it, each as the code makes it of the other
+abbrev pub apartOf : Bool → Reply → GivenBack
+apartOf buys r = record {
+  reply = record { refusal = r .refusal; length = r .length; book = bookWith (withPlaces buys noPlaces (recordIn (r .book))) };
+  places = sideOf buys (recordIn (r .book)) .places;
+}
+
+abbrev pub togetherOf : Bool → GivenBack → Reply
+togetherOf buys w = record {
+  refusal = w .reply .refusal;
+  length = w .reply .length;
+  book = bookWith (withPlaces buys (placesLent (w .places)) (recordIn (w .reply .book)));
+}
 
 -- the contract of the entry: the reply, the table and the output that a call leaves
 abbrev pub Answered : Bool → BookRecord → List Resting → List ℕ → List ℕ → Reply → List Resting → List ℕ → Type 0

@@ -10,7 +10,7 @@ use side::rows;
 use side::rows::PLACES;
 use side::rows::Rows;
 use side::tables;
-ghost use mathlib.Core.Bool.{false};
+ghost use mathlib.Core.Bool.{true, false};
 ghost use mathlib.Core.Path.{_≡_};
 ghost use Prim.Native.Nat.{_<_};
 ghost use lib.ListN.{length, getD, set, replicate};
@@ -19,7 +19,8 @@ ghost use Rattle.book.specs.Record.{recordIn, bookWith, placesOn, sideWith, rep
 ghost use Rattle.rules.specs.Book.{placesASide, unused, isUnused};
 ghost use Rattle.rules.specs.Refusals.{firstOf, fitRefusals};
 ghost use Rattle.rules.specs.Step.{step};
-ghost use Rattle.lent.specs.Lent.{isEmpty, sideOf, withPlaces, lentStep, workedOf, Answered};
+ghost use Rattle.lent.specs.Lent.{placesLent, noPlaces, isEmpty, isCounted, sideOf, withPlaces, lentStep, workedOf, apartOf};
+ghost use Rattle.lent.specs.Lent.{togetherOf, Answered};
 
 // What comes back: the reply, and the records of the table.
 struct GivenBack {
@@ -62,7 +63,7 @@ fn with(a: [Resting; PLACES], i: usize, o: Resting) -> [Resting; PLACES]
     b
 }
 
-// All records of a slice of 64, by value.
+// All records of a slice that has one for each place, by value.
 fn take(s: &[Resting]) -> [Resting; PLACES]
     requires { ⌜ length (now s) ≡ placesASide ⌝ }
     ensures { λ r. ⌜ r ≡ now (s .entry) ⌝ }
@@ -76,7 +77,7 @@ fn take(s: &[Resting]) -> [Resting; PLACES]
     a
 }
 
-// All records of a slice of 64 written over.
+// All records of such a slice written over.
 fn give(s: &mut [Resting], a: [Resting; PLACES])
     requires { ⌜ length (now s) ≡ placesASide ⌝ }
     ensures { λ _. ⌜ now (s .exit) ≡ a ⌝ }
@@ -106,17 +107,6 @@ fn used_in(places: [Resting; PLACES]) -> usize
     i
 }
 
-// Of a side without orders sound says that each place is unused, whatever the side, the last number and the other side are.
-fn is_empty(s: Side) -> bool
-    ensures { λ r. ⌜ r ≡ isEmpty (placesOn s) ⌝ }
-{
-    let places = s.places;
-    let mut t: Rows = [[0; rows::WORDS]; PLACES];
-    tables::load(&mut t, places);
-    rows::whole(&t);
-    (s.used == 0) & inspection::side_sound(&t, 0, true, Number(0), &t, 0)
-}
-
 fn side_of(book: Book, buys: bool) -> Side
     ensures { λ r. ⌜ r ≡ sideWith (sideOf buys (recordIn book)) ⌝ }
 {
@@ -133,6 +123,54 @@ fn with_side(book: Book, buys: bool, side: Side) -> Book
         sells: side,
         ..book
     }
+}
+
+// ── The steps ──
+// Each is a function of its own for the stack's sake: its copies of the book, of 16 KB each, are gone while the whole book answers.
+
+// Of a side without orders sound says that each place is unused, whatever the side, the last number and the other side are.
+fn is_empty(book: Book, buys: bool) -> bool
+    ensures { λ r. ⌜ r ≡ isEmpty (sideOf buys (recordIn book)) ⌝ }
+{
+    let s = side_of(book, buys);
+    let places = s.places;
+    let mut t: Rows = [[0; rows::WORDS]; PLACES];
+    tables::load(&mut t, places);
+    rows::whole(&t);
+    (s.used == 0) & inspection::side_sound(&t, 0, true, Number(0), &t, 0)
+}
+
+// Whether the side's count is that of its leading records.
+fn is_counted(book: Book, buys: bool) -> bool
+    ensures { λ r. ⌜ r ≡ isCounted (sideOf buys (recordIn book)) ⌝ }
+{
+    let side = side_of(book, buys);
+    let places = side.places;
+    side.used == used_in(places)
+}
+
+fn places_in(book: Book, buys: bool) -> [Resting; PLACES]
+    ensures { λ r. ⌜ r ≡ sideOf buys (recordIn book) .places ⌝ }
+{
+    let side = side_of(book, buys);
+    side.places
+}
+
+fn take_out(book: Book, buys: bool) -> Book
+    ensures { λ r. ⌜ r ≡ bookWith (withPlaces buys noPlaces (recordIn book)) ⌝ }
+{
+    with_side(book, buys, NO_ORDERS)
+}
+
+fn put_in(book: Book, buys: bool, places: [Resting; PLACES]) -> Book
+    ensures { λ r. ⌜ r ≡ bookWith (withPlaces buys (placesLent places) (recordIn book)) ⌝ }
+    ensures { λ _. ⌜ length places ≡ placesASide ⌝ }
+{
+    let side = Side {
+        used: used_in(places),
+        places: places,
+    };
+    with_side(book, buys, side)
 }
 
 // Refusal 1, or else 2: the table does not fit, that side of the book is not empty, or its count is not that of its records.
@@ -156,37 +194,48 @@ fn worked_of(reply: Reply, places: [Resting; PLACES]) -> GivenBack
     }
 }
 
-// A line to a book of which one side is given as the records of a table.
+// The book with the records put in answers.
+fn answer_whole(
+    book: Book,
+    buys: bool,
+    places: [Resting; PLACES],
+    line: &[u8],
+    out: &mut [u8],
+) -> Reply
+    ensures { λ r. ⌜ r ≡ replyOf (step (withPlaces buys (placesLent places) (recordIn book)) (now (line .entry)) (now (out .entry))) ⌝ }
+    ensures { λ _. ⌜ now (out .exit)
+        ≡ step (withPlaces buys (placesLent places) (recordIn book)) (now (line .entry)) (now (out .entry)) .out ⌝ }
+    ensures { λ _. ⌜ length places ≡ placesASide ⌝ }
+{
+    let whole = put_in(book, buys, places);
+    whole.answer(line, out)
+}
+
+// What it answered, taken apart again.
+fn take_apart(reply: Reply, buys: bool) -> GivenBack
+    ensures { λ r. ⌜ r ≡ apartOf buys reply ⌝ }
+{
+    let after = reply.book;
+    let left = places_in(after, buys);
+    let apart = take_out(after, buys);
+    let answered = Reply {
+        book: apart,
+        ..reply
+    };
+    worked_of(answered, left)
+}
+
+// A line to a book of which one side is given as the records of a table. A refusal hands back the whole book, so what is taken apart is
+// then the book and the table as they came.
 fn work(book: Book, buys: bool, places: [Resting; PLACES], line: &[u8], out: &mut [u8]) -> GivenBack
     ensures { λ r. ⌜ (r ≡ workedOf (lentStep buys (recordIn book) places (now (line .entry)) (now (out .entry))))
         × (now (out .exit) ≡ lentStep buys (recordIn book) places (now (line .entry)) (now (out .entry)) .out) ⌝ }
 {
-    let side = side_of(book, buys);
-    if !is_empty(side) {
+    if !is_empty(book, buys) {
         return worked_of(refuse(book, out.len()), places);
     }
-    let lent = Side {
-        used: used_in(places),
-        places: places,
-    };
-    let whole = with_side(book, buys, lent);
-    let reply = whole.answer(line, out);
-    if reply.refusal != 0 {
-        let refused = Reply {
-            book: book,
-            ..reply
-        };
-        return worked_of(refused, places);
-    }
-    let after = reply.book;
-    let left = side_of(after, buys);
-    let rest = left.places;
-    let apart = with_side(after, buys, NO_ORDERS);
-    let accepted = Reply {
-        book: apart,
-        ..reply
-    };
-    worked_of(accepted, rest)
+    let reply = answer_whole(book, buys, places, line, out);
+    take_apart(reply, buys)
 }
 
 fn reply_of(worked: GivenBack) -> Reply
@@ -233,35 +282,40 @@ fn answer_over(
     worked_of(reply, table)
 }
 
+// What came of the lent side, put together again; of a refusal that is the book as it came.
+fn put_together(worked: GivenBack, buys: bool) -> Reply
+    ensures { λ r. ⌜ r ≡ togetherOf buys worked ⌝ }
+{
+    let reply = worked.reply;
+    let rest = reply.book;
+    let left = worked.places;
+    let whole = put_in(rest, buys, left);
+    Reply {
+        book: whole,
+        ..reply
+    }
+}
+
+// A line to a book whose side is taken out and lent, and put in again.
+fn lend(book: Book, buys: bool, line: &[u8], out: &mut [u8]) -> Reply
+    requires { ⌜ isCounted (sideOf buys (recordIn book)) ≡ true ⌝ }
+    ensures { λ r. ⌜ r ≡ replyOf (step (recordIn book) (now (line .entry)) (now (out .entry))) ⌝ }
+    ensures { λ _. ⌜ now (out .exit) ≡ step (recordIn book) (now (line .entry)) (now (out .entry)) .out ⌝ }
+{
+    let places = places_in(book, buys);
+    let apart = take_out(book, buys);
+    let worked = answer_over(apart, buys, places, line, out);
+    put_together(worked, buys)
+}
+
 // A line to a whole book by way of the table: one side is taken out and lent, and put in again. It answers as the book itself does; a
 // side whose count is not that of its leading records is not sound.
 pub fn answer_lending(book: Book, buys: bool, line: &[u8], out: &mut [u8]) -> Reply
     ensures { λ r. ⌜ r ≡ replyOf (step (recordIn book) (now (line .entry)) (now (out .entry))) ⌝ }
     ensures { λ _. ⌜ now (out .exit) ≡ step (recordIn book) (now (line .entry)) (now (out .entry)) .out ⌝ }
 {
-    let side = side_of(book, buys);
-    let places = side.places;
-    if side.used != used_in(places) {
+    if !is_counted(book, buys) {
         return refuse(book, out.len());
     }
-    let apart = with_side(book, buys, NO_ORDERS);
-    let worked = answer_over(apart, buys, places, line, out);
-    let reply = worked.reply;
-    if reply.refusal != 0 {
-        return Reply {
-            book: book,
-            ..reply
-        };
-    }
-    let left = worked.places;
-    let rest = reply.book;
-    let again = Side {
-        used: used_in(left),
-        places: left,
-    };
-    let whole = with_side(rest, buys, again);
-    Reply {
-        book: whole,
-        ..reply
-    }
+    lend(book, buys, line, out)
 }

@@ -22,7 +22,7 @@ lessened i ks (h ∷ s) = lessBy (takenAt i ks) h ∷ lessened (i + 1) ks s
 abbrev pub keeps : Resting → Bool
 keeps h = not (eqb (h .shares .0) 0 && eqb (h .reserve .0) 0)
 
--- "whoever keeps none leaves the book"
+-- whoever keeps none leaves the book
 unfoldable pub keepers : List Resting → List Resting
 keepers [] = []
 keepers (h ∷ s) = if keeps h then h ∷ keepers s else keepers s

@@ -35,7 +35,7 @@ pub record Match : Type 0 where
   pub own : List Resting
   pub opposite : List Resting
 
--- "the rules would rest a remainder and that side holds 64"
+-- "the rules would rest a remainder and that side holds 64", with W5 256
 abbrev pub isFull : Ending → List Resting → Bool
 isFull end own = isRest end && leb placesASide (length own)
 

@@ -20,6 +20,12 @@ ghost use Rattle.command_lines.specs.Pieces.{partKept};
 ghost use Rattle.command_lines.specs.declared.lines.Read.the-variants.{Upto};
 ghost use Rattle.rules.specs.Refusals.{leastRoom};
 
+// The input is read in pieces of at most so many bytes.
+const PIECE: usize = 65536;
+
+// Room for as many bytes of event lines, and for those of one command more.
+const OUTPUT: usize = PIECE + rules::LEAST_ROOM;
+
 // Reads behind the bytes that wait, if a turn asks for it.
 fn read_on(input: &mut [u8], have: usize, reads: bool) -> Read
     requires { ⌜ have ≤ length (now input) ⌝ }
@@ -93,8 +99,8 @@ fn run(
 }
 
 fn main() {
-    let mut input = [0u8; 65536];
-    let mut out = [0u8; 73728];
+    let mut input = [0u8; PIECE];
+    let mut out = [0u8; OUTPUT];
     let mut x: Index = [0; rows::INDEX];
     let mut buys: Rows = [[0; rows::WORDS]; rows::PLACES];
     let mut y: Index = [0; rows::INDEX];

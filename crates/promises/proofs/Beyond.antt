@@ -78,7 +78,7 @@ rests-within-its-limit = limits.rests-within-limit
 
 -- ── One side lent as a table (01, The book) ──
 
--- "The table (64 records, else refusal 2)"; "The book lent with it has all places of that side zero, else refusal 2"
+-- "The table (64 records, else refusal 2)", with W5 256; "The book lent with it has all places of that side zero, else refusal 2"
 pub a-table-that-does-not-fit : (buys : Bool) (r : BookRecord) (table : List Resting) (line out : List ℕ) → fits buys r table ≡ false
     → leastRoom ≤ length out → lentStep buys r table line out .refusal ≡ 2
 a-table-that-does-not-fit = lent.unfit-refused

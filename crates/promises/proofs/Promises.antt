@@ -6,7 +6,7 @@ use Prim.Native.Nat.{ℕ, _+_, _≤_, _<_}
 use mathlib.Core.Bool.{Bool, true, false, not}
 use mathlib.Core.List.{List, [], _∷_, _++_, map}
 use mathlib.Core.Logic.{_⊎_, _≢_}
-use mathlib.Core.Path.{_≡_}
+use mathlib.Core.Path.{_≡_, refl}
 use lib.ListN.{length, take}
 use Rattle.basics.specs.Bytes.{onto}
 use Rattle.basics.specs.Lists.{distinct, All, OneOf}
@@ -219,8 +219,8 @@ pub only-a-close-closes : (b : Book) (line : List ℕ) (c : Command) → acts b 
     → answerTo b line .book .held .closed ≡ false
 only-a-close-closes = written.open-unless-closed
 
--- P1 to P12, "a single table with a single proved claim", the sources' examples of a moved quote (02, W2), and a table of a reserve's, the
--- sources' own first (02, W4)
+-- P1 to P12, "a single table with a single proved claim", a table of a moved quote (02, W2) and one of a reserve (02, W4), the
+-- sources' own examples among them
 pub examples-from-the-desk : DeskExamples
 examples-from-the-desk = desk-examples
 
@@ -377,9 +377,9 @@ no-hidden-order-crosses = quoted.no-hidden-order-crosses
 
 -- "Refill is due when the shown part is used up and reserve is left; it happens after the incoming order's last line, in former rank order,
 -- with a new stamp and a `14` line": what an accepted order on a sound book leaves of the side that it meets. Who gave all is gone; whose
--- shown part was not used up keeps its stamp and its reserve; whoever is due, and nobody else, shows "the Max Floor .., or .. what is left if
--- that is less", behind all displayed orders at its price; and no refill changes what an order holds in all. (Its lines stand in
--- `an-order-writes`.)
+-- shown part was not used up keeps its stamp and its reserve; whoever is due, and nobody else, is refilled to "the Max Floor .., or .. what is
+-- left if that is less", behind all displayed orders at its price that were not refilled; and no refill changes what an order holds in all.
+-- (Its lines stand in `an-order-writes`.)
 pub an-order-refills : (b : Book) (line : List ℕ) (c : Command) (o : Order) → sound b ≡ true → acts b line ≡ true → commandIn line ≡ reading.Is c
     → c .body ≡ body.Order o
     → Refills (not (buying o)) (c .number) (opposite o b) (opposite o (answerTo b line .book)) (eventsIn (printed (answerTo b line)))
@@ -393,8 +393,14 @@ pub the-holdings-stand-in-rank : (buy : Bool) (s : List Resting) → inRankOrder
     → (ordersOf false (holdings s) ≡ s) × (ordersOf true (holdings s) ≡ s) × InWalkOrder buy (holdings s)
 the-holdings-stand-in-rank buy s ranked = (holdings-shown s, holdings-reserves s, holdings-walk buy s ranked)
 
--- "Output room becomes 8,192 bytes": what is printed of any line to a sound book, the event lines of a command or a refusal's, has at most
--- `worstLines` bytes, 70 for each place of a side and 27
+-- ── W5: bigger sides ──
+
+-- "Raise 64 resting orders a side to 256, output room to 32,768 bytes.": rows 11 and 1 of `refused-exactly-when` say so in these numbers
+pub the-limits : (placesASide ≡ 256) × (leastRoom ≡ 32768)
+the-limits = (refl, refl)
+
+-- what is printed of any line to a sound book, the event lines of a command or a refusal's, has at most `worstLines` bytes, 70 for each
+-- place of a side and 27
 pub the-most-that-a-line-prints : (b : Book) (line : List ℕ) → sound b ≡ true → length (printed (answerTo b line)) ≤ worstLines
 the-most-that-a-line-prints = room.printed-long
 
@@ -407,6 +413,6 @@ pub the-most-is-printed : (sound (fullOfReserves placesASide) ≡ true) × (acts
     × (length (printed (answerTo (fullOfReserves placesASide) (nextLine placesASide))) ≡ worstLines)
 the-most-is-printed = worst.worst-reached
 
--- it is more than the 4,096 bytes of 01, and fits the room
-pub the-room-is-needed : (worstLines ≡ 4507) × (4096 < worstLines) × (worstLines ≤ leastRoom)
+-- so the 8,192 bytes of W4 would not do, and 32,768 do
+pub the-room-is-needed : (worstLines ≡ 17947) × (8192 < worstLines) × (worstLines ≤ leastRoom)
 the-room-is-needed = (room.worst-is, room.worst-needs, room.worst-fits)

@@ -54,7 +54,7 @@ loaded n t = map orderOf (take n t)
 
 -- The index has a byte for each place, a byte more so that a turn may look one ahead, and then the hints, of which nothing is said.
 abbrev pub hints : ℕ
-hints = 1024
+hints = 4096
 
 abbrev pub indexSize : ℕ
 indexSize = placesASide + 1 + hints
@@ -63,12 +63,16 @@ indexSize = placesASide + 1 + hints
 abbrev pub hintOf : ℕ → ℕ
 hintOf n = placesASide + 1 + n % hints
 
+-- a loop over an index passes parts of so many places
+abbrev pub placesAPart : ℕ
+placesAPart = 64
+
 -- the first n bytes of an index name the rows in use, the best order's last: the rows of the side in rank order
 unfoldable pub ranked : ℕ → List ℕ → List ℕ
 ranked zero x = []
 ranked (suc n) x = getD x n 0 ∷ ranked n x
 
--- the byte at place `from` of an index comes to stand at place `to`, and those between move up
+-- the byte at place `from` of an index comes to stand at place `to`, and those between move one place towards `from`
 abbrev pub rotated : ℕ → ℕ → List ℕ → List ℕ
 rotated from to x = insertAt to (getD x from 0) (removeAt from x)
 

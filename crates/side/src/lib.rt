@@ -7,6 +7,7 @@ pub mod shifts;
 pub mod tables;
 
 use crate::rows::Index;
+use crate::rows::PART;
 use crate::rows::PLACES;
 use crate::rows::Rows;
 use kinds::Number;
@@ -15,7 +16,7 @@ use rules::Stamp;
 ghost use mathlib.Core.Bool.{true};
 ghost use mathlib.Core.List.{[]};
 ghost use mathlib.Core.Path.{_≡_};
-ghost use Prim.Native.Nat.{_<_, max};
+ghost use Prim.Native.Nat.{_≤_, _<_, max};
 ghost use lib.Dec.{eqb, ltb};
 ghost use lib.ListN.{getD};
 ghost use Rattle.basics.specs.Choice.{if_then_else_};
@@ -64,19 +65,29 @@ fn greater(a: u8, b: u8) -> u8
     if a < b { b } else { a }
 }
 
-// The place in an index of the byte that names a row, if one does: whoever asks looks there. The loop has one length and no branch.
-fn place_of(x: &Index, slot: u8) -> usize
-    ensures { λ r. ⌜ r < placesASide ⌝ }
+// A place before `n` of an index whose byte names a row, or one that is no earlier than `n`. It looks for it part by part, with no branch
+// on a single byte and one on what a part gave; that it finds the place, if there is one, is not promised.
+fn place_of(x: &Index, n: usize, slot: u8) -> usize
+    requires { ⌜ n ≤ placesASide ⌝ }
+    ensures { λ r. ⌜ (r < n → getD (now (x .entry)) r 0 ≡ slot) ⌝ }
 {
     rows::whole_index(x);
     let steps = rows::STEPS;
-    let mut found: u8 = 0;
-    for i in 0..PLACES {
-        let b = x[i];
-        let j = steps[i];
-        found = greater(here(b, slot, j), found);
+    let mut part = 0;
+    while part < n {
+        let mut found: u8 = 0;
+        for i in 0..PART {
+            let b = x[part + i];
+            let j = steps[i];
+            found = greater(here(b, slot, j), found);
+        }
+        let at = part + rows::wide(found);
+        if x[at] == slot {
+            return at;
+        }
+        part += PART;
     }
-    rows::wide(found)
+    n
 }
 
 // The rank of the order to which the hint of a number leads, or `n`: the hint may be of another number, and then says nothing.
@@ -91,12 +102,8 @@ pub fn follow_hint(x: &Index, t: &Rows, n: usize, number: Number) -> usize
     if o.number.0 != number.0 {
         return n;
     }
-    let i = place_of(x, hint);
+    let i = place_of(x, n, hint);
     if n <= i {
-        return n;
-    }
-    let named = x[i];
-    if rows::wide(named) != slot {
         return n;
     }
     n - 1 - i

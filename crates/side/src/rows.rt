@@ -15,19 +15,23 @@ ghost use Rattle.rules.specs.Book.{placesASide, isUnused, unused, sharesLeft};
 ghost use Rattle.side.specs.Shifts.{Countable};
 ghost use Rattle.side.specs.Table.{flagOf, levelOf, levelIn, orderOf, rowOf, hintOf, ranked, side, indexSize, Names, Holds};
 
-pub const PLACES: usize = 64;
+pub const PLACES: usize = 256;
 
 // How many words a row has.
 pub const WORDS: usize = 10;
 
 // How many hints an index has, from an order's number to its row.
-pub const HINTS: usize = 1024;
+pub const HINTS: usize = 4096;
 
 // How many bytes an index has: one for each place, one more so that a turn may look one ahead, and the hints.
 pub const INDEX: usize = PLACES + 1 + HINTS;
 
-// The places of an index, for a loop to read its own from: bytes are compared sixteen at a time, and a counter is not.
-pub const STEPS: [u8; PLACES] = [
+// A loop over an index passes as many parts of so many places as the orders need: the length of a part is known, so the compiler makes
+// vectors of it, and a side of few orders is not passed as one of many.
+pub const PART: usize = 64;
+
+// The places of a part, for a loop to read its own from: bytes are compared sixteen at a time, and a counter is not.
+pub const STEPS: [u8; PART] = [
     0,
     1,
     2,

@@ -1,28 +1,39 @@
 // Orders moved in and out of one side, in place: the index is turned, and the rows stay where they are.
 use crate::rows;
 use crate::rows::Index;
-use crate::rows::PLACES;
+use crate::rows::PART;
 use crate::rows::Rows;
 use kinds::Shares;
 use rules::Resting;
 ghost use mathlib.Core.Bool.{_&&_};
 ghost use mathlib.Core.Path.{_≡_};
-ghost use Prim.Native.Nat.{_-_, _≤_, _<_};
+ghost use Prim.Native.Nat.{_-_, _≤_, _<_, min};
 ghost use lib.Dec.{ltb, leb};
 ghost use lib.ListN.{getD, set};
 ghost use Rattle.basics.specs.Choice.{if_then_else_};
 ghost use Rattle.basics.specs.Lists.{insertAt, removeAt};
-ghost use Rattle.side.specs.Table.{rotated, side, Holds, Shows};
+ghost use Rattle.side.specs.Table.{placesAPart, rotated, side, Holds, Shows};
 ghost use Rattle.rules.specs.Book.{placesASide, unused};
 ghost use Rattle.side.specs.Shifts.{lessBy};
 
-// ── The index turned, with no branch on what it holds: the loops have one length, so the compiler makes vectors of them ──
+// ── The index turned, with no branch on what it holds ──
 
-// What stands at place `j` once the bytes behind `lo` up to `hi` have each moved one up: the byte before it, or its own.
-fn raised(lo: u8, hi: u8, j: u8, before: u8, own: u8) -> u8
-    ensures { λ r. ⌜ r ≡ (if ltb lo j && leb j hi then before else own) ⌝ }
+// A place of the index within the part that begins at `part`: 0 where it is no later than that, PART where it is behind the part.
+fn within(place: usize, part: usize) -> u8
+    ensures { λ r. ⌜ r ≡ min (place - part) placesAPart ⌝ }
 {
-    if (lo < j) & (j <= hi) { before } else { own }
+    if place <= part {
+        return 0;
+    }
+    let far = place - part;
+    if far < PART { far as u8 } else { PART as u8 }
+}
+
+// What stands at place `j` once those from `lo` on, before `hi`, have each taken a neighbour's: the neighbour's, or its own.
+fn turned(lo: u8, hi: u8, j: u8, neighbour: u8, own: u8) -> u8
+    ensures { λ r. ⌜ r ≡ (if leb lo j && ltb j hi then neighbour else own) ⌝ }
+{
+    if (lo <= j) & (j < hi) { neighbour } else { own }
 }
 
 // The byte at place `from` comes to stand at place `to`, which is no later, and those between move one up.
@@ -33,23 +44,20 @@ fn raise(x: &mut Index, from: usize, to: usize)
     rows::whole_index(x);
     let v = x[from];
     let steps = rows::STEPS;
-    let lo = to as u8;
-    let hi = from as u8;
     let mut last: u8 = 0;
-    for i in 0..PLACES {
-        let b = x[i];
-        let j = steps[i];
-        x[i] = raised(lo, hi, j, last, b);
-        last = b;
+    let mut part = 0;
+    while part <= from {
+        let lo = within(to + 1, part);
+        let hi = within(from + 1, part);
+        for i in 0..PART {
+            let b = x[part + i];
+            let j = steps[i];
+            x[part + i] = turned(lo, hi, j, last, b);
+            last = b;
+        }
+        part += PART;
     }
     x[to] = v;
-}
-
-// What stands at place `j` once the bytes behind `lo` up to `hi` have each moved one down: the byte behind it, or its own.
-fn lowered(lo: u8, hi: u8, j: u8, behind: u8, own: u8) -> u8
-    ensures { λ r. ⌜ r ≡ (if leb lo j && ltb j hi then behind else own) ⌝ }
-{
-    if (lo <= j) & (j < hi) { behind } else { own }
 }
 
 // The same to a place that is no earlier: those between move one down.
@@ -60,14 +68,18 @@ fn lower(x: &mut Index, from: usize, to: usize)
     rows::whole_index(x);
     let v = x[from];
     let steps = rows::STEPS;
-    let lo = from as u8;
-    let hi = to as u8;
     let mut b = x[0];
-    for i in 0..PLACES {
-        let next = x[i + 1];
-        let j = steps[i];
-        x[i] = lowered(lo, hi, j, next, b);
-        b = next;
+    let mut part = 0;
+    while part <= to {
+        let lo = within(from, part);
+        let hi = within(to, part);
+        for i in 0..PART {
+            let next = x[part + i + 1];
+            let j = steps[i];
+            x[part + i] = turned(lo, hi, j, next, b);
+            b = next;
+        }
+        part += PART;
     }
     x[to] = v;
 }

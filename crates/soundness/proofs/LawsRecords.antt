@@ -57,7 +57,7 @@ unused-is o e =
     made e f g h i j l m o = rw (e, f, g, h, i, j, l, m, o)
 
 -- so places that all pass for unused are nothing but such
-all-unused : (s : List Resting) → every isUnused s ≡ true → s ≡ replicate (length s) unused
+pub all-unused : (s : List Resting) → every isUnused s ≡ true → s ≡ replicate (length s) unused
 unfolding every
 all-unused [] e = refl
 all-unused (o ∷ s) e =

@@ -1,4 +1,4 @@
--- `inspection::is_sound` meets its contract: a count is above 64, or each call says what the law has at its place. Assumes nothing.
+-- `inspection::is_sound` meets its contract: a count is above the limit, or each call says what the law has at its place. Assumes nothing.
 use mathlib.Core.Path.{_≡_, sym}
 use lib.ListN.{length}
 use borrow.Author.Needs.{needs}

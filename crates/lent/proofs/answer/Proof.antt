@@ -1,5 +1,5 @@
 -- `lent::answer` meets its contract: a walk of its MIR, by hand. It tests the table's length.
---     `refuse(book, out.len())`    where it is not 64. Nothing else is touched: both `&mut` are let go as they stand
+--     `refuse(book, out.len())`    where it is not PLACES. Nothing else is touched: both `&mut` are let go as they stand
 --     `take(table)`        else the table is opened; its row is lent, shared, for a lifetime that the walk makes and ends; the table is closed again, at the same list
 --     `work(…)`            all but the table is given to it, with the lifetimes' tokens, which come back. out is given up for good: what is had at exit is its last list
 --     `places_of(worked)`, `reply_of(worked)`      what `work` returned is plain, so what it owns is made anew for each
@@ -213,7 +213,7 @@ module _ {M : Type 1} (𝓤 : URA M) (H : Heap 𝓤) (A : Atoms 𝓤) (W : Given
       -- [the table's last list; out's last list; what the result owns]
       nothing ! $ move ! (2 ∷ 0 ∷ []) $ fjoin ! $ nothing ! $ fjoin ! $ move ! (1 ∷ 0 ∷ []) $ fjoin ! $ nothing ! $ fjoin ! $ nothing ! $ fjoin ! $ frame ! $ done !
 
-  -- the table is not of 64 records: all is as it was
+  -- the table has not a record for each place: all is as it was
   early : (r : Reply) (v : Val) → length ys ≢ placesASide → r ≡ refused book (length (now out))
       → ent 𝓤 (⋆ 𝓤 H A (‵ (P.the-row .own r (v ∷ [])) ∷ (‵ (flft κ₀ q₀) ⊛ Tokens) ∷ ‵ (fsep Of-book (fsep Of-buys (fsep Of-table Of-texts))) ∷ [])) (Post v)
   early r v n e =

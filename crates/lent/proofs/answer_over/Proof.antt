@@ -89,7 +89,7 @@ stayed = (
   (stay-dropped (plain (λ _. bool)) yes, (stay-dropped (arrayOf (plain (λ _. T.the-row)) placesASide) yes, (stay-dropped (shrSliceOf (0 ∷ []) tt (plain (λ _. u8))) yes, (gave-slice (1 ∷ []) tt (plain (λ _. u8)), tt)))),
 )
 
--- 64 records fit
+-- so many records fit
 room : (zs : List Resting) → length zs ≡ placesASide → Room T.the-row (length zs)
 room zs long = subst (Room T.the-row) (sym long) (lit< tt, lit< tt)
 

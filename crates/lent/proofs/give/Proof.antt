@@ -149,7 +149,7 @@ module _ {M : Type 1} (𝓤 : URA M) (H : Heap 𝓤) (A : Atoms 𝓤) (W : Given
           ∷ ‵ (froom tyPtr l₇ 0) ∷ ‵ (fdies tyPtr l₇) ∷ ‵ (froom word l₆ 0) ∷ ‵ (fdies word l₆) ∷ ‵ (froom resting l₅ 0) ∷ ‵ (fdies resting l₅) ∷ ‵ (froom tyBool l₄ 0) ∷ ‵ (fdies tyBool l₄)
           ∷ ‵ (fat fullShare word l₃ 0 (vint w64 (t .0))) ∷ ‵ (fdies word l₃) ∷ ‵ (fat fullShare records l₂ 0 v) ∷ ‵ (fdies records l₂) ∷ ‵ (fat fullShare slice l₁ 0 sv) ∷ ‵ (fdies slice l₁) ∷ ‵ (froom tyUnit l₀ 0) ∷ ‵ (fdies tyUnit l₀) ∷ []
 
-      -- a turn's postcondition: it ends nearer to 64, or the loop is left and the rest of the body runs
+      -- a turn's postcondition: it ends nearer to the end, or the loop is left and the rest of the body runs
       abbrev Turned : State → Out → SProp 𝓤
       Turned t = afterTurn 𝓤 H (Below 𝓤 H A Nearer Held-at t) (afterBlock 𝓤 H (afterSeq 𝓤 H (Wp 𝓤 H C Λ En t-3 (atReturn 𝓤 H En Post)) (atReturn 𝓤 H En Post)))
 

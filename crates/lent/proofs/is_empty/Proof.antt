@@ -2,7 +2,7 @@
 use Prim.Native.Nat.{ℕ}
 use mathlib.Core.Bool.{Bool, true, false, _&&_}
 use mathlib.Core.List.{List, [], map}
-use mathlib.Core.Path.{_≡_, refl, sym, _∙_}
+use mathlib.Core.Path.{_≡_, refl, sym, ap, _∙_}
 use lib.Dec.{eqb}
 use lib.ListN.{length, length-map}
 use borrow.Author.Needs.{needs}
@@ -13,6 +13,8 @@ use Rattle.rules.specs.declared.Resting.{Resting}
 use Rattle.rules.specs.Book.{placesASide, isUnused}
 use Rattle.side.specs.Table.{orderOf, rowOf}
 use Rattle.side.proofs.rows.LawsTable.{orders-rows}
+use Rattle.book.specs.declared.Side.{Side}
+use Rattle.book.specs.Record.{placesOn}
 use Rattle.inspection.specs.Inspection.{sideSound}
 use Rattle.inspection.proofs.LawsInspection.{none-used}
 use Rattle.lent.specs.Lent.{isEmpty}
@@ -30,6 +32,9 @@ empty-found last used places t found is long told =
     skipped true b = refl
     skipped false b = refl
 
+side-of-requires : tie.Need-side-of-requires
+side-of-requires c κs = search needs
+
 load-requires : tie.Need-load-requires
 load-requires c κs = search needs
 
@@ -43,8 +48,10 @@ returns : tie.Need-returns
 returns c =
     let told = c .before .before .before .before in
     let lent = told .before .before in
-    let s = lent .before .before .before .args .s in
-    empty-found _ (s .used) (s .places) _ (c .side-sound .result) (lent .load .ensures) (told .whole .ensures) (c .side-sound .ensures)
+    let s = lent .before .before .before .side-of in
+    let sound = c .side-sound in
+    empty-found _ (s .result .used) (s .result .places) _ (sound .result) (lent .load .ensures) (told .whole .ensures) (sound .ensures)
+    ∙ ap (λ (x : Side). isEmpty (placesOn x)) (s .ensures)
 
 pub is-empty-spec : {M : Type 1} → statement M
-is-empty-spec = tie.close (tie.spec load-requires whole-requires side-sound-requires returns)
+is-empty-spec = tie.close (tie.spec side-of-requires load-requires whole-requires side-sound-requires returns)

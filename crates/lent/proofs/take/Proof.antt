@@ -1,5 +1,5 @@
 -- `lent::take` meets its contract: a walk of its MIR, by hand. It calls `blank`; then each turn of the loop calls `get` and `with`, and of each callee all that the proof knows is that it meets its contract.
--- The invariant: after i turns the array is `copied ys (64 unused records) i`, where ys is the slice's list. At the end that is ys. Assumes nothing.
+-- The invariant: after i turns the array is `copied ys (`placesASide` unused records) i`, where ys is the slice's list. At the end that is ys. Assumes nothing.
 --     Blank, Get, With     the contracts that the proof cites.        asked-…      what the caller has gives what the callee asks.        said-…     of what the callee ensures, its clause
 --     exits        from what is had at exit to the `post` of `walkOf`
 --     State, At    how many records are copied, and the machine value of the array; and what is held then, at the head of a turn
@@ -179,7 +179,7 @@ module _ {M : Type 1} (𝓤 : URA M) (H : Heap 𝓤) (A : Atoms 𝓤) (W : Given
           ∷ ‵ (froom resting l₅ 0) ∷ ‵ (fdies resting l₅) ∷ ‵ (froom tyBool l₄ 0) ∷ ‵ (fdies tyBool l₄) ∷ ‵ (fat fullShare word l₃ 0 (vint w64 (t .0))) ∷ ‵ (fdies word l₃)
           ∷ ‵ (fat fullShare records l₂ 0 (t .1 .1)) ∷ ‵ (fdies records l₂) ∷ ‵ (fat fullShare slice l₁ 0 sv) ∷ ‵ (fdies slice l₁) ∷ ‵ (froom records l₀ 0) ∷ ‵ (fdies records l₀) ∷ []
 
-      -- a turn's postcondition: it ends nearer to 64, or the loop is left and the rest of the body runs
+      -- a turn's postcondition: it ends nearer to the end, or the loop is left and the rest of the body runs
       abbrev Turned : State → Out → SProp 𝓤
       Turned t = afterTurn 𝓤 H (Below 𝓤 H A Nearer At t) (afterBlock 𝓤 H (afterSeq 𝓤 H (Wp 𝓤 H C Λ En t-4 (atReturn 𝓤 H En Post)) (atReturn 𝓤 H En Post)))
 

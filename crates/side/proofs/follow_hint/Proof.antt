@@ -1,5 +1,5 @@
 -- `side::follow_hint` meets its contract: a hint that leads to the number in a row in use leads to its order. Assumes nothing.
-use Prim.Native.Nat.{_%_}
+use Prim.Native.Nat.{_%_, _<_}
 use mathlib.Core.Bool.{true}
 use mathlib.Core.Path.{_≡_, sym, ap, _∙_}
 use lib.ListN.{getD}
@@ -9,6 +9,7 @@ use borrow.Author.Tests.{eq-eqb}
 use denote.Ref.{now}
 use Rattle.rules.specs.Book.{placesASide}
 use Rattle.rules.specs.Commands.{isNumber}
+use Rattle.side.proofs.rows.LawsIndex.{names-below}
 use Rattle.side.proofs.rows.LawsShown.{length-side}
 use Rattle.side.proofs.LawsHints.{hint-leads}
 use Rattle.side.proofs.follow_hint.Statement.{statement}
@@ -35,22 +36,11 @@ returns c =
     λ l. let z : ⊥ = omega (arith, l, length-side (a .n) (now (a .x)) (now (a .t))) in absurd z
 
 place-of-requires : tie.Need-place-of-requires
-place-of-requires c κs = search needs
+place-of-requires c κs = c .before .before .before .before .before .before .before .before .pre .0 .fits
 
 returns-2 : tie.Need-returns-2
 returns-2 c =
     let a = c .before .before .before .before .before .before .before .before .before .before .args in
-    λ l. let z : ⊥ = omega (arith, l, length-side (a .n) (now (a .x)) (now (a .t))) in absurd z
-
-element-copy-out-named : tie.Need-element-copy-out-named
-element-copy-out-named c = search needs
-
-wide-requires-2 : tie.Need-wide-requires-2
-wide-requires-2 c κs = search needs
-
-returns-3 : tie.Need-returns-3
-returns-3 c =
-    let a = c .before .before .before .before .before .before .before .before .before .before .before .before .before .args in
     λ l. let z : ⊥ = omega (arith, l, length-side (a .n) (now (a .x)) (now (a .t))) in absurd z
 
 sub-result : tie.Need-sub-result
@@ -59,16 +49,22 @@ sub-result c = search needs
 sub-result-2 : tie.Need-sub-result-2
 sub-result-2 c = search needs
 
-returns-4 : tie.Need-returns-4
-returns-4 c =
-    let a = c .before .before .before .before .before .before .before .before .before .before .before .before .before .args in
-    let i = c .before .before .before .before .place-of .result in
-    let slot = c .before .before .before .before .before .before .before .before .before .wide .result % placesASide in
-    let wide : c .before .wide2 .result ≡ getD (now (a .x)) i 0 = c .before .wide2 .ensures in
-    let named : getD (now (a .x)) i 0 ≡ slot = sym wide ∙ c .if3 .left in
-    let its : isNumber (a .number) (c .before .before .before .before .before .before .before .before .row .result) ≡ true = eq-eqb (c .before .before .before .before .before .before .before .before .row .result .number .0) (a .number .0) (c .before .before .before .before .before .if1 .left) in
-    λ l. hint-leads (a .n) (now (a .x)) (now (a .t)) (c .before .before .before .before .before .before .before .before .before .before .before .before .before .pre .0) (a .number) (c .before .before .before .before .before .before .before .before .before .before .before .before .before .pre .1) slot i named (omega arith)
-    (ap (isNumber (a .number)) (sym (c .before .before .before .before .before .before .before .before .row .ensures)) ∙ its)
+returns-3 : tie.Need-returns-3
+returns-3 c =
+    let first = c .before .before .before .before .before .before .before .before .before .before in
+    let a = first .args in
+    let holds = first .pre .0 in
+    let i = c .before .place-of .result in
+    let hint = c .before .before .before .before .before .before .wide in
+    let o = c .before .before .before .before .before .row in
+    let slot = hint .result % placesASide in
+    let found : getD (now (a .x)) i 0 ≡ hint .result = c .before .place-of .ensures (omega arith) ∙ sym (hint .ensures) in
+    let in-table : getD (now (a .x)) i 0 < placesASide = names-below (now (a .x)) (holds .names) i (omega (arith, holds .fits)) in
+    let named : getD (now (a .x)) i 0 ≡ slot = omega (arith, found, in-table) in
+    let its : isNumber (a .number) (o .result) ≡ true = eq-eqb (o .result .number .0) (a .number .0) (c .before .before .if1 .left) in
+    λ l.
+    hint-leads (a .n) (now (a .x)) (now (a .t)) holds (a .number) (first .pre .1) slot i named (omega arith)
+    (ap (isNumber (a .number)) (sym (o .ensures)) ∙ its)
 
 pub follow-hint-spec : {M : Type 1} → statement M
 follow-hint-spec =
@@ -82,9 +78,6 @@ follow-hint-spec =
     returns
     place-of-requires
     returns-2
-    element-copy-out-named
-    wide-requires-2
-    returns-3
     sub-result
     sub-result-2
-    returns-4)
+    returns-3)

@@ -1,10 +1,10 @@
--- The steps of a loop over an index: each is its own place. Assumes nothing.
+-- The steps of a loop over a part of an index: each is its own place. Assumes nothing.
 use Prim.Native.Nat.{ℕ, zero, suc, _+_, _<_}
 use mathlib.Core.List.{List, [], _∷_}
 use mathlib.Core.Path.{_≡_, _∙_}
 use lib.ListN.{getD}
 use native.Mathlib.Omega.{arith}
-use Rattle.rules.specs.Book.{placesASide}
+use Rattle.side.specs.Table.{placesAPart}
 
 -- n numbers from i on
 unfoldable pub counted : ℕ → ℕ → List ℕ
@@ -19,7 +19,7 @@ counted-at i (suc n) (suc k) l = counted-at (suc i) n k (omega arith) ∙ omega 
 
 -- the code's list of them
 abbrev pub steps : List ℕ
-steps = counted 0 placesASide
+steps = counted 0 placesAPart
 
-pub step-at : (k : ℕ) → k < placesASide → getD steps k 0 ≡ k
-step-at k l = counted-at 0 placesASide k l ∙ omega arith
+pub step-at : (k : ℕ) → k < placesAPart → getD steps k 0 ≡ k
+step-at k l = counted-at 0 placesAPart k l ∙ omega arith

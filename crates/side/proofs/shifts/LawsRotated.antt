@@ -1,5 +1,5 @@
 -- Laws of a list of which one element is taken out and put in elsewhere: place by place, and as a loop fills it in. Assumes nothing.
-use Prim.Native.Nat.{ℕ, zero, suc, _+_, _-_, _≤_, _<_}
+use Prim.Native.Nat.{ℕ, zero, suc, _+_, _-_, _≤_, _<_, min}
 use mathlib.Core.Bool.{true, false, _&&_}
 use mathlib.Core.List.{List, [], _∷_}
 use mathlib.Core.Logic.{⊎-elim}
@@ -15,7 +15,7 @@ use Rattle.basics.specs.Choice.{if_then_else_}
 use Rattle.basics.specs.Lists.{insertAt, removeAt}
 use Rattle.basics.proofs.LawsChoice.{holds-or-not, lt-or-le}
 use Rattle.basics.proofs.LawsLists.{length-removeAt}
-use Rattle.side.specs.Table.{rotated}
+use Rattle.side.specs.Table.{placesAPart, rotated}
 
 -- ── One element in or out, place by place ──
 
@@ -88,18 +88,19 @@ module _ (x : List ℕ) (from to : ℕ) (f : from < length x) (t : to < length x
 
   -- place by place, where it moves to the front: `last` is what stood one place before
   pub raised-at : to ≤ from → (k last : ℕ) → (0 < k → last ≡ getD x (k - 1) 0) → (k ≡ to → ⊥)
-      → (if ltb to k && leb k from then last else getD x k 0) ≡ getD (rotated from to x) k 0
+      → (if leb (to + 1) k && ltb k (from + 1) then last else getD x k 0) ≡ getD (rotated from to x) k 0
   raised-at h k last was ne =
       ⊎-elim
       (λ (p : to < k).
       ⊎-elim
-      (λ (q : from < k). rw (lt-ltb to k p, lt-leb k from q) (sym (rotated-beyond k q p)))
+      (λ (q : from < k). rw (le-leb (to + 1) k (omega arith), le-ltb k (from + 1) (omega arith)) (sym (rotated-beyond k q p)))
       (λ (q : k ≤ from).
       let e : suc (k - 1) ≡ k = omega arith in
-      rw (lt-ltb to k p, le-leb k from q, was (omega arith))
+      rw (le-leb (to + 1) k (omega arith), lt-ltb k (from + 1) (omega arith), was (omega arith))
       (sym (rw e at (rotated-behind (k - 1) (omega arith) ∙ removed-before 0 from x (k - 1) (omega arith)))))
       (lt-or-le from k))
-      (λ (p : k ≤ to). rw (le-ltb to k p) (sym (rotated-before k (omega (arith, ne)) ∙ removed-before 0 from x k (omega (arith, ne)))))
+      (λ (p : k ≤ to).
+      rw (lt-leb (to + 1) k (omega arith)) (sym (rotated-before k (omega (arith, ne)) ∙ removed-before 0 from x k (omega (arith, ne)))))
       (lt-or-le to k)
 
   -- and to the back
@@ -114,7 +115,23 @@ module _ (x : List ℕ) (from to : ℕ) (f : from < length x) (t : to < length x
       (λ (p : to ≤ k). rw (le-leb from k (omega arith), le-ltb k to p) (sym (rotated-beyond k (omega (arith, ne)) (omega (arith, ne)))))
       (lt-or-le k to)
 
--- ── A loop that moves it ──
+-- ── A loop that moves it, part by part ──
+
+module _ (place part i : ℕ) (short : i < placesAPart) where
+  -- whether a place of a part comes before another place of the index, or not
+  pub within-le : leb (min (place - part) placesAPart) i ≡ leb place (part + i)
+  within-le =
+      ⊎-elim
+      (λ (p : part + i < place). lt-leb (min (place - part) placesAPart) i (omega arith) ∙ sym (lt-leb place (part + i) p))
+      (λ (p : place ≤ part + i). le-leb (min (place - part) placesAPart) i (omega arith) ∙ sym (le-leb place (part + i) p))
+      (lt-or-le (part + i) place)
+
+  pub within-lt : ltb i (min (place - part) placesAPart) ≡ ltb (part + i) place
+  within-lt =
+      ⊎-elim
+      (λ (p : part + i < place). lt-ltb i (min (place - part) placesAPart) (omega arith) ∙ sym (lt-ltb (part + i) place p))
+      (λ (p : place ≤ part + i). le-ltb i (min (place - part) placesAPart) (omega arith) ∙ sym (le-ltb (part + i) place p))
+      (lt-or-le (part + i) place)
 
 -- In y the places before i are as they are to be, all but the place `to`, which is left for the end; from i on they are still those of x.
 pub record Filled (from to : ℕ) (x : List ℕ) (i : ℕ) (y : List ℕ) : Type 0 where
@@ -150,3 +167,30 @@ module _ (from to : ℕ) (x : List ℕ) (i : ℕ) (y : List ℕ) (f : Filled fro
       (λ (u : i ≤ k). f .ahead k u ∙ sym (rotated-beyond x from to a b k (omega arith) (omega arith)))
       (lt-or-le k i))
       (holds-or-not (eqb k to)))
+
+-- To the front such a loop carries what stood one place before, `last`; to the back what stands at its place, `own`.
+abbrev pub Raising : (from to : ℕ) → List ℕ → (i last : ℕ) → List ℕ → Type 0
+Raising from to x i last y = Filled from to x i y × (0 < i → last ≡ getD x (i - 1) 0)
+
+abbrev pub Lowering : (from to : ℕ) → List ℕ → (i own : ℕ) → List ℕ → Type 0
+Lowering from to x i own y = Filled from to x i y × (own ≡ getD x i 0)
+
+module _ (from to : ℕ) (x : List ℕ) (i carried : ℕ) (y : List ℕ) (f : from < length x) (t : to < length x) (l : i < length x) where
+  pub raising-step : to ≤ from → Raising from to x i carried y
+      → Raising from to x (i + 1) (getD y i 0) (set y i (if leb (to + 1) i && ltb i (from + 1) then carried else getD y i 0))
+  raising-step h r =
+      let own : getD y i 0 ≡ getD x i 0 = r .0 .ahead i (omega arith) in
+      let before : i + 1 - 1 ≡ i = omega arith in (
+        filled-step from to x i y (r .0) (if leb (to + 1) i && ltb i (from + 1) then carried else getD y i 0) l
+            (λ ne. rw own (raised-at x from to f t h i carried (r .1) ne)),
+        λ z. rw before own,
+      )
+
+  pub lowering-step : from ≤ to → Lowering from to x i carried y
+      → Lowering from to x (i + 1) (getD y (i + 1) 0) (set y i (if leb from i && ltb i to then getD y (i + 1) 0 else carried))
+  lowering-step h r =
+      let next : getD y (i + 1) 0 ≡ getD x (i + 1) 0 = r .0 .ahead (i + 1) (omega arith) in (
+        filled-step from to x i y (r .0) (if leb from i && ltb i to then getD y (i + 1) 0 else carried) l
+            (λ ne. rw (next, r .1) (lowered-at x from to f t h i ne)),
+        next,
+      )

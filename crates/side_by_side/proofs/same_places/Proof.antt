@@ -1,4 +1,4 @@
--- `side_by_side::same_places` is safe and ends: it looks at 64 places. Assumes nothing.
+-- `side_by_side::same_places` is safe and ends: it looks at all places. Assumes nothing.
 use Prim.Native.Nat.{_-_, _≤_}
 use Rattle.rules.specs.Book.{placesASide}
 use borrow.Author.Needs.{needs}

@@ -1,102 +1,166 @@
--- `side::shifts::raise` meets its contract. The loop's invariant: the places passed are filled in, all but the one that is written last. Assumes nothing.
-use Prim.Native.Nat.{_+_, _-_, _≤_, _<_}
+-- `side::shifts::raise` meets its contract. Invariant of both loops: the places passed are filled in, all but the one that is written last.
+-- Assumes nothing.
+use Prim.Native.Nat.{ℕ, _+_, _-_, _≤_}
 use mathlib.Core.Bool.{_&&_}
-use mathlib.Core.Path.{_≡_, _∙_}
+use mathlib.Core.List.{List}
+use mathlib.Core.Path.{_≡_, refl, _∙_}
 use lib.Dec.{ltb, leb}
-use lib.ListN.{length, getD}
+use lib.ListN.{length, getD, length-set}
 use native.Mathlib.Omega.{arith}
 use borrow.Author.Needs.{needs}
 use denote.Ref.{now}
 use Rattle.basics.specs.Choice.{if_then_else_}
-use Rattle.rules.specs.Book.{placesASide}
-use Rattle.side.specs.Table.{indexSize, rotated}
+use Rattle.side.specs.Table.{indexSize, placesAPart}
 use Rattle.side.proofs.rows.LawsSteps.{counted, steps, step-at}
-use Rattle.side.proofs.shifts.LawsRotated.{Filled, filled-step, filled-end, raised-at}
+use Rattle.side.proofs.shifts.LawsRotated.{Raising, raising-step, filled-end, within-le, within-lt}
 use Rattle.side.proofs.shifts.raise.Statement.{statement}
 use Rattle.side.proofs.shifts.raise.Tie as tie
 
+-- within a part: whatever it was that had come so far when the part began has come further
+abbrev Inv-loop2 : tie.InvT-loop2
+Inv-loop2 y from to v steps last₀ part lo hi i₀ x last i =
+    (i ≤ placesAPart) × (length x ≡ length y) × ((z : List ℕ) → length z ≡ indexSize → Raising from to z part last₀ y → Raising from to z (part + i) last x)
+
+abbrev μ-loop2 : tie.MeasureT-loop2
+μ-loop2 y from to v steps last₀ part lo hi i₀ x last i = placesAPart - i
+
 abbrev Inv-loop : tie.InvT-loop
-Inv-loop x₀ from to v steps lo hi last₀ i₀ x last i =
-    (i ≤ placesASide) × Filled from to x₀ i x × (0 < i → last ≡ getD x₀ (i - 1) 0)
+Inv-loop x₀ from to v steps last₀ part₀ x last part = (part ≤ from + placesAPart) × Raising from to x₀ part last x
 
 abbrev μ-loop : tie.MeasureT-loop
-μ-loop x₀ from to v steps lo hi last₀ i₀ x last i = placesASide - i
+μ-loop x₀ from to v steps last₀ part₀ x last part = from + placesAPart - part
 
-whole-index-requires : tie.Need-whole-index-requires Inv-loop μ-loop
+whole-index-requires : tie.Need-whole-index-requires Inv-loop2 μ-loop2 Inv-loop μ-loop
 whole-index-requires c κs = search needs
 
-element-copy-out-v : tie.Need-element-copy-out-v Inv-loop μ-loop
+element-copy-out-v : tie.Need-element-copy-out-v Inv-loop2 μ-loop2 Inv-loop μ-loop
 element-copy-out-v c = search needs
 
-cast-lo : tie.Need-cast-lo Inv-loop μ-loop
-cast-lo c = search needs
-
-cast-hi : tie.Need-cast-hi Inv-loop μ-loop
-cast-hi c = search needs
-
-loop-holds : tie.Need-loop-holds Inv-loop μ-loop
+loop-holds : tie.Need-loop-holds Inv-loop2 μ-loop2 Inv-loop μ-loop
 loop-holds c = search needs
 
-element-copy-out-b : tie.Need-element-copy-out-b Inv-loop μ-loop
+add-within : tie.Need-add-within Inv-loop2 μ-loop2 Inv-loop μ-loop
+add-within c = search needs
+
+within-requires : tie.Need-within-requires Inv-loop2 μ-loop2 Inv-loop μ-loop
+within-requires c κs = search needs
+
+add-within-2 : tie.Need-add-within-2 Inv-loop2 μ-loop2 Inv-loop μ-loop
+add-within-2 c = search needs
+
+within-requires-2 : tie.Need-within-requires-2 Inv-loop2 μ-loop2 Inv-loop μ-loop
+within-requires-2 c κs = search needs
+
+loop2-holds : tie.Need-loop2-holds Inv-loop2 μ-loop2 Inv-loop μ-loop
+loop2-holds c =
+    let part = c .before .before .before .loop .part in
+    let e : part + 0 ≡ part = omega arith in
+    (omega arith, refl, λ z long began. rw e began)
+
+add-b : tie.Need-add-b Inv-loop2 μ-loop2 Inv-loop μ-loop
+add-b c = search needs
+
+element-copy-out-b : tie.Need-element-copy-out-b Inv-loop2 μ-loop2 Inv-loop μ-loop
 element-copy-out-b c = search needs
 
-array-read-j : tie.Need-array-read-j Inv-loop μ-loop
+array-read-j : tie.Need-array-read-j Inv-loop2 μ-loop2 Inv-loop μ-loop
 array-read-j c = search needs
 
-raised-requires : tie.Need-raised-requires Inv-loop μ-loop
-raised-requires c κs = search needs
+turned-requires : tie.Need-turned-requires Inv-loop2 μ-loop2 Inv-loop μ-loop
+turned-requires c κs = search needs
 
-element-write-x : tie.Need-element-write-x Inv-loop μ-loop
+add-x : tie.Need-add-x Inv-loop2 μ-loop2 Inv-loop μ-loop
+add-x c = search needs
+
+element-write-x : tie.Need-element-write-x Inv-loop2 μ-loop2 Inv-loop μ-loop
 element-write-x c = search needs
 
-add-i : tie.Need-add-i Inv-loop μ-loop
+add-i : tie.Need-add-i Inv-loop2 μ-loop2 Inv-loop μ-loop
 add-i c = search needs
 
-loop-less : tie.Need-loop-less Inv-loop μ-loop
+loop2-less : tie.Need-loop2-less Inv-loop2 μ-loop2 Inv-loop μ-loop
+loop2-less c = search needs
+
+loop2-again : tie.Need-loop2-again Inv-loop2 μ-loop2 Inv-loop μ-loop
+unfolding counted
+loop2-again c =
+    let l = c .before .before .before .before .before .before .before .loop in
+    let m = c .before .before .before .loop2 in
+    let lo = c .before .before .before .before .before .within in
+    let hi = c .before .before .before .before .within2 in
+    let a = c .before .before .before .before .before .before .before .before .before .before .before .args in
+    let k = l .part + m .i in
+    let j = getD steps (m .i) 0 in
+    let r : c .turned .result ≡ (if leb (lo .result) j && ltb j (hi .result) then m .last else getD (m .x) k 0) = c .turned .ensures in
+    let e : c .turned .result ≡ (if leb (a .to + 1) k && ltb k (a .from + 1) then m .last else getD (m .x) k 0) =
+    r
+    ∙ rw (
+      step-at (m .i) (omega arith),
+      lo .ensures,
+      hi .ensures,
+      within-le (a .to + 1) (l .part) (m .i) (omega arith),
+      within-lt (a .from + 1) (l .part) (m .i) (omega arith),
+    ) in
+    let further : l .part + (m .i + 1) ≡ k + 1 = omega arith in (
+      omega arith,
+      length-set (m .x) k (c .turned .result) ∙ m .inv .1,
+      λ z long began.
+          rw (further, e)
+          (raising-step (a .from) (a .to) z k (m .last) (m .x) (omega (arith, long)) (omega (arith, long)) (omega (arith, long)) (omega arith) (m .inv .2 z long began)),
+    )
+
+add-part : tie.Need-add-part Inv-loop2 μ-loop2 Inv-loop μ-loop
+add-part c = search needs
+
+loop-less : tie.Need-loop-less Inv-loop2 μ-loop2 Inv-loop μ-loop
 loop-less c = search needs
 
-loop-again : tie.Need-loop-again Inv-loop μ-loop
-unfolding counted
+loop-again : tie.Need-loop-again Inv-loop2 μ-loop2 Inv-loop μ-loop
 loop-again c =
-    let l = c .before .before .before .loop in
-    let a = c .before .before .before .before .before .before .before .args in
-    let x₀ = now (a .x) in
-    let long : length x₀ ≡ indexSize = c .before .before .before .before .before .whole-index .ensures in
-    let b : getD (l .x) (l .i) 0 ≡ getD x₀ (l .i) 0 = l .inv .1 .ahead (l .i) (omega arith) in
-    let j = getD steps (l .i) 0 in
-    let r : c .raised .result ≡ (if ltb (a .to) j && leb j (a .from) then l .last else getD (l .x) (l .i) 0) = c .raised .ensures in
-    let e : (l .i ≡ a .to → ⊥) → c .raised .result ≡ getD (rotated (a .from) (a .to) x₀) (l .i) 0 =
-    λ ne. r ∙ rw (step-at (l .i) (omega arith), b) (raised-at x₀ (a .from) (a .to) (omega arith) (omega arith) (omega arith) (l .i) (l .last) (l .inv .2) ne) in
-    let k : l .i + 1 - 1 ≡ l .i = omega arith in
-    (omega arith, filled-step (a .from) (a .to) x₀ (l .i) (l .x) (l .inv .1) (c .raised .result) (omega arith) e, λ z. rw k b)
+    let l = c .before .before .before .before .before .loop in
+    let m = c .before .loop2 in
+    let x₀ = now (c .before .before .before .before .before .before .before .before .before .args .x) in
+    let long : length x₀ ≡ indexSize = c .before .before .before .before .before .before .before .whole-index .ensures in
+    let all : l .part + m .i ≡ l .part + placesAPart = omega arith in
+    (omega arith, rw all at (m .inv .2 x₀ long (l .inv .1)))
 
-element-write-x-2 : tie.Need-element-write-x-2 Inv-loop μ-loop
+element-write-x-2 : tie.Need-element-write-x-2 Inv-loop2 μ-loop2 Inv-loop μ-loop
 element-write-x-2 c = search needs
 
-returns : tie.Need-returns Inv-loop μ-loop
+returns : tie.Need-returns Inv-loop2 μ-loop2 Inv-loop μ-loop
 returns c =
     let l = c .before .loop in
     let a = c .before .before .before .before .before .args in
     let x₀ = now (a .x) in
     let long : length x₀ ≡ indexSize = c .before .before .before .whole-index .ensures in
-    filled-end (a .from) (a .to) x₀ (l .i) (l .x) (l .inv .1) (omega arith) (omega arith) (omega arith) (omega arith)
+    filled-end (a .from) (a .to) x₀ (l .part) (l .x) (l .inv .1 .0) (omega arith) (omega arith) (omega arith) (omega arith)
 
 pub raise-spec : {M : Type 1} → statement M
 raise-spec =
     tie.close
     (tie.spec
+    Inv-loop2
+    μ-loop2
     Inv-loop
     μ-loop
     whole-index-requires
     element-copy-out-v
-    cast-lo
-    cast-hi
     loop-holds
+    add-within
+    within-requires
+    add-within-2
+    within-requires-2
+    loop2-holds
+    add-b
     element-copy-out-b
     array-read-j
-    raised-requires
+    turned-requires
+    add-x
     element-write-x
     add-i
+    loop2-less
+    loop2-again
+    add-part
     loop-less
     loop-again
     element-write-x-2
