@@ -1,4 +1,4 @@
-//! The order book of paper 01 with requests W2, W4 and W5 of paper 02: command lines read,
+//! The order book of paper 01 with requests W2, W4, W5 and W6 of paper 02: command lines read,
 //! orders worked, shown parts refilled, hidden orders moved by a quote, event lines written.
 //!
 //! Shared by `ordinary.rs` (the program) and `days.rs` (the generator of test days).
@@ -8,7 +8,7 @@
 
 use std::cmp::Reverse;
 
-/// Limit and resting prices, in cents.
+/// Limits, away quotes and resting prices, in cents.
 pub const MIN_PRICE: u32 = 100;
 pub const MAX_PRICE: u32 = 200_000;
 pub const MAX_SHARES: u32 = 1_000_000;
@@ -63,6 +63,42 @@ pub enum Reason {
     Close = 7,
 }
 
+/// A price in half cents, as records and event lines count it. The prices of commands and away
+/// quotes are whole cents, bare numbers, so neither can be taken for the other.
+#[derive(Clone, Copy, PartialEq, Eq, PartialOrd, Ord, Debug)]
+pub struct HalfCents(u32);
+
+impl HalfCents {
+    const MIN: HalfCents = HalfCents::from_cents(MIN_PRICE);
+    const MAX: HalfCents = HalfCents::from_cents(MAX_PRICE);
+
+    pub const fn from_cents(cents: u32) -> HalfCents {
+        HalfCents(2 * cents)
+    }
+
+    /// The whole cents of a price that orders rest at.
+    #[allow(dead_code)] // the generator needs it, the program does not
+    pub fn cents(self) -> u32 {
+        debug_assert!(self.0 & 1 == 0, "orders rest at whole cents");
+        self.0 / 2
+    }
+
+    /// Half a cent more aggressive: higher for a buy, lower for a sell.
+    fn half_cent_beyond<const BUY: bool>(self) -> HalfCents {
+        HalfCents(if BUY { self.0 + 1 } else { self.0 - 1 })
+    }
+
+    /// One cent less aggressive: lower for a buy, higher for a sell.
+    fn cent_short<const BUY: bool>(self) -> HalfCents {
+        HalfCents(if BUY { self.0 - 2 } else { self.0 + 2 })
+    }
+}
+
+/// An away price in half cents, if there is one.
+fn away_price(cents: u32) -> Option<HalfCents> {
+    (cents != 0).then(|| HalfCents::from_cents(cents))
+}
+
 /// A command carries a number, a time and one of four bodies.
 #[derive(Clone, Copy)]
 pub struct Command {
@@ -84,6 +120,7 @@ pub enum Body {
 pub struct Order {
     pub side: u8,
     pub word: u16,
+    /// In cents.
     pub price: u32,
     pub shares: u32,
     /// Kind 05 has one, kind 01 has none.
@@ -96,7 +133,8 @@ pub struct Resting {
     rank: u64,
     /// The number of the command that entered it.
     pub number: u32,
-    pub price: u32,
+    /// Always whole cents.
+    pub price: HalfCents,
     /// The shares that stand at its rank: of an order with reserve the shown part, of any
     /// other all. Never 0 between commands.
     pub shown: u32,
@@ -128,11 +166,12 @@ struct Stamp {
 const PLACE_BITS: u32 = 10;
 const STAMP_BITS: u32 = PLACE_BITS + 32;
 const _: () = assert!(2 * PLACES < 1 << PLACE_BITS, "the moves of one quote must fit the place");
+const _: () = assert!((HalfCents::MAX.0 as u64) < 1 << (63 - STAMP_BITS), "a price must fit the rank");
 
 pub struct Book {
     pub last_number: u32,
     pub last_time: u32,
-    /// Best away prices, 0 for none.
+    /// Best away prices in cents, 0 for none.
     pub away_bid: u32,
     pub away_offer: u32,
     pub open: bool,
@@ -175,8 +214,8 @@ impl Book {
                 self.away_bid = bid;
                 self.away_offer = offer;
                 let mut stamp = Stamp { command: command.number, place: 0 };
-                move_hidden::<true>(&mut self.buys, offer, &mut stamp, events);
-                move_hidden::<false>(&mut self.sells, bid, &mut stamp, events);
+                move_hidden::<true>(&mut self.buys, away_price(offer), &mut stamp, events);
+                move_hidden::<false>(&mut self.sells, away_price(bid), &mut stamp, events);
             }
             Body::Close => self.close(events),
         }
@@ -211,30 +250,35 @@ impl Book {
         order: &Order,
         events: &mut Vec<u8>,
     ) -> Result<(), Refusal> {
-        // The Locking Price is the away offer for a buy, the away bid for a sell; 0 for none.
+        // The Locking Price is the away offer for a buy, the away bid for a sell.
         let (own, opposite, locking) = if BUY {
-            (&mut self.buys, &mut self.sells, self.away_offer)
+            (&mut self.buys, &mut self.sells, away_price(self.away_offer))
         } else {
-            (&mut self.sells, &mut self.buys, self.away_bid)
+            (&mut self.sells, &mut self.buys, away_price(self.away_bid))
         };
         let word = order.word;
         let limit = match (word & MARKET != 0, BUY) {
-            (false, _) => order.price,
-            (true, true) => MAX_PRICE,
-            (true, false) => MIN_PRICE,
+            (false, _) => HalfCents::from_cents(order.price),
+            // Past every price an execution can have, also those half a cent outside the range.
+            (true, true) => HalfCents(u32::MAX),
+            (true, false) => HalfCents(0),
         };
 
         // 1. The walk, for its remainder alone. It ends at the first order it may not touch. Both
         //    holdings of an order stand at one price, so neither is barred where the other is not.
         let mut remainder = order.shares;
+        let mut lock = None;
         if word & POST_ONLY == 0 {
-            let bound = match (locking == 0 || word & ISO != 0, BUY) {
-                (true, _) => limit,
-                (false, true) => limit.min(locking),
-                (false, false) => limit.max(locking),
+            let bound = match (locking, BUY) {
+                (Some(locking), true) if word & ISO == 0 => limit.min(locking),
+                (Some(locking), false) if word & ISO == 0 => limit.max(locking),
+                _ => limit,
             };
+            lock = lock_price::<BUY>(own, opposite);
+            // Where the lock bars it, it reaches nothing behind either: that is a cent further.
+            let barred = lock.is_some_and(|price| !reaches::<BUY>(bound, price));
             for resting in opposite.iter().rev() {
-                if remainder == 0 || !reaches::<BUY>(bound, resting.price) {
+                if remainder == 0 || barred || !reaches::<BUY>(bound, resting.price) {
                     break;
                 }
                 remainder -= remainder.min(resting.shares());
@@ -242,7 +286,7 @@ impl Book {
         }
 
         // What becomes of the remainder: the price at which it rests, or the reason of its cancel.
-        let mut fate = Ok(0);
+        let mut fate = Ok(limit);
         if remainder > 0 {
             if word & FOK != 0 {
                 // 2. Nothing executes and the whole order is cancelled.
@@ -256,9 +300,8 @@ impl Book {
                 // 4. A Day remainder seeks its price.
                 fate = resting_price::<BUY>(limit, word, locking);
                 if let Ok(price) = fate {
-                    let best = opposite.last();
-                    if word & POST_ONLY != 0 && best.is_some_and(|best| reaches::<BUY>(price, best.price)) {
-                        // 5. Post Only equals or passes an opposite resting price.
+                    if word & POST_ONLY != 0 && meets::<BUY>(price, opposite) {
+                        // 5. Post Only meets a displayed order or would pass a hidden one.
                         fate = Err(Reason::PostOnlyMeets);
                     } else if own.len() == PLACES {
                         return Err(Refusal::SideFull);
@@ -269,7 +312,7 @@ impl Book {
 
         // Executions come first, then at most one rested or cancelled line, then the refills.
         let executed = order.shares - remainder;
-        let due = if executed > 0 { execute(opposite, number, executed, events) } else { 0 };
+        let due = if executed > 0 { execute(opposite, lock, number, executed, events) } else { 0 };
         if remainder > 0 {
             match fate {
                 Ok(price) => {
@@ -320,14 +363,31 @@ impl Book {
 
 /// Whether an incoming order that goes as far as `bound` may meet `price`:
 /// a buy meets prices at or below it, a sell prices at or above it.
-fn reaches<const BUY: bool>(bound: u32, price: u32) -> bool {
+fn reaches<const BUY: bool>(bound: HalfCents, price: HalfCents) -> bool {
     if BUY { price <= bound } else { price >= bound }
+}
+
+/// If a displayed order of the incoming order's own side locks hidden ones of the opposite side:
+/// the price at which those execute, half a cent beyond their own. Nothing crosses, so a lock is at
+/// the best price of both sides; displayed ranks before hidden and never meets displayed, so it
+/// shows in the best order of each, and all of the opposite side at that price are hidden.
+fn lock_price<const BUY: bool>(own: &[Resting], opposite: &[Resting]) -> Option<HalfCents> {
+    let (own, opposite) = (own.last()?, opposite.last()?);
+    (own.price == opposite.price && !own.hidden).then(|| opposite.price.half_cent_beyond::<BUY>())
+}
+
+/// Whether Post Only at that price meets a displayed order of the opposite side, at it or past it,
+/// or would pass a hidden one. At one price displayed ranks first, so the best order tells.
+fn meets<const BUY: bool>(price: HalfCents, opposite: &[Resting]) -> bool {
+    opposite.last().is_some_and(|best| {
+        reaches::<BUY>(price, best.price) && (price != best.price || !best.hidden)
+    })
 }
 
 /// Better price first (higher buy, lower sell); at one price displayed before
 /// non-displayed; then lower stamp.
-fn rank<const BUY: bool>(price: u32, hidden: bool, stamp: Stamp) -> u64 {
-    let distance = if BUY { MAX_PRICE - price } else { price };
+fn rank<const BUY: bool>(price: HalfCents, hidden: bool, stamp: Stamp) -> u64 {
+    let distance = if BUY { HalfCents::MAX.0 - price.0 } else { price.0 };
     with_stamp((distance as u64) << (STAMP_BITS + 1) | (hidden as u64) << STAMP_BITS, stamp)
 }
 
@@ -346,14 +406,22 @@ fn put_in(side: &mut Vec<Resting>, order: Resting) {
 }
 
 /// Executes `left` shares, which the walk found there: price after price, shown parts and hidden
-/// orders by rank and then the reserves in the same order, a line for each holding that gives.
+/// orders by rank and then the reserves in the same order, a line for each holding that gives. The
+/// best price executes at that of the lock, if there is one, and every other at itself.
 /// Orders taken whole leave. Gives how many of the others have their shown part used up: a refill
 /// is due to each, and they are the best of the side.
-fn execute(side: &mut Vec<Resting>, incoming: u32, mut left: u32, events: &mut Vec<u8>) -> usize {
+fn execute(
+    side: &mut Vec<Resting>,
+    mut lock: Option<HalfCents>,
+    incoming: u32,
+    mut left: u32,
+    events: &mut Vec<u8>,
+) -> usize {
     let mut due = 0;
     while left > 0 {
         let end = side.len();
         let price = side[end - 1].price;
+        let true_price = lock.take().unwrap_or(price);
         // The orders met at this price are those from `met` on.
         let mut met = end;
         let mut reserve = 0;
@@ -364,7 +432,7 @@ fn execute(side: &mut Vec<Resting>, incoming: u32, mut left: u32, events: &mut V
             left -= given;
             resting.shown -= given;
             reserve += resting.reserve;
-            write_execution(events, incoming, resting.number, price, given);
+            write_execution(events, incoming, resting.number, true_price, given);
         }
         if reserve > 0 {
             for resting in side[met..].iter_mut().rev() {
@@ -372,7 +440,7 @@ fn execute(side: &mut Vec<Resting>, incoming: u32, mut left: u32, events: &mut V
                 if given > 0 {
                     left -= given;
                     resting.reserve -= given;
-                    write_execution(events, incoming, resting.number, price, given);
+                    write_execution(events, incoming, resting.number, true_price, given);
                 }
             }
         }
@@ -405,18 +473,16 @@ fn refill(side: &mut Vec<Resting>, due: usize, command: u32, events: &mut Vec<u8
     }
 }
 
-/// A quote and one side: each hidden order that would now cross the Locking Price (0 for
-/// none) is set at it with the next stamp, or cancelled if it is Cancel Back, in the order
-/// of their ranks. Displayed orders stay, so none with a reserve is moved.
+/// A quote and one side: each hidden order that would now cross the Locking Price, if there is
+/// one, is set at it with the next stamp, or cancelled if it is Cancel Back, in the order of their
+/// ranks. Displayed orders stay, so none with a reserve is moved.
 fn move_hidden<const BUY: bool>(
     side: &mut Vec<Resting>,
-    locking: u32,
+    locking: Option<HalfCents>,
     stamp: &mut Stamp,
     events: &mut Vec<u8>,
 ) {
-    if locking == 0 {
-        return;
-    }
+    let Some(locking) = locking else { return };
     let mut changed = false;
     for resting in side.iter_mut().rev() {
         if resting.price == locking || !reaches::<BUY>(resting.price, locking) {
@@ -443,8 +509,13 @@ fn move_hidden<const BUY: bool>(
 }
 
 /// Step 4: the price a Day remainder rests at, or the reason why it is cancelled.
-fn resting_price<const BUY: bool>(limit: u32, word: u16, locking: u32) -> Result<u32, Reason> {
-    if word & ISO != 0 || locking == 0 || !reaches::<BUY>(limit, locking) {
+fn resting_price<const BUY: bool>(
+    limit: HalfCents,
+    word: u16,
+    locking: Option<HalfCents>,
+) -> Result<HalfCents, Reason> {
+    let Some(locking) = locking else { return Ok(limit) };
+    if word & ISO != 0 || !reaches::<BUY>(limit, locking) {
         return Ok(limit);
     }
     // At its limit it would lock or cross the away price; Non-Displayed may lock.
@@ -455,20 +526,18 @@ fn resting_price<const BUY: bool>(limit: u32, word: u16, locking: u32) -> Result
     if word & CANCEL_BACK != 0 {
         return Err(Reason::CancelBack);
     }
-    let adjusted = match (displayed, BUY) {
-        (true, true) => locking - 1,
-        (true, false) => locking + 1,
-        (false, _) => locking,
-    };
-    if is_price(adjusted) { Ok(adjusted) } else { Err(Reason::NoPriceInRange) }
+    let adjusted = if displayed { locking.cent_short::<BUY>() } else { locking };
+    let in_range = (HalfCents::MIN..=HalfCents::MAX).contains(&adjusted);
+    if in_range { Ok(adjusted) } else { Err(Reason::NoPriceInRange) }
 }
 
-fn is_price(price: u32) -> bool {
-    (MIN_PRICE..=MAX_PRICE).contains(&price)
+/// Of a limit, in cents.
+fn is_price(cents: u32) -> bool {
+    (MIN_PRICE..=MAX_PRICE).contains(&cents)
 }
 
-fn is_away_price(price: u32) -> bool {
-    price == 0 || is_price(price)
+fn is_away_price(cents: u32) -> bool {
+    cents == 0 || is_price(cents)
 }
 
 /// Refusals 8 and 9 of an order.
@@ -591,31 +660,31 @@ fn field_digits(value: u32) -> [u8; 8] {
 }
 
 #[inline]
-fn write_execution(events: &mut Vec<u8>, incoming: u32, resting: u32, price: u32, shares: u32) {
+fn write_execution(events: &mut Vec<u8>, incoming: u32, resting: u32, price: HalfCents, shares: u32) {
     let mut line = *b"11--------------------------------\n";
     line[2..10].copy_from_slice(&field_digits(incoming));
     line[10..18].copy_from_slice(&field_digits(resting));
-    line[18..26].copy_from_slice(&field_digits(price));
+    line[18..26].copy_from_slice(&field_digits(price.0));
     line[26..34].copy_from_slice(&field_digits(shares));
     events.extend_from_slice(&line);
 }
 
 #[inline]
-fn write_rested(events: &mut Vec<u8>, number: u32, price: u32, shares: u32) {
+fn write_rested(events: &mut Vec<u8>, number: u32, price: HalfCents, shares: u32) {
     write_price_and_shares(events, *b"12", number, price, shares);
 }
 
 #[inline]
-fn write_moved(events: &mut Vec<u8>, number: u32, price: u32, shares: u32) {
+fn write_moved(events: &mut Vec<u8>, number: u32, price: HalfCents, shares: u32) {
     write_price_and_shares(events, *b"14", number, price, shares);
 }
 
 #[inline]
-fn write_price_and_shares(events: &mut Vec<u8>, kind: [u8; 2], number: u32, price: u32, shares: u32) {
+fn write_price_and_shares(events: &mut Vec<u8>, kind: [u8; 2], number: u32, price: HalfCents, shares: u32) {
     let mut line = *b"--------------------------\n";
     line[..2].copy_from_slice(&kind);
     line[2..10].copy_from_slice(&field_digits(number));
-    line[10..18].copy_from_slice(&field_digits(price));
+    line[10..18].copy_from_slice(&field_digits(price.0));
     line[18..26].copy_from_slice(&field_digits(shares));
     events.extend_from_slice(&line);
 }

@@ -16,6 +16,10 @@
 //!   reserve   orders with reserve, hidden and displayed ones at few prices, on some stretches full
 //!             sides of them, and orders that end at or beside each edge of the walk over their
 //!             holdings, so that refills come all the time
+//!   locks     displayed Post Only at the price of hidden orders, on either side, and before long
+//!             orders against them at the lock, one cent beyond it and further, away quotes at it
+//!             and beside it, orders that join it and cancels that end it; prices are often at the
+//!             ends of the range, so executions come half a cent outside it; seldom, full sides
 //!   short     a few lines (at most 12, and at most LINES) of one of the kinds above
 //! The last line is the close in all but the nasty days.
 //!
@@ -53,7 +57,7 @@ fn main() -> ExitCode {
     let arguments: Vec<String> = std::env::args().skip(1).collect();
     let Some((kind, seed, lines)) = read_arguments(&arguments) else {
         eprintln!("usage: days plain SEED LINES [DEPTH]");
-        eprintln!("       days nasty|full|crossing|moving|reserve|short SEED LINES");
+        eprintln!("       days nasty|full|crossing|moving|reserve|locks|short SEED LINES");
         eprintln!("DEPTH is 1 to {PLACES}, or else {DEPTH}.");
         return ExitCode::from(2);
     };
@@ -76,6 +80,7 @@ enum Kind {
     Crossing,
     Moving,
     Reserve,
+    Locks,
     Short,
 }
 
@@ -89,6 +94,7 @@ fn read_arguments(arguments: &[String]) -> Option<(Kind, u64, u64)> {
         ("crossing", []) => Kind::Crossing,
         ("moving", []) => Kind::Moving,
         ("reserve", []) => Kind::Reserve,
+        ("locks", []) => Kind::Locks,
         ("short", []) => Kind::Short,
         _ => return None,
     };
@@ -109,6 +115,9 @@ fn print_day(kind: Kind, seed: u64, lines: u64, output: &mut impl Write) -> io::
                 Kind::Moving,
                 Kind::Reserve,
                 Kind::Reserve,
+                Kind::Locks,
+                Kind::Locks,
+                Kind::Locks,
             ];
             (random.pick(&kinds), random.below(13).min(lines))
         }
@@ -124,7 +133,8 @@ fn print_day(kind: Kind, seed: u64, lines: u64, output: &mut impl Write) -> io::
             Kind::Full => day.full_line(),
             Kind::Crossing => day.crossing_line(),
             Kind::Moving => day.moving_line(),
-            Kind::Reserve | Kind::Short => day.reserve_line(),
+            Kind::Reserve => day.reserve_line(),
+            Kind::Locks | Kind::Short => day.locks_line(),
         };
         output.write_all(&line)?;
         // A refused command changes nothing and leaves its number free: the next line takes it.
@@ -175,14 +185,18 @@ struct Day {
     /// Nasty: the place of the close (none if past the day), and whether the last line feed is missing.
     close_at: u64,
     cut_end: bool,
-    /// Full and reserve: the number of orders that each side is held at, changed now and then.
+    /// Full, reserve and locks: the number of orders that each side is held at, changed now and then.
     hold: usize,
     /// Full and reserve: the number of prices that orders come at, changed with it.
     prices: u32,
-    /// Reserve: the place of the next such change.
+    /// Reserve and locks: the place of the next such change.
     change_at: u64,
     /// Whether only orders come that rest, until enough do.
     filling: bool,
+    /// Locks: the side whose orders are hidden until the other one locks them.
+    locked_side: u8,
+    /// Locks: whether both sides are being swept, until nothing rests.
+    sweeping: bool,
     /// Moving: the next step to a quote that moves both full sides, if one is under way.
     whole: Option<Whole>,
 }
@@ -221,6 +235,8 @@ impl Day {
             prices: 30,
             change_at: 0,
             filling: false,
+            locked_side: BUY,
+            sweeping: false,
             whole: None,
         }
     }
@@ -308,8 +324,17 @@ impl Day {
         if side == BUY { &self.book.buys } else { &self.book.sells }
     }
 
+    /// The best price of a side, in cents.
     fn best(&self, side: u8) -> Option<u32> {
-        self.side(side).last().map(|resting| resting.price)
+        self.side(side).last().map(|resting| resting.price.cents())
+    }
+
+    /// Whether displayed orders of that side lock hidden ones of the other.
+    fn locks(&self, side: u8) -> bool {
+        match (self.side(side).last(), self.side(1 - side).last()) {
+            (Some(own), Some(opposite)) => own.price == opposite.price && !own.hidden,
+            _ => false,
+        }
     }
 
     /// The away price that orders of that side may not cross, 0 for none.
@@ -326,15 +351,20 @@ impl Day {
         self.passive(1 - side, steps)
     }
 
-    /// The shares that an order which isn't ISO would find up to its limit.
-    fn fillable(&self, side: u8, limit: u32) -> u32 {
+    /// The shares that an order of that word would find up to its limit.
+    fn fillable(&self, side: u8, word: u16, limit: u32) -> u32 {
+        let locking = if word & ISO != 0 { 0 } else { self.locking(side) };
+        let locked = if self.locks(side) { self.best(1 - side) } else { None };
         let reached = |resting: &&Resting| {
-            let price = resting.price;
-            if side == BUY {
-                price <= limit && (self.book.away_offer == 0 || price <= self.book.away_offer)
-            } else {
-                price >= limit && price >= self.book.away_bid
-            }
+            let price = resting.price.cents();
+            // At a lock it executes half a cent further on, so its bounds must lie past the lock.
+            let is_within = |bound: u32| match (side, Some(price) == locked) {
+                (BUY, false) => price <= bound,
+                (BUY, true) => price < bound,
+                (_, false) => price >= bound,
+                (_, true) => price > bound,
+            };
+            (word & MARKET != 0 || is_within(limit)) && (locking == 0 || is_within(locking))
         };
         self.side(1 - side).iter().filter(reached).map(|resting| resting.shares()).sum()
     }
@@ -343,7 +373,7 @@ impl Day {
     fn opposite_price(&mut self, side: u8) -> u32 {
         let count = self.side(1 - side).len() as u64;
         let place = self.random.below(count.max(1)) as usize;
-        self.side(1 - side).get(place).map_or(self.middle, |resting| resting.price)
+        self.side(1 - side).get(place).map_or(self.middle, |resting| resting.price.cents())
     }
 
     // Filling sides: 256 places would seldom be taken by orders that come by chance.
@@ -369,9 +399,13 @@ impl Day {
         if locking != 0 {
             return Some(self.quote(0, 0));
         }
-        let best = self.best(1 - side)?;
-        let is_met = if side == BUY { best <= middle } else { best >= middle };
-        is_met.then(|| self.order(side, TAKER | ISO, middle, MAX_SHARES))
+        // Their shares and no more, and a cent beyond the middle, as a lock there bars the middle itself.
+        let is_met = |resting: &&Resting| {
+            let price = resting.price.cents();
+            if side == BUY { price <= middle } else { price >= middle }
+        };
+        let met: u32 = self.side(1 - side).iter().filter(is_met).map(|resting| resting.shares()).sum();
+        (met > 0).then(|| self.order(side, TAKER | ISO, self.aggressive(side, 1), met))
     }
 
     // Plain days.
@@ -762,10 +796,10 @@ impl Day {
                 // Filled whole, just not filled whole, and with a remainder at the best opposite price.
                 45..=69 => {
                     let limit = self.best(1 - side).unwrap_or(passive);
-                    let found = self.fillable(side, limit);
+                    let word = self.random.pick(&[ORDINARY, ORDINARY, word, TAKER, KILLER]);
+                    let found = self.fillable(side, word, limit);
                     let edges = [1, found, found, found + 1, found.saturating_sub(1), found + 500];
                     let shares = self.random.pick(&edges);
-                    let word = self.random.pick(&[ORDINARY, ORDINARY, word, TAKER, KILLER]);
                     self.order(side, word, limit, shares)
                 }
                 // Post Only that meets, or Price Adjust and Cancel Back against the away price.
@@ -842,16 +876,11 @@ impl Day {
             },
             70..=79 => {
                 // Fill-or-Kill, just fillable and just not.
-                let market = if self.random.percent(25) { MARKET } else { 0 };
+                let word = if self.random.percent(25) { KILLER | MARKET } else { KILLER };
                 let limit = self.opposite_price(side);
-                let bound = match (market != 0, side) {
-                    (false, _) => limit,
-                    (true, BUY) => MAX_PRICE,
-                    (true, _) => MIN_PRICE,
-                };
-                let found = self.fillable(side, bound);
+                let found = self.fillable(side, word, limit);
                 let shares = self.random.pick(&[found, found, found + 1, found.saturating_sub(1)]);
-                self.order(side, KILLER | market, limit, shares)
+                self.order(side, word, limit, shares)
             }
             80..=86 => {
                 // Post Only at, one before and one past a price of the opposite side.
@@ -878,7 +907,7 @@ impl Day {
                 ];
                 let word = self.random.pick(&words);
                 let limit = self.opposite_price(side);
-                let found = self.fillable(side, limit);
+                let found = self.fillable(side, word, limit);
                 let large = self.random.between(100, 2000);
                 let shares = self.random.pick(&[large, large, found, found + 1, MAX_SHARES]);
                 self.order(side, word, limit, shares)
@@ -1114,7 +1143,7 @@ impl Day {
     fn reserve_taker(&mut self, side: u8) -> Command {
         let Some(best) = self.best(1 - side) else { return self.reserve_maker(1 - side) };
         let ranked = self.side(1 - side).iter().rev().copied();
-        let at_best: Vec<Resting> = ranked.take_while(|resting| resting.price == best).collect();
+        let at_best: Vec<Resting> = ranked.take_while(|resting| resting.price.cents() == best).collect();
         let sum = |hidden: bool| -> u32 {
             at_best.iter().filter(|resting| resting.hidden == hidden).map(|resting| resting.shown).sum()
         };
@@ -1140,9 +1169,15 @@ impl Day {
         let edge = self.random.pick(&edges);
         let shares = self.random.pick(&[edge.saturating_sub(1), edge, edge, edge + 1]);
         let through = self.random.below(20) == 0;
-        let worst = self.side(1 - side)[0].price;
+        let worst = self.side(1 - side)[0].price.cents();
         let limit = if through { worst } else { best };
-        let shares = if through { self.fillable(side, limit) + self.random.between(0, 1) } else { shares };
+        // Past a lock, mostly: at it nothing would execute.
+        let past = self.locks(side) && !through && self.random.percent(75);
+        let limit = match (past, side) {
+            (false, _) => limit,
+            (true, BUY) => limit + 1,
+            (true, _) => limit - 1,
+        };
         let words = [
             TAKER,
             TAKER,
@@ -1157,6 +1192,230 @@ impl Day {
             HIDDEN_BACK | ISO,
         ];
         let word = self.random.pick(&words);
+        let all = self.fillable(side, word, limit) + self.random.between(0, 1);
+        let shares = if through { all } else { shares };
+        self.order(side, word, limit, shares)
+    }
+
+    // Locks days.
+
+    fn locks_line(&mut self) -> Vec<u8> {
+        if self.printed >= self.change_at {
+            // Another price; the orders left at the last one are swept first, mostly.
+            let end = self.random.pick(&[MIN_PRICE, MIN_PRICE + 1, MAX_PRICE - 1, MAX_PRICE]);
+            self.middle = self.random.pick(&[1500, 1500, 3000, end, end]);
+            self.locked_side = self.any_side();
+            self.filling = self.lines > 2 * PLACES as u64 && self.random.below(50) == 0;
+            self.sweeping = self.filling || self.random.percent(85);
+            self.hold = if self.filling { PLACES } else { self.random.pick(&[1, 2, 3, 4, 8]) };
+            let stretch = if self.filling { 900 } else { self.random.between(10, 120) };
+            self.change_at = self.printed + stretch as u64;
+        }
+        if self.sweeping {
+            if let Some(sweep) = self.sweep() {
+                return write_command(&sweep);
+            }
+            self.sweeping = false;
+        }
+        let command = match [BUY, SELL].into_iter().find(|&side| self.locks(side)) {
+            Some(locker) if self.filling => self.join(locker),
+            Some(locker) => self.about_the_lock(locker),
+            None => self.about_no_lock(),
+        };
+        write_command(&command)
+    }
+
+    /// What ends the away quote and then all resting orders, as long as there is any of them.
+    fn sweep(&mut self) -> Option<Command> {
+        if self.is_quoted() {
+            return Some(self.quote(0, 0));
+        }
+        let side = [BUY, SELL].into_iter().find(|&side| !self.side(1 - side).is_empty())?;
+        let word = self.random.pick(&[TAKER | MARKET, KILLER | MARKET]);
+        let shares = self.fillable(side, word, 0);
+        Some(self.order(side, word, 0, shares))
+    }
+
+    fn is_quoted(&self) -> bool {
+        (self.book.away_bid, self.book.away_offer) != (0, 0)
+    }
+
+    fn about_no_lock(&mut self) -> Command {
+        let side = self.any_side();
+        match self.random.below(100) {
+            _ if self.filling => self.step_to_a_lock(),
+            0..=69 => self.step_to_a_lock(),
+            70..=79 => self.behind(side),
+            80..=87 => self.quote_beside(self.middle),
+            88..=92 => match self.cancel(side) {
+                Some(cancel) => cancel,
+                None => self.behind(side),
+            },
+            _ => {
+                let price = self.best(1 - side).unwrap_or(self.middle);
+                self.lock_taker(side, price)
+            }
+        }
+    }
+
+    /// Hidden orders on one side, as many as are held at once, and then Post Only from the other.
+    fn step_to_a_lock(&mut self) -> Command {
+        if self.is_quoted() && (self.filling || self.random.percent(70)) {
+            return self.quote(0, 0);
+        }
+        if let Some(price) = self.best(BUY).filter(|_| self.best(BUY) == self.best(SELL)) {
+            // Hidden meets hidden, left by a lock that ended: either side may lock the other.
+            let side = self.any_side();
+            return self.post_only(side, price);
+        }
+        let hidden_side = self.locked_side;
+        let beside = self.middle - 1 + self.random.between(0, 2);
+        let price = if self.filling || self.random.percent(75) { self.middle } else { beside };
+        if let Some(&best) = self.side(hidden_side).last() {
+            let best_price = best.price.cents();
+            let is_better = if hidden_side == BUY { price > best_price } else { price < best_price };
+            if best.hidden {
+                let at_best = self.side(hidden_side).iter().filter(|resting| resting.price == best.price);
+                if at_best.count() >= self.hold || (!self.filling && self.random.percent(30)) {
+                    return self.post_only(1 - hidden_side, best_price);
+                }
+            } else if !is_better {
+                // A displayed order stands where hidden ones are to be first.
+                return self.command(Body::Cancel { order: best.number });
+            }
+        }
+        let word = self.random.pick(&[HIDDEN, HIDDEN, HIDDEN, HIDDEN_BACK, HIDDEN | ISO]);
+        let shares = self.random.between(1, 40);
+        self.order(hidden_side, word, price, shares)
+    }
+
+    fn post_only(&mut self, side: u8, price: u32) -> Command {
+        let choices = [PRICE_ADJUST, PRICE_ADJUST, CANCEL_BACK, PRICE_ADJUST | RESERVE];
+        let word = DAY | DISPLAYED | POST_ONLY | self.random.pick(&choices);
+        let shares = self.random.between(1, 40);
+        self.order(side, word, price, shares)
+    }
+
+    /// An order of any kind one to four cents behind the middle, for the walks that go on.
+    fn behind(&mut self, side: u8) -> Command {
+        let steps = self.random.between(1, 4);
+        let price = self.passive(side, steps);
+        let words = [ORDINARY, ORDINARY, HIDDEN, HIDDEN_BACK, RESERVED, RESERVED, ORDINARY | POST_ONLY];
+        let word = self.random.pick(&words);
+        let shares = self.random.between(1, 40);
+        self.order(side, word, price, shares)
+    }
+
+    /// Away prices at that price, one or two cents to either side of it, or none.
+    fn quote_beside(&mut self, price: u32) -> Command {
+        let mut away = || match self.random.below(8) {
+            0..=2 => 0,
+            choice => price + choice as u32 - 5,
+        };
+        let (bid, offer) = (away(), away());
+        self.quote(bid, offer)
+    }
+
+    /// A command while displayed orders of that side lock hidden ones of the other.
+    fn about_the_lock(&mut self, locker: u8) -> Command {
+        let price = self.best(locker).expect("its best order locks");
+        match self.random.below(100) {
+            // A remainder would rest where no place is left: refused, and nothing executes.
+            0..=19 if self.side(locker).len() == PLACES => {
+                let word = self.random.pick(&[ORDINARY, HIDDEN, RESERVED, ORDINARY | ISO]);
+                let limit = if locker == BUY { price + 1 } else { price - 1 };
+                let shares = self.fillable(locker, word, limit) + 1;
+                self.order(locker, word, limit, shares)
+            }
+            0..=36 => self.lock_taker(locker, price),
+            37..=49 => self.lock_taker(1 - locker, price),
+            50..=58 => self.join(locker),
+            59..=70 => self.quote_beside(price),
+            71..=73 if self.is_quoted() => self.quote(0, 0),
+            71..=79 => self.behind(1 - locker),
+            80..=82 => self.behind(locker),
+            83..=89 => {
+                // A locking order; with the last of them the lock goes.
+                let is_locking = |resting: &&Resting| resting.price.cents() == price && !resting.hidden;
+                let locking: Vec<u32> =
+                    self.side(locker).iter().filter(is_locking).map(|resting| resting.number).collect();
+                let order = self.random.pick(&locking);
+                self.command(Body::Cancel { order })
+            }
+            90..=93 => {
+                let side = self.any_side();
+                self.cancel(side).expect("both sides of a lock have orders")
+            }
+            // At the lock, or a cent to either side of it: from its own side it joins, passes a hidden
+            // order or stays behind, from the other it meets the displayed one or stays behind.
+            _ => {
+                let side = self.any_side();
+                let beside = price - 1 + self.random.between(0, 2);
+                self.post_only(side, beside)
+            }
+        }
+    }
+
+    /// An order at the lock from the side of the displayed ones: barred, so it rests there or cancels.
+    fn join(&mut self, locker: u8) -> Command {
+        if self.filling && self.side(locker).len() == PLACES {
+            // Both sides are full: this last one is refused, and from here on locks are small.
+            self.filling = false;
+            self.hold = 6;
+        }
+        let words = [
+            ORDINARY,
+            ORDINARY | POST_ONLY,
+            ORDINARY | ISO,
+            DAY | DISPLAYED | CANCEL_BACK,
+            RESERVED,
+            RESERVED | POST_ONLY,
+            HIDDEN,
+            HIDDEN,
+            HIDDEN_BACK,
+            HIDDEN | ISO,
+        ];
+        let word = self.random.pick(&words);
+        let price = self.best(locker).expect("its best order locks");
+        let shares = self.random.between(1, 40);
+        self.order(locker, word, price, shares)
+    }
+
+    /// An order into the other side at that price, one cent beyond it, further on, or market; of all
+    /// it finds, one more, one less, what stands at the best price, or a few.
+    fn lock_taker(&mut self, side: u8, price: u32) -> Command {
+        let words = [
+            TAKER,
+            TAKER,
+            TAKER | ISO,
+            IOC | NON_DISPLAYED | CANCEL_BACK,
+            KILLER,
+            KILLER,
+            ORDINARY,
+            ORDINARY | ISO,
+            DAY | DISPLAYED | CANCEL_BACK,
+            HIDDEN,
+            HIDDEN | ISO,
+            HIDDEN_BACK,
+            RESERVED,
+        ];
+        // Past the ends of the range only market orders go.
+        let end = if side == BUY { MAX_PRICE } else { MIN_PRICE };
+        let word = if self.random.percent(if price == end { 60 } else { 20 }) {
+            self.random.pick(&[TAKER, KILLER, IOC | NON_DISPLAYED | CANCEL_BACK]) | MARKET
+        } else {
+            self.random.pick(&words)
+        };
+        let further = self.random.between(2, 5);
+        let beyond = self.random.pick(&[0, 0, 1, 1, 1, further]);
+        let limit = if side == BUY { price + beyond } else { price - beyond };
+        let found = self.fillable(side, word, limit);
+        let best = self.side(1 - side).last().map(|best| best.price);
+        let at_best = self.side(1 - side).iter().filter(|resting| Some(resting.price) == best);
+        let at_best: u32 = at_best.map(|resting| resting.shares()).sum();
+        let few = self.random.between(1, 20);
+        let sizes = [few, few, few, found, found + 1, found.saturating_sub(1), at_best, at_best + 1];
+        let shares = self.random.pick(&sizes);
         self.order(side, word, limit, shares)
     }
 }

@@ -19,10 +19,11 @@ def reserve(n, side, shares, price, floor): return '05' + order(n, side, price, 
 def cancel(n, num, t=T0): return '02' + h(n, 4) + h(t, 4) + h(num, 4)
 def quote(n, bid, offer, t=T0): return '03' + h(n, 4) + h(t, 4) + h(bid, 4) + h(offer, 4)
 def close(n, t=T0): return '04' + h(n, 4) + h(t, 4)
-# what comes out
-def X(inc, rest, shares, price): return '11' + h(inc, 4) + h(rest, 4) + h(price, 4) + h(shares, 4)
-def R(n, shares, price): return '12' + h(n, 4) + h(price, 4) + h(shares, 4)
-def M(n, shares, price): return '14' + h(n, 4) + h(price, 4) + h(shares, 4)
+# what comes out; prices are said in cents here too, and the lines count half cents (02, W6)
+def half_cents(price): return h(int(2 * price), 4)
+def X(inc, rest, shares, price): return '11' + h(inc, 4) + h(rest, 4) + half_cents(price) + h(shares, 4)
+def R(n, shares, price): return '12' + h(n, 4) + half_cents(price) + h(shares, 4)
+def M(n, shares, price): return '14' + h(n, 4) + half_cents(price) + h(shares, 4)
 def K(n, shares, reason): return '13' + h(n, 4) + h(shares, 4) + h(reason, 1)
 def F(no): return '1f' + h(no, 1)
 
@@ -255,7 +256,7 @@ day('quote-prices-99-100-200000-200001-and-0', '"away price neither 0 nor 100 to
 
 # ------------------------------------------------------------------ the walk
 part('The walk and the rank')
-day('execution-is-at-the-resting-price', '"Each execution is at the resting order\'s price" ("Executing at the incoming price")',
+day('execution-is-at-the-resting-price', '"Each execution is at the resting order\'s price" ("Executing at the incoming price"), which W6 keeps where no lock stands',
     'buy at 1005 executes at 1002; sell at 1000 executes at 1004',
     (sell(1, 100, 1002), R(1, 100, 1002)),
     (buy(2, 100, 1005), X(2, 1, 100, 1002)),
@@ -371,26 +372,40 @@ day('fok-on-an-empty-book', '"the whole order is cancelled, reason 3"',
 # ------------------------------------------------------------------ Post Only
 part('Post Only')
 po = STD | PO
-day('post-only-buy-equal-to-the-sell-price', '"Post Only whose price from step 4 equals or passes any opposite resting price" (P9)',
+day('post-only-buy-equal-to-the-sell-price', '"Post Only whose price from step 4 equals or passes any opposite resting price" (P9), which W6 keeps for displayed ones',
     'sell at 1002: Post Only buy at 1001 rests, at 1002 and at 1003 reason 6, nothing executed (the sell still has its 100)',
     (sell(1, 100, 1002), R(1, 100, 1002)),
     (buy(2, 10, 1001, po), R(2, 10, 1001)),
     (buy(3, 10, 1002, po), K(3, 10, 6)),
     (buy(4, 10, 1003, po), K(4, 10, 6)),
     (cancel(5, 1), K(1, 100, 1)))
-day('post-only-sell-equal-to-the-buy-price', '"equals or passes any opposite resting price", selling',
+day('post-only-sell-equal-to-the-buy-price', 'the same, selling',
     'buy at 1002: Post Only sell at 1003 rests, at 1002 and at 1001 reason 6, the buy still has its 100',
     (buy(1, 100, 1002), R(1, 100, 1002)),
     (sell(2, 10, 1003, po), R(2, 10, 1003)),
     (sell(3, 10, 1002, po), K(3, 10, 6)),
     (sell(4, 10, 1001, po), K(4, 10, 6)),
     (cancel(5, 1), K(1, 100, 1)))
-day('post-only-meets-a-non-displayed-order', '"any opposite resting price"',
-    'hidden sell at 1002, displayed sell at 1005: Post Only buy at 1002 reason 6, at 1001 rests',
+day('post-only-meets-a-non-displayed-order', '"reason 6 only if it meets a displayed order or would pass a hidden one" (02, W6)',
+    'hidden sell at 1002, displayed sell at 1005: Post Only buy at 1003 reason 6, at 1002 and at 1001 rests; after a cancel of the hidden sell, at 1004 rests, at 1005 reason 6',
     (sell(1, 10, 1002, DAY | N | PA), R(1, 10, 1002)),
     (sell(2, 10, 1005), R(2, 10, 1005)),
-    (buy(3, 10, 1002, po), K(3, 10, 6)),
-    (buy(4, 10, 1001, po), R(4, 10, 1001)))
+    (buy(3, 10, 1003, po), K(3, 10, 6)),
+    (buy(4, 10, 1002, po), R(4, 10, 1002)),
+    (buy(5, 10, 1001, po), R(5, 10, 1001)),
+    (cancel(6, 1), K(1, 10, 1)),
+    (buy(7, 10, 1004, po), R(7, 10, 1004)),
+    (buy(8, 10, 1005, po), K(8, 10, 6)))
+day('post-only-sell-meets-a-non-displayed-order', 'the same, selling',
+    'hidden buy at 1002, displayed buy at 999: Post Only sell at 1001 reason 6, at 1002 and at 1003 rests; after a cancel of the hidden buy, at 1000 rests, at 999 reason 6',
+    (buy(1, 10, 1002, DAY | N | PA), R(1, 10, 1002)),
+    (buy(2, 10, 999), R(2, 10, 999)),
+    (sell(3, 10, 1001, po), K(3, 10, 6)),
+    (sell(4, 10, 1002, po), R(4, 10, 1002)),
+    (sell(5, 10, 1003, po), R(5, 10, 1003)),
+    (cancel(6, 1), K(1, 10, 1)),
+    (sell(7, 10, 1000, po), R(7, 10, 1000)),
+    (sell(8, 10, 999, po), K(8, 10, 6)))
 day('post-only-tested-at-its-adjusted-price', '"Testing Post Only at its limit and not at its adjusted price" (P10)',
     'sell at 1002, Post Only buys at 1005: away offer 1003 gives 1002, reason 6; 1002 gives 1001, rests; 1004 gives 1003, reason 6',
     (sell(1, 100, 1002), R(1, 100, 1002)),
@@ -423,6 +438,33 @@ day('post-only-with-no-price-in-range', 'step 4 ("reason 5") before step 5',
     (sell(1, 10, 100), R(1, 10, 100)),
     (quote(2, 0, 100),),
     (buy(3, 10, 100, po), K(3, 10, 5)))
+
+# ------------------------------------------------------------------ locks
+part('Locks (02, W6): what the days of `days/w6` leave out')
+day('post-only-where-hidden-meets-hidden', '"may rest at the price of an opposite non-displayed one"; "the hidden order doesn\'t execute at that price": a lock bars those opposite the displayed order, and no other',
+    'hidden buy 1 and hidden sell 3 both at 1000: Post Only buy 5 rests there and a Post Only sell gets reason 6; an IOC buy at 1000 gets reason 2, at 1001 it executes against 3 at 1000.5; an IOC sell at 1000 executes against 5, then 1, at 1000, an IOC buy at 1000 against 3; a Post Only sell then rests there, and an IOC sell at 999 executes against 1 at 999.5',
+    (buy(1, 10, 1000, DAY | N | PA), R(1, 10, 1000)),
+    (sell(2, 10, 1000, po), R(2, 10, 1000)),
+    (sell(3, 10, 1000, DAY | N | PA), R(3, 10, 1000)),
+    (cancel(4, 2), K(2, 10, 1)),
+    (buy(5, 10, 1000, po), R(5, 10, 1000)),
+    (sell(6, 10, 1000, po), K(6, 10, 6)),
+    (buy(7, 5, 1000, IOC | D | PA), K(7, 5, 2)),
+    (buy(8, 4, 1001, IOC | D | PA), X(8, 3, 4, 1000.5)),
+    (sell(9, 15, 1000, IOC | D | PA), X(9, 5, 10, 1000), X(9, 1, 5, 1000)),
+    (buy(10, 3, 1000, IOC | D | PA), X(10, 3, 3, 1000)),
+    (sell(11, 10, 1000, po), R(11, 10, 1000)),
+    (sell(12, 6, 999, IOC | D | PA), X(12, 1, 5, 999.5), K(12, 1, 2)))
+day('remainder-after-half-a-cent-seeks-its-price', '"The away test uses the true execution price"; "A Day remainder seeks its price"',
+    'hidden buy of 100 and Post Only sell at 1000, away bid 999: a sell of 150 at 998 executes 100 at 999.5, its 50 rest at 1000, behind the Post Only one; under a next lock a Cancel Back sell of 40 at 999 executes 30 at 999.5, its last 10 are cancelled, reason 4',
+    (buy(1, 100, 1000, DAY | N | PA), R(1, 100, 1000)),
+    (sell(2, 10, 1000, po), R(2, 10, 1000)),
+    (quote(3, 999, 0),),
+    (sell(4, 150, 998), X(4, 1, 100, 999.5), R(4, 50, 1000)),
+    (buy(5, 60, 1000, IOC | D | PA), X(5, 2, 10, 1000), X(5, 4, 50, 1000)),
+    (buy(6, 30, 1000, DAY | N | PA), R(6, 30, 1000)),
+    (sell(7, 10, 1000, po), R(7, 10, 1000)),
+    (sell(8, 40, 999, DAY | D | CB), X(8, 6, 30, 999.5), K(8, 10, 4)))
 
 # ------------------------------------------------------------------ ISO
 part('Intermarket sweep')
@@ -572,6 +614,19 @@ day('full-side-of-reserves-takes-one-more-after-a-fill', '"Such an order takes o
     (buy(L + 1, 2, 1000), X(L + 1, L, 1, 1000), X(L + 1, L, 1, 1000)),
     (sell(L + 2, 10, 1001), R(L + 2, 10, 1001)),
     (sell(L + 3, 10, 1001), F(11)))
+day('full-side-and-a-hidden-order-opposite', '"Given exactly when ... the rules would rest a remainder", with what rests at a hidden price (02, W6)',
+    '256 buys and a hidden sell of 30 at 1001: a Post Only buy at 1002 reason 6, at 1001 11; after a cancel it rests there and the side is full again; a Day and a Post Only buy at 1001 get 11, an IOC buy reason 2; a Day buy of 31 at 1002 gets 11 and executes nothing, one of 30 executes 30 at 1001.5',
+    *full_buys,
+    (sell(L + 1, 30, 1001, DAY | N | PA), R(L + 1, 30, 1001)),
+    (buy(L + 2, 5, 1002, po), K(L + 2, 5, 6)),
+    (buy(L + 3, 5, 1001, po), F(11)),
+    (cancel(L + 3, 1), K(1, 10, 1)),
+    (buy(L + 4, 5, 1001, po), R(L + 4, 5, 1001)),
+    (buy(L + 5, 5, 1001), F(11)),
+    (buy(L + 5, 5, 1001, po), F(11)),
+    (buy(L + 5, 5, 1001, IOC | D | PA), K(L + 5, 5, 2)),
+    (buy(L + 6, 31, 1002), F(11)),
+    (buy(L + 6, 30, 1002), X(L + 6, L + 1, 30, 1001.5)))
 day('full-sides-of-256-and-256-and-their-close', '"Up to 64 resting orders a side", with W5 256; "Close cancels all buys in rank order, then all sells"',
     '256 buys and 256 sells rest; one more of each gets 11; the close cancels 1 to 256, then 257 to 512, reason 7',
     *full_buys,
@@ -961,6 +1016,7 @@ for d in DAYS:
     rows.append('| %s | %s | %s |' % (name, quoted, words))
     days += 1; lin += i.count(b'\n') + (not i.endswith(b'\n') and i != b''); lout += o.count(b'\n')
 head = ['# Days for the order book', '',
-        'Each day is NAME.in (the whole input of the program) and NAME.out (its whole output). They were derived by hand from paper 01, and two full sides with reserves from paper 02; `write-days.py` only spells the lines. %d days, %d lines in, %d lines out. "3" in the last column stands for the line `1f03`, "11" for `1f0b`, and so on; prices are cents.' % (days, lin, lout)]
+        'Each day is NAME.in (the whole input of the program) and NAME.out (its whole output). They were derived by hand from paper 01, and where the table names it from paper 02; `write-days.py` only spells the lines. %d days, %d lines in, %d lines out. "3" in the last column stands for the line `1f03`, "11" for `1f0b`, and so on.' % (days, lin, lout), '',
+        'Prices in these tables are cents, as in the command lines. Event lines count half cents (02, W6), so a price stands there doubled: 1002 as 2,004, `000007d4`, and 1001.5 as 2,003, `000007d3`.']
 open(os.path.join(HERE, 'README.md'), 'w').write('\n'.join(head + rows) + '\n')
 print(days, 'days', lin, 'in', lout, 'out')

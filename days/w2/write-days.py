@@ -6,7 +6,7 @@
 # N non-displayed, both Day and Price Adjust; c Cancel Back, p Post Only, I behind it ISO; I IOC, F FOK, M market IOC.
 # A command has the next number and the time 34,200,000, unless `=NUMBER` or `at TIME` stand in front; a refused one leaves its
 # number free. Lines that come out: `11 INCOMING RESTING PRICE SHARES`, `12` or `14 NUMBER PRICE SHARES`,
-# `13 NUMBER SHARES REASON`, `1fNN`.
+# `13 NUMBER SHARES REASON`, `1fNN`; prices in cents, as before W6.
 import pathlib
 import re
 
@@ -380,12 +380,13 @@ q 0/1000 -> 14 1 1000 10
 F sell 10@1001 -> 13 3 10 3
 F sell 10@1000 -> 11 4 1 1000 10
 ''')
-day('post-only-is-tested-at-the-moved-price', 'a moved order stands at its new price alone', 'hidden buy moved from 1005 to 1002: a Post Only sell at 1003 rests, at 1002 gets reason 6', '''
+day('post-only-is-tested-at-the-moved-price', 'a moved order stands at its new price alone', 'hidden buy at 1005: a Post Only sell at 1003 would pass it and gets reason 6; moved to 1002: at 1003 it rests, at 1001 it gets reason 6, at 1002 it rests (W6: at a hidden price)', '''
 N buy 10@1005 -> 12 1 1005 10
-Dp sell 10@1005 -> 13 2 10 6
+Dp sell 10@1003 -> 13 2 10 6
 q 0/1002 -> 14 1 1002 10
 Dp sell 10@1003 -> 12 4 1003 10
-Dp sell 10@1002 -> 13 5 10 6
+Dp sell 10@1001 -> 13 5 10 6
+Dp sell 10@1002 -> 12 6 1002 10
 ''')
 day('a-sell-goes-where-buys-were-before-a-quote', 'no order crosses after the move', 'hidden buys at 1005 and 1004 moved to 1000: sells rest at 1003 (displayed) and at 1001 (hidden); a buy at 1003 meets 5, then 4', '''
 N buy 10@1005 -> 12 1 1005 10
@@ -431,7 +432,9 @@ N buy 10@1000 -> 12 1 1000 10
 days, given, wanted = len(TABLE), sum(row[4] for row in TABLE), sum(row[5] for row in TABLE)
 text = f'''# Days at the rules with W2
 
-`plain-*` are outside vectors, copied byte for byte (four more, `nasty-7201` to `nasty-7204`, are gone: the last went with W4, since one of its lines is now a well-formed command of kind 05 and its given output calls it refusal 3, the others with W5, since their given outputs have refusal 11 at 64 orders a side); the other days were derived by hand from papers 01 and 02 and our readings of them, and `write-days.py` only spells their lines, as in `days/examples`: {days} days, {given} lines in, {wanted} lines out. "3" in the last column stands for the line `1f03`, "11" for `1f0b`, and so on; prices are cents.
+`plain-*` are outside vectors, copied byte for byte (four more, `nasty-7201` to `nasty-7204`, are gone: the last went with W4, since one of its lines is now a well-formed command of kind 05 and its given output calls it refusal 3, the others with W5, since their given outputs have refusal 11 at 64 orders a side); the other days were derived by hand from papers 01 and 02 and our readings of them, and `write-days.py` only spells their lines, as in `days/examples`: {days} days, {given} lines in, {wanted} lines out. "3" in the last column stands for the line `1f03`, "11" for `1f0b`, and so on.
+
+Prices in these tables are cents, and so are those of NAME.out, as before W6: whoever compares doubles them first (`tools/in_half_cents.py`).
 
 NAME.tally has shares executed and shares cancelled of some orders, as summed by hand from NAME.out: a line `14` counts for neither.
 '''

@@ -12,8 +12,8 @@ use borrow.Author.Tests.{eqb-true}
 use Rattle.basics.specs.Lists.{All, none, also, OneOf, sumOf}
 use Rattle.basics.proofs.LawsChoice.{holds-or-not}
 use Rattle.basics.proofs.LawsLists.{all-alike, all-both, one-of-all}
+use Rattle.kinds.specs.declared.HalfCents.{HalfCents}
 use Rattle.kinds.specs.declared.Number.{Number}
-use Rattle.rules.specs.declared.Away.{Away}
 use Rattle.rules.specs.declared.Body.the-variants as body
 use Rattle.rules.specs.declared.Command.{Command}
 use Rattle.rules.specs.declared.Event.{Event}
@@ -31,9 +31,8 @@ use Rattle.rules.specs.EventLines.{eventLine, eventLines, refusalLine}
 use Rattle.rules.specs.EventReading.{eventIn}
 use Rattle.rules.specs.Holdings.{Holding, holdings, nothing, executions, after}
 use Rattle.rules.specs.Instructions.{postOnly, has}
-use Rattle.rules.specs.Settling.{oppositeSide}
 use Rattle.rules.specs.Step.{answerTo}
-use Rattle.rules.specs.Working.{buying, walked, takings, remainder, ending}
+use Rattle.rules.specs.Working.{Met, metBy, executionPrice, walked, takings, remainder, ending}
 use Rattle.rules.proofs.LawsCommands.{close-does}
 use Rattle.rules.proofs.LawsEventReading.{eventIn-is}
 use Rattle.rules.proofs.LawsEvents.{executed-length, rested-length, cancelled-length, moved-length}
@@ -55,27 +54,28 @@ use Rattle.demands.proofs.LawsWalked.{taken}
 -- ── Post Only ──
 
 -- where nobody gives, there is no execution
-nothing-executes : (n : Number) (s : List Holding) → executions n s (nothing s) ≡ []
+nothing-executes : (n : Number) (price : Resting → HalfCents) (s : List Holding) → executions n price s (nothing s) ≡ []
 unfolding executions nothing
-nothing-executes n [] = refl
-nothing-executes n (h ∷ s) = nothing-executes n s
+nothing-executes n price [] = refl
+nothing-executes n price (h ∷ s) = nothing-executes n price s
 
 -- to a Post Only order nobody gives
-post-only-executions : (n : Number) (o : Order) (away : Away) (s : List Resting) → has (o .word) postOnly ≡ true
-    → executions n (holdings s) (takings o away s) ≡ []
+post-only-executions : (n : Number) (o : Order) (met : Met) → has (o .word) postOnly ≡ true
+    → executions n (executionPrice o met) (holdings (met .opposite)) (takings o met) ≡ []
 unfolding walked
-post-only-executions n o away s p =
-    taken (λ (ts : List ℕ). executions n (holdings s) ts ≡ []) o away s (nothing-executes n (holdings s)) (rw p (nothing-executes n (holdings s)))
+post-only-executions n o met p =
+    let hs = holdings (met .opposite) in
+    let none-executes = nothing-executes n (executionPrice o met) hs in
+    taken (λ (ts : List ℕ). executions n (executionPrice o met) hs ts ≡ []) o met none-executes (rw p none-executes)
 
 -- so an accepted Post Only order has its last line alone, and on a book that is not sound those of refills
 post-only-events : (b : Book) (line : List ℕ) (c : Command) (o : Order) → acts b line ≡ true → commandIn line ≡ reading.Is c
     → c .body ≡ body.Order o → has (o .word) postOnly ≡ true → All NoExecution (answerTo b line .events)
 post-only-events b line c o t e f p =
-    let s = oppositeSide (buying o) b in
-    let away = b .held .away in
-    rw (acts-lines b line c o t e f, post-only-executions (c .number) o away s p)
-    (all-both (every-last (c .number) (λ price k. tt) (λ k reason. tt) (remainder o away s) (ending o away s))
-    (every-refill {P = NoExecution} (λ m price k. tt) (after s (takings o away s))))
+    let met = metBy o b in
+    rw (acts-lines b line c o t e f, post-only-executions (c .number) o met p)
+    (all-both (every-last (c .number) (λ price k. tt) (λ k reason. tt) (remainder o met) (ending o met))
+    (every-refill {P = NoExecution} (λ m price k. tt) (after (met .opposite) (takings o met))))
 
 -- the line of an event that executes nothing, whatever its fields, is read as none that does: the line of an execution is longer
 read-executes-nothing : (e : Event) → NoExecution e → All NoExecution (readAs (eventIn (eventLine e)))

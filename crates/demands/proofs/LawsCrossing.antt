@@ -3,12 +3,14 @@
 use Prim.Native.Nat.{ℕ, suc, _≤_, _<_}
 use mathlib.Core.Bool.{Bool, true, false, not, _&&_, true≢false}
 use mathlib.Core.List.{List}
-use mathlib.Core.Logic.{⊎-elim}
+use mathlib.Core.Logic.{_≢_, ⊎-elim}
 use mathlib.Core.Path.{_≡_, refl, sym, _∙_}
 use native.Mathlib.Omega.{arith}
-use borrow.Author.Tests.{ne-eqb, eqb-false, lt-ltb, ltb-true, not-true}
+use borrow.Author.Tests.{eqb-false, lt-ltb, ltb-true, not-true}
 use Rattle.basics.specs.Lists.{OneOf, first, later}
 use Rattle.basics.proofs.LawsChoice.{holds-or-not, and-left}
+use Rattle.kinds.specs.declared.Cents.{Cents}
+use Rattle.kinds.specs.Kinds.{inHalfCents}
 use Rattle.rules.specs.declared.Away.{Away}
 use Rattle.rules.specs.declared.Resting.{Resting}
 use Rattle.rules.specs.Commands.{wouldNowCross, quoteFate}
@@ -21,6 +23,7 @@ use Rattle.rules.proofs.LawsCommands.{quote-fate, crosses-present, crosses-beyo
 use Rattle.soundness.proofs.LawsSettled.{nextPlace, setPlace}
 use Rattle.demands.specs.Quoted.{locking, Crosses, aBuy, aSell}
 use Rattle.demands.proofs.LawsLinesTell.{place}
+use Rattle.demands.proofs.LawsShareOut.{present-is}
 
 -- ── Who crosses ──
 
@@ -29,12 +32,16 @@ pub locking-is : (buy : Bool) (away : Away) → locking buy away ≡ lockingPric
 locking-is true away = refl
 locking-is false away = refl
 
+-- what is there in half cents is there
+is-present : (p : Cents) → absent (inHalfCents p) ≡ false → p .0 ≢ 0
+is-present p present z = eqb-false (inHalfCents p .0) 0 present (omega (arith, z))
+
 -- who crosses would now cross by the rules' test ..
 crosses-would : {away : Away} {h : Resting} {buy : Bool} → Crosses away h buy → wouldNowCross buy away h ≡ true
 crosses-would {away = away} {h = h} (aBuy hidden present above) =
-    rw (hidden, ne-eqb (away .offer .0) 0 present, lt-ltb (away .offer .0) (h .price .0) above) refl
+    rw (hidden, present-is (away .offer) present, lt-ltb (inHalfCents (away .offer) .0) (h .price .0) above) refl
 crosses-would {away = away} {h = h} (aSell hidden present below) =
-    rw (hidden, ne-eqb (away .bid .0) 0 present, lt-ltb (h .price .0) (away .bid .0) below) refl
+    rw (hidden, present-is (away .bid) present, lt-ltb (h .price .0) (inHalfCents (away .bid) .0) below) refl
 
 -- .. and who would, crosses
 pub would-cross : (buy : Bool) (away : Away) (h : Resting) → wouldNowCross buy away h ≡ true → Crosses away h buy
@@ -46,8 +53,10 @@ would-cross buy away h t =
   where
     by-side : (buy : Bool) → h .displayed ≡ false → absent (lockingPrice buy away) ≡ false
         → beyond buy (lockingPrice buy away) (h .price) ≡ true → Crosses away h buy
-    by-side true hidden present past = aBuy hidden (eqb-false (away .offer .0) 0 present) (ltb-true (away .offer .0) (h .price .0) past)
-    by-side false hidden present past = aSell hidden (eqb-false (away .bid .0) 0 present) (ltb-true (h .price .0) (away .bid .0) past)
+    by-side true hidden present past =
+        aBuy hidden (is-present (away .offer) present) (ltb-true (inHalfCents (away .offer) .0) (h .price .0) past)
+    by-side false hidden present past =
+        aSell hidden (is-present (away .bid) present) (ltb-true (h .price .0) (inHalfCents (away .bid) .0) past)
 
 -- so who does not by that test does not cross
 pub not-crossing : {P : Type 0} {away : Away} {h : Resting} {buy : Bool} → wouldNowCross buy away h ≡ false → Crosses away h buy → P

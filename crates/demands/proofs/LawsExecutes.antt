@@ -8,13 +8,12 @@ use mathlib.Core.Path.{_≡_, refl, sym, _∙_, subst}
 use lib.Dec.{eqb, leb}
 use native.Mathlib.Omega.{arith}
 use borrow.Author.Tests.{ne-eqb, eqb-true, eqb-false, leb-true, not-true}
-use Rattle.basics.specs.Lists.{total}
+use Rattle.basics.specs.Lists.{total, All}
 use Rattle.basics.proofs.LawsChoice.{holds-or-not, and-left, and-right}
-use Rattle.basics.proofs.LawsLists.{all-alike, one-of-all, all-both, sumOf-append}
+use Rattle.basics.proofs.LawsLists.{all-alike, one-of-all, all-both, each-there, sumOf-append}
 use Rattle.kinds.specs.declared.Number.{Number}
 use Rattle.kinds.specs.Kinds.{sharesInRange}
-use Rattle.kinds.proofs.LawsRanges.{shares-fewest}
-use Rattle.rules.specs.declared.Away.{Away}
+use Rattle.kinds.proofs.LawsRanges.{shares-fewest, resting-lowest}
 use Rattle.rules.specs.declared.Body.{Body}
 use Rattle.rules.specs.declared.Body.the-variants as body
 use Rattle.rules.specs.declared.Command.{Command}
@@ -22,19 +21,19 @@ use Rattle.rules.specs.declared.Event.{Event}
 use Rattle.rules.specs.declared.Order.{Order}
 use Rattle.rules.specs.declared.Reading.{Reading}
 use Rattle.rules.specs.declared.Reading.the-variants as reading
-use Rattle.rules.specs.declared.Resting.{Resting}
 use Rattle.rules.specs.Book.{Book, inRankOrder, sound}
 use Rattle.rules.specs.CommandLines.{commandIn}
 use Rattle.rules.specs.Holdings.{holdings, executions, after}
 use Rattle.rules.specs.Instructions.{fok, postOnly, has}
 use Rattle.rules.specs.Refusals.{firstOf, orderPriceInRange, carriedInRange, orderInRange, bodyRefusals, lineRefusals, refusals}
-use Rattle.rules.specs.Settling.{told, oppositeSide}
+use Rattle.rules.specs.Settling.{told, ownSide, oppositeSide}
 use Rattle.rules.specs.Step.{doneBy, answer, answerTo}
-use Rattle.rules.specs.Working.{buying, takings, remainder, ending, lastLine, refillFate}
+use Rattle.rules.specs.Working.{Met, buying, metBy, executionPrice, takings, remainder, ending, lastLine, refillFate}
 use Rattle.rules.proofs.LawsCommands.{order-does}
 use Rattle.rules.proofs.LawsTakings.{takings-within}
 use Rattle.rules.proofs.LawsWalkOrder.{holdings-there}
 use Rattle.soundness.proofs.LawsAccepted.{InOrder, accepted, AcceptedOrder, accepted-order}
+use Rattle.soundness.proofs.LawsApart.{apart-flip}
 use Rattle.soundness.proofs.LawsSides.{sides-of}
 use Rattle.soundness.proofs.LawsSound.{sound-is}
 use Rattle.demands.specs.Executes.{Between, Executes}
@@ -42,107 +41,109 @@ use Rattle.demands.specs.Once.{acts}
 use Rattle.demands.specs.ShareOut.{Given, given, Lawful, Fills}
 use Rattle.demands.specs.Told.{executedBy, cancelledBy, executedIn, cancelledIn, isKilled}
 use Rattle.demands.proofs.LawsHeld.{executions-cancel-none}
+use Rattle.demands.proofs.LawsPriceHere.{Meetable}
 use Rattle.demands.proofs.LawsShareOut.{pricedAt, killed-nothing, filled-whole, takings-lawful, takings-greatest, takings-rank, takings-given}
 use Rattle.demands.proofs.LawsLinesTell.{every-refill, refills-execute-none, refills-cancel-none, executions-between, last-between, NoneIs, lines-told, executed-total, last-executes-none, isKill, last-kills, kill-cancels, executions-kill-none, ending-kills}
 
 -- ── The lines of an order that is not Post Only ──
 
--- an order of number m against a side: a buy or a sell of at least one share, not Post Only; the side is in rank order, and m
--- is none of its numbers
-record Works (m : Number) (o : Order) (s : List Resting) : Type 0 where
+-- an order of number m and what it meets: a buy or a sell of at least one share, not Post Only; the opposite side is in rank order, its
+-- orders are clear of the own side and have a price, and m is none of its numbers
+record Works (m : Number) (o : Order) (met : Met) : Type 0 where
   isSide : o .side ≤ 1
   entered : 1 ≤ o .shares .0
   notPostOnly : has (o .word) postOnly ≡ false
-  ranked : inRankOrder (not (buying o)) s ≡ true
-  new : NoneIs m s
+  ranked : inRankOrder (not (buying o)) (met .opposite) ≡ true
+  meetable : All (Meetable o met) (met .opposite)
+  new : NoneIs m (met .opposite)
 
 -- its event lines: executions, at most one line more, and those of the refills
-abbrev pub workLines : Number → Order → Away → List Resting → List Event
-workLines m o away s =
-    executions m (holdings s) (takings o away s)
-    ++ (lastLine m (remainder o away s) (ending o away s) ++ told refillFate (after s (takings o away s)))
+abbrev pub workLines : Number → Order → Met → List Event
+workLines m o met =
+    executions m (executionPrice o met) (holdings (met .opposite)) (takings o met)
+    ++ (lastLine m (remainder o met) (ending o met) ++ told refillFate (after (met .opposite) (takings o met)))
 
 -- they tell, of the order, which is none of the side, what it takes in all
-pub lines-tell : (m : Number) (o : Order) (away : Away) (s : List Resting) → NoneIs m s
-    → executedIn m (workLines m o away s) ≡ total (takings o away s)
-lines-tell m o away s new =
-    let es = executions m (holdings s) (takings o away s) in
-    let last = lastLine m (remainder o away s) (ending o away s) in
-    let refills = told refillFate (after s (takings o away s)) in
+pub lines-tell : (m : Number) (o : Order) (met : Met) → NoneIs m (met .opposite)
+    → executedIn m (workLines m o met) ≡ total (takings o met)
+lines-tell m o met new =
+    let es = executions m (executionPrice o met) (holdings (met .opposite)) (takings o met) in
+    let last = lastLine m (remainder o met) (ending o met) in
+    let refills = told refillFate (after (met .opposite) (takings o met)) in
     omega (
       arith,
       sumOf-append (executedBy m) es (last ++ refills),
       sumOf-append (executedBy m) last refills,
-      executed-total m (takings-within o away s) (all-alike (λ h p. one-of-all new p) (holdings-there s)),
-      last-executes-none m m (remainder o away s) (ending o away s),
-      refills-execute-none m (after s (takings o away s)),
+      executed-total m (executionPrice o met) (takings-within o met) (all-alike (λ h p. one-of-all new p) (holdings-there (met .opposite))),
+      last-executes-none m m (remainder o met) (ending o met),
+      refills-execute-none m (after (met .opposite) (takings o met)),
     )
 
-module _ (m : Number) (o : Order) (away : Away) (s : List Resting) (w : Works m o s) where
-  lines-execute : executedIn m (workLines m o away s) ≡ total (takings o away s)
-  lines-execute = lines-tell m o away s (w .new)
+module _ (m : Number) (o : Order) (met : Met) (w : Works m o met) where
+  lines-execute : executedIn m (workLines m o met) ≡ total (takings o met)
+  lines-execute = lines-tell m o met (w .new)
 
   -- they kill exactly a Fill-or-Kill of which something is left
-  lines-kill : isKilled m (workLines m o away s) ≡ (not (eqb (remainder o away s) 0) && has (o .word) fok)
+  lines-kill : isKilled m (workLines m o met) ≡ (not (eqb (remainder o met) 0) && has (o .word) fok)
   unfolding ending
   lines-kill =
-      executions-kill-none m m (holdings s) (takings o away s)
-      (lastLine m (remainder o away s) (ending o away s) ++ told refillFate (after s (takings o away s)))
-      ∙ last-kills m (remainder o away s) (ending o away s) (after s (takings o away s))
-      ∙ ending-kills (remainder o away s) o away s
+      executions-kill-none m m (executionPrice o met) (holdings (met .opposite)) (takings o met)
+      (lastLine m (remainder o met) (ending o met) ++ told refillFate (after (met .opposite) (takings o met)))
+      ∙ last-kills m (remainder o met) (ending o met) (after (met .opposite) (takings o met))
+      ∙ ending-kills (remainder o met) o met
 
   -- so one that is killed is a Fill-or-Kill that does not take its size
-  killed-fok : isKilled m (workLines m o away s) ≡ true → has (o .word) fok ≡ true
-  killed-fok k = and-right (not (eqb (remainder o away s) 0)) (has (o .word) fok) (sym lines-kill ∙ k)
+  killed-fok : isKilled m (workLines m o met) ≡ true → has (o .word) fok ≡ true
+  killed-fok k = and-right (not (eqb (remainder o met) 0)) (has (o .word) fok) (sym lines-kill ∙ k)
 
-  killed-left : isKilled m (workLines m o away s) ≡ true → total (takings o away s) ≢ o .shares .0
+  killed-left : isKilled m (workLines m o met) ≡ true → total (takings o met) ≢ o .shares .0
   unfolding remainder
   killed-left k e =
-      let left = remainder o away s in
+      let left = remainder o met in
       let z = not-true (eqb left 0) (and-left (not (eqb left 0)) (has (o .word) fok) (sym lines-kill ∙ k)) in
       eqb-false left 0 z (omega (arith, e))
 
   -- .. no lawful share-out totals it, and it takes nothing
-  killed-only : isKilled m (workLines m o away s) ≡ true → Fills o away (holdings s) → ⊥
-  killed-only k f = killed-left k (filled-whole o away s (w .isSide) (w .notPostOnly) (w .ranked) (killed-fok k) f)
+  killed-only : isKilled m (workLines m o met) ≡ true → Fills o (met .away) (met .own) (holdings (met .opposite)) → ⊥
+  killed-only k f = killed-left k (filled-whole o met (w .isSide) (w .notPostOnly) (w .ranked) (w .meetable) (killed-fok k) f)
 
-  killed-none : isKilled m (workLines m o away s) ≡ true → total (takings o away s) ≡ 0
-  killed-none k = killed-nothing o away s (w .isSide) (w .notPostOnly) (w .ranked) (killed-fok k) (killed-only k)
+  killed-none : isKilled m (workLines m o met) ≡ true → total (takings o met) ≡ 0
+  killed-none k = killed-nothing o met (w .isSide) (w .notPostOnly) (w .ranked) (w .meetable) (killed-fok k) (killed-only k)
 
   -- .. so the whole of it is cancelled
-  killed-whole : isKilled m (workLines m o away s) ≡ true → cancelledIn m (workLines m o away s) ≡ o .shares .0
+  killed-whole : isKilled m (workLines m o met) ≡ true → cancelledIn m (workLines m o met) ≡ o .shares .0
   unfolding remainder
   killed-whole k =
-      let left = remainder o away s in
-      let es = executions m (holdings s) (takings o away s) in
-      let last = lastLine m left (ending o away s) in
-      let refills = told refillFate (after s (takings o away s)) in
-      let kill : isKill (ending o away s) ≡ true =
-      sym (last-kills m left (ending o away s) (after s (takings o away s)))
-      ∙ sym (executions-kill-none m m (holdings s) (takings o away s) (last ++ refills)) ∙ k in
+      let left = remainder o met in
+      let es = executions m (executionPrice o met) (holdings (met .opposite)) (takings o met) in
+      let last = lastLine m left (ending o met) in
+      let refills = told refillFate (after (met .opposite) (takings o met)) in
+      let kill : isKill (ending o met) ≡ true =
+      sym (last-kills m left (ending o met) (after (met .opposite) (takings o met)))
+      ∙ sym (executions-kill-none m m (executionPrice o met) (holdings (met .opposite)) (takings o met) (last ++ refills)) ∙ k in
       omega (
         arith,
         sumOf-append (cancelledBy m) es (last ++ refills),
         sumOf-append (cancelledBy m) last refills,
-        executions-cancel-none m m (holdings s) (takings o away s),
-        kill-cancels m left (ending o away s) kill,
-        refills-cancel-none m (after s (takings o away s)),
+        executions-cancel-none m m (executionPrice o met) (holdings (met .opposite)) (takings o met),
+        kill-cancels m left (ending o met) kill,
+        refills-cancel-none m (after (met .opposite) (takings o met)),
         killed-none k,
       )
 
   -- one that no lawful share-out totals keeps all that was entered, and is killed
-  killed-if : has (o .word) fok ≡ true → (Fills o away (holdings s) → ⊥) → isKilled m (workLines m o away s) ≡ true
+  killed-if : has (o .word) fok ≡ true → (Fills o (met .away) (met .own) (holdings (met .opposite)) → ⊥) → isKilled m (workLines m o met) ≡ true
   unfolding remainder
   killed-if k n =
-      let none = killed-nothing o away s (w .isSide) (w .notPostOnly) (w .ranked) k n in
-      let left : remainder o away s ≢ 0 = λ (z : o .shares .0 - total (takings o away s) ≡ 0). omega (arith, none, w .entered, z) in
-      lines-kill ∙ rw (ne-eqb (remainder o away s) 0 left, k) refl
+      let none = killed-nothing o met (w .isSide) (w .notPostOnly) (w .ranked) (w .meetable) k n in
+      let left : remainder o met ≢ 0 = λ (z : o .shares .0 - total (takings o met) ≡ 0). omega (arith, none, w .entered, z) in
+      lines-kill ∙ rw (ne-eqb (remainder o met) 0 left, k) refl
 
   -- a Fill-or-Kill that is not killed takes its size
-  lives-whole : has (o .word) fok ≡ true → isKilled m (workLines m o away s) ≡ false → o .shares .0 ≤ total (takings o away s)
+  lives-whole : has (o .word) fok ≡ true → isKilled m (workLines m o met) ≡ false → o .shares .0 ≤ total (takings o met)
   unfolding remainder
   lives-whole k l =
-      let left = remainder o away s in
+      let left = remainder o met in
       ⊎-elim
       (λ (z : eqb left 0 ≡ true). omega (arith, eqb-true left 0 z))
       (λ (z : eqb left 0 ≡ false).
@@ -151,11 +152,12 @@ module _ (m : Number) (o : Order) (away : Away) (s : List Resting) (w : Works m 
       (holds-or-not (eqb left 0))
 
   -- every order that is not killed takes the greatest lawful total
-  lives-greatest : isKilled m (workLines m o away s) ≡ false → (gs : List Given) → Lawful o away (holdings s) gs → given gs ≤ total (takings o away s)
+  lives-greatest : isKilled m (workLines m o met) ≡ false → (gs : List Given) → Lawful o (met .away) (met .own) (holdings (met .opposite)) gs
+      → given gs ≤ total (takings o met)
   lives-greatest l gs lawful =
       ⊎-elim
       (λ (k : has (o .word) fok ≡ true). omega (arith, lawful .inAll, lives-whole k l))
-      (λ (k : has (o .word) fok ≡ false). takings-greatest o away s (w .isSide) (w .notPostOnly) (w .ranked) k gs lawful)
+      (λ (k : has (o .word) fok ≡ false). takings-greatest o met (w .isSide) (w .notPostOnly) (w .ranked) (w .meetable) k gs lawful)
       (holds-or-not (has (o .word) fok))
 
 -- ── An accepted line ──
@@ -170,7 +172,7 @@ module _ (o : Order) (r : orderInRange o ≡ true) where
   pub order-side : o .side ≤ 1
   order-side = leb-true (o .side) 1 (and-left (leb (o .side) 1) (sharesInRange (o .shares)) sized)
 
-  order-shares : 1 ≤ o .shares .0
+  pub order-shares : 1 ≤ o .shares .0
   order-shares = shares-fewest (o .shares) (and-right (leb (o .side) 1) (sharesInRange (o .shares)) sized)
 
 -- what no refusal of the line says of its command and of its order
@@ -185,18 +187,30 @@ acts-order b c o a f = accepted-order b o (subst (λ (x : Body). firstOf (bodyRe
 
 -- the lines of an accepted order are those of its work
 pub acts-lines : (b : Book) (line : List ℕ) (c : Command) (o : Order) → acts b line ≡ true → commandIn line ≡ reading.Is c → c .body ≡ body.Order o
-    → answerTo b line .events ≡ workLines (c .number) o (b .held .away) (oppositeSide (buying o) b)
+    → answerTo b line .events ≡ workLines (c .number) o (metBy o b)
 unfolding answerTo answer doneBy
 acts-lines b line c o t e f =
-    let s = oppositeSide (buying o) b in
-    let ts = takings o (b .held .away) s in
+    let met = metBy o b in
+    let ts = takings o met in
     rw t (rw e (rw f (order-does (c .number) (c .time) b o .1
-    ∙ append-assoc (executions (c .number) (holdings s) ts) (lastLine (c .number) (remainder o (b .held .away) s) (ending o (b .held .away) s))
-    (told refillFate (after s ts)))))
+    ∙ append-assoc (executions (c .number) (executionPrice o met) (holdings (met .opposite)) ts)
+    (lastLine (c .number) (remainder o met) (ending o met)) (told refillFate (after (met .opposite) ts)))))
+
+-- on a sound book each opposite order is clear of the own side, and has a price
+pub all-meetable : (o : Order) (b : Book) → sound b ≡ true → All (Meetable o (metBy o b)) (oppositeSide (buying o) b)
+all-meetable o b s =
+    let sides = sides-of (buying o) b (sound-is b s) in
+    let apart = apart-flip (buying o) (ownSide (buying o) b) (oppositeSide (buying o) b) (sides .isApart) in
+    all-alike
+    (λ h p. record {
+      clears = one-of-all apart p;
+      priced = omega (arith, resting-lowest (h .price) (one-of-all (sides .oppositeInRange) p .priced));
+    })
+    (each-there (oppositeSide (buying o) b))
 
 -- so it is an order of the kind above, against the opposite side of a sound book
 works : (b : Book) (line : List ℕ) (c : Command) (o : Order) → sound b ≡ true → acts b line ≡ true → commandIn line ≡ reading.Is c
-    → c .body ≡ body.Order o → has (o .word) postOnly ≡ false → Works (c .number) o (oppositeSide (buying o) b)
+    → c .body ≡ body.Order o → has (o .word) postOnly ≡ false → Works (c .number) o (metBy o b)
 works b line c o s t e f notPostOnly =
     let sides = sides-of (buying o) b (sound-is b s) in
     let header = acts-accepted b line c t e in
@@ -206,34 +220,35 @@ works b line c o s t e f notPostOnly =
       entered = order-shares o (order .inRange);
       notPostOnly = notPostOnly;
       ranked = sides .oppositeRanked;
+      meetable = all-meetable o b s;
       new = all-alike (λ h r. λ (z : c .number .0 ≡ h .number .0). omega (arith, z, r .upToLast, header .next)) (sides .oppositeInRange);
     }
 
 -- the customer's sentences, one by one
-lines-are : (b : Book) (c : Command) (o : Order) → Works (c .number) o (oppositeSide (buying o) b)
-    → Executes b c o (workLines (c .number) o (b .held .away) (oppositeSide (buying o) b))
+lines-are : (b : Book) (c : Command) (o : Order) → Works (c .number) o (metBy o b)
+    → Executes b c o (workLines (c .number) o (metBy o b))
 lines-are b c o w =
     let n = c .number in
-    let away = b .held .away in
-    let s = oppositeSide (buying o) b in
-    let ts = takings o away s in
-    let left = remainder o away s in
-    let end = ending o away s in
+    let met = metBy o b in
+    let s = met .opposite in
+    let ts = takings o met in
+    let left = remainder o met in
+    let end = ending o met in
     record {
       between =
-          all-both (executions-between n (holdings-there s) ts)
+          all-both (executions-between n (executionPrice o met) (holdings-there s) ts)
           (all-both (last-between n s left end) (every-refill {P = Between n s} (λ m price k. tt) (after s ts)));
-      shareOut = pricedAt (holdings s) ts;
-      told = lines-told n (holdings s) ts left end (after s ts);
-      inAll = lines-execute n o away s w ∙ sym (takings-given o away s (w .isSide) (w .notPostOnly) (w .ranked));
-      isLawful = takings-lawful o away s (w .isSide) (w .notPostOnly) (w .ranked);
-      killedOnly = killed-only n o away s w;
-      killedIf = killed-if n o away s w;
-      killedNothing = λ k. lines-execute n o away s w ∙ killed-none n o away s w k;
-      killedWhole = killed-whole n o away s w;
-      onlyFok = killed-fok n o away s w;
-      greatest = λ l gs lawful. omega (arith, lines-execute n o away s w, lives-greatest n o away s w l gs lawful);
-      inRank = λ p q before gives fair. takings-rank o away s (w .isSide) (w .notPostOnly) (w .ranked) p q before gives;
+      shareOut = pricedAt (executionPrice o met) (holdings s) ts;
+      told = lines-told n (executionPrice o met) (holdings s) ts left end (after s ts);
+      inAll = lines-execute n o met w ∙ sym (takings-given o met (w .isSide) (w .notPostOnly) (w .ranked) (w .meetable));
+      isLawful = takings-lawful o met (w .isSide) (w .notPostOnly) (w .ranked) (w .meetable);
+      killedOnly = killed-only n o met w;
+      killedIf = killed-if n o met w;
+      killedNothing = λ k. lines-execute n o met w ∙ killed-none n o met w k;
+      killedWhole = killed-whole n o met w;
+      onlyFok = killed-fok n o met w;
+      greatest = λ l gs lawful. omega (arith, lines-execute n o met w, lives-greatest n o met w l gs lawful);
+      inRank = λ p q before gives at fair. takings-rank o met (w .isSide) (w .notPostOnly) (w .ranked) (w .meetable) p q before gives;
     }
 
 -- demand 3 of an accepted order that is not Post Only, on a sound book, by its event lines

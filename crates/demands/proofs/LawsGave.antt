@@ -11,9 +11,9 @@ use borrow.Author.Tests.{eq-eqb, ne-eqb, eqb-true, eqb-false}
 use Rattle.basics.specs.Lists.{sumOf, gathered, All, none, also}
 use Rattle.basics.proofs.LawsChoice.{holds-or-not, lt-or-le}
 use Rattle.basics.proofs.LawsLists.{one-of-all, sumOf-append}
+use Rattle.kinds.specs.declared.HalfCents.{HalfCents}
 use Rattle.kinds.specs.declared.Number.{Number}
 use Rattle.kinds.specs.Kinds.{shares}
-use Rattle.rules.specs.declared.Away.{Away}
 use Rattle.rules.specs.declared.Event.{Event}
 use Rattle.rules.specs.declared.Event.the-variants.{Moved}
 use Rattle.rules.specs.declared.Order.{Order}
@@ -21,7 +21,7 @@ use Rattle.rules.specs.declared.Resting.{Resting}
 use Rattle.rules.specs.Book.{stamp, sharesLeft, floorInRange}
 use Rattle.rules.specs.Holdings.{Holding, holdings, executions, takenOf, reducedBy, keeping, after}
 use Rattle.rules.specs.Settling.{stampedAs, refilled, told}
-use Rattle.rules.specs.Working.{takings, remainder, ending, lastLine, refillFate}
+use Rattle.rules.specs.Working.{Met, executionPrice, takings, remainder, ending, lastLine, refillFate}
 use Rattle.rules.proofs.LawsFloors.{shown-at-most}
 use Rattle.rules.proofs.LawsHoldings.{Parts, parts-alike, holdings-shown, holdings-reserves, takenFromHoldings, takenFrom, taken-split}
 use Rattle.rules.proofs.LawsWalkOrder.{parts-there, parts-both, Gives, takings-give}
@@ -35,15 +35,16 @@ use Rattle.demands.proofs.LawsLinesTell.{onceEach, once-first, once-res
 -- ── What each order gave, as the lines tell it ──
 
 -- a number's executions tell what is taken of the holdings under it
-given-taken : (n m : Number) (hs : List Holding) (ts : List ℕ) → givenIn n (executions m hs ts) ≡ takenFromHoldings (n .0) hs ts
+given-taken : (n m : Number) (price : Resting → HalfCents) (hs : List Holding) (ts : List ℕ)
+    → givenIn n (executions m price hs ts) ≡ takenFromHoldings (n .0) hs ts
 unfolding executions takenFromHoldings sumOf
-given-taken n m [] ts = refl
-given-taken n m (h ∷ hs) [] = refl
-given-taken n m (h ∷ hs) (t ∷ ts) =
+given-taken n m price [] ts = refl
+given-taken n m price (h ∷ hs) [] = refl
+given-taken n m price (h ∷ hs) (t ∷ ts) =
     let same = counted-as n (h .of) t in
     ⊎-elim
-    (λ (z : eqb t 0 ≡ true). rw z (omega (arith, given-taken n m hs ts, same, counted-none n (h .of .number) t (eqb-true t 0 z))))
-    (λ (z : eqb t 0 ≡ false). rw z (omega (arith, given-taken n m hs ts, same)))
+    (λ (z : eqb t 0 ≡ true). rw z (omega (arith, given-taken n m price hs ts, same, counted-none n (h .of .number) t (eqb-true t 0 z))))
+    (λ (z : eqb t 0 ≡ false). rw z (omega (arith, given-taken n m price hs ts, same)))
     (holds-or-not (eqb t 0))
 
 -- nothing is taken of a number that no order has; of one that stands once, what is taken of its order
@@ -171,34 +172,38 @@ parts-taken : (n : ℕ) (s : List Resting) (ts : List ℕ)
     → takenFromHoldings n (holdings s) ts ≡ takenFrom n s (takenOf false (holdings s) ts) + takenFrom n s (takenOf true (holdings s) ts)
 parts-taken n s ts = rw (holdings-shown s, holdings-reserves s) at (taken-split n (holdings s) ts)
 
-module _ (m : Number) (o : Order) (away : Away) {last : Number} (s : List Resting) (once : onceEach s ≡ true) (inRange : All (InRange last) s) where
+module _ (m : Number) (o : Order) (met : Met) {last : Number} (once : onceEach (met .opposite) ≡ true)
+    (inRange : All (InRange last) (met .opposite)) where
+  abbrev s : List Resting
+  s = met .opposite
+
   abbrev ofParts : Bool → List ℕ
-  ofParts reserves = takenOf reserves (holdings s) (takings o away s)
+  ofParts reserves = takenOf reserves (holdings s) (takings o met)
 
   -- its lines tell what each order of the side gave
-  lines-give : (n : Number) → givenIn n (workLines m o away s) ≡ takenFrom (n .0) s (ofParts false) + takenFrom (n .0) s (ofParts true)
+  lines-give : (n : Number) → givenIn n (workLines m o met) ≡ takenFrom (n .0) s (ofParts false) + takenFrom (n .0) s (ofParts true)
   lines-give n =
-      let es = executions m (holdings s) (takings o away s) in
-      let end = lastLine m (remainder o away s) (ending o away s) in
-      let refills = told refillFate (after s (takings o away s)) in
+      let es = executions m (executionPrice o met) (holdings s) (takings o met) in
+      let end = lastLine m (remainder o met) (ending o met) in
+      let refills = told refillFate (after s (takings o met)) in
       omega (
         arith,
         sumOf-append (givenBy n) es (end ++ refills),
         sumOf-append (givenBy n) end refills,
-        last-gives-none n m (remainder o away s) (ending o away s),
-        refills-give-none n (after s (takings o away s)),
-        given-taken n m (holdings s) (takings o away s),
-        parts-taken (n .0) s (takings o away s),
+        last-gives-none n m (remainder o met) (ending o met),
+        refills-give-none n (after s (takings o met)),
+        given-taken n m (executionPrice o met) (holdings s) (takings o met),
+        parts-taken (n .0) s (takings o met),
       )
 
-  pub lines-took : Parts (Took (workLines m o away s)) s (ofParts false) (ofParts true)
+  pub lines-took : Parts (Took (workLines m o met)) s (ofParts false) (ofParts true)
   lines-took =
-      let gives = takings-give o away s in
+      let gives = takings-give o met in
       parts-alike
       (λ h t r p. record { gives = p .1 .0; told = lines-give (h .number) ∙ p .1 .1; floored = one-of-all inRange (p .0) .floored })
       (parts-there (parts-both gives (once-taken once gives)))
 
   -- so they tell who is refilled
-  pub refills-told : RefillLines (workLines m o away s) s (told refillFate (after s (takings o away s)))
+  pub refills-told : RefillLines (workLines m o met) s (told refillFate (after s (takings o met)))
   unfolding after
   refills-told = refill-lines lines-took

@@ -11,8 +11,8 @@ use borrow.Author.Tests.{eq-eqb, ne-eqb, eqb-true, eqb-false}
 use Rattle.basics.specs.Lists.{total, sumOf, gathered, Each, empty, with}
 use Rattle.basics.proofs.LawsChoice.{holds-or-not}
 use Rattle.basics.proofs.LawsLists.{gathered-sum}
+use Rattle.kinds.specs.declared.HalfCents.{HalfCents}
 use Rattle.kinds.specs.declared.Number.{Number}
-use Rattle.rules.specs.declared.Away.{Away}
 use Rattle.rules.specs.declared.Ending.{Ending}
 use Rattle.rules.specs.declared.Ending.the-variants.{Filled, Rests, Cancels}
 use Rattle.rules.specs.declared.Order.{Order}
@@ -23,7 +23,7 @@ use Rattle.rules.specs.Instructions.{ioc, fok, has}
 use Rattle.rules.specs.declared.Fate.{Fate}
 use Rattle.rules.specs.declared.Fate.the-variants.{Stays, IsCancelled, IsSet}
 use Rattle.rules.specs.Settling.{toldBy, told, settledSide}
-use Rattle.rules.specs.Working.{buying, remainder, endingWith, ending, lastLine, floorOf, remainderOf, withRemainder}
+use Rattle.rules.specs.Working.{Met, buying, remainder, endingWith, ending, lastLine, floorOf, remainderOf, withRemainder}
 use Rattle.rules.proofs.LawsCommands.{IfSet, SameOrder}
 use Rattle.rules.proofs.LawsFloors.{shown-at-most}
 use Rattle.rules.proofs.LawsHoldings.{each-parts, countedAs, takenFromHoldings, heldAs, after-sum}
@@ -80,12 +80,12 @@ held-rests n [] = refl
 held-rests n (h ∷ s) = omega (arith, counted-as n h (sharesLeft h), held-rests n s)
 
 -- what executions say of n, as the incoming order and as a resting one ..
-executed-taken : (n m : Number) {hs : List Holding} {ts : List ℕ} → Each NoMore hs ts
-    → executedIn n (executions m hs ts) ≡ countedIf n m (total ts) + takenFromHoldings (n .0) hs ts
+executed-taken : (n m : Number) (price : Resting → HalfCents) {hs : List Holding} {ts : List ℕ} → Each NoMore hs ts
+    → executedIn n (executions m price hs ts) ≡ countedIf n m (total ts) + takenFromHoldings (n .0) hs ts
 unfolding executions takenFromHoldings sumOf total
-executed-taken n m empty = omega (arith, counted-none n m 0 refl)
-executed-taken n m (with {x = h} {y = t} {u = ts} l e) =
-    let ih = executed-taken n m e in
+executed-taken n m price empty = omega (arith, counted-none n m 0 refl)
+executed-taken n m price (with {x = h} {y = t} {u = ts} l e) =
+    let ih = executed-taken n m price e in
     let a = counted-add n m t (total ts) in
     let b = counted-as n (h .of) t in
     ⊎-elim
@@ -98,26 +98,27 @@ executed-taken n m (with {x = h} {y = t} {u = ts} l e) =
     (holds-or-not (eqb t 0))
 
 -- .. with what the side still holds of it
-pub executions-sum : (n m : Number) (s : List Resting) (ts : List ℕ) → Each NoMore (holdings s) ts
-    → executedIn n (executions m (holdings s) ts) + restsOn n (after s ts) ≡ countedIf n m (total ts) + restsOn n s
-executions-sum n m s ts e =
+pub executions-sum : (n m : Number) (price : Resting → HalfCents) (s : List Resting) (ts : List ℕ) → Each NoMore (holdings s) ts
+    → executedIn n (executions m price (holdings s) ts) + restsOn n (after s ts) ≡ countedIf n m (total ts) + restsOn n s
+executions-sum n m price s ts e =
     omega (
       arith,
-      executed-taken n m e,
+      executed-taken n m price e,
       after-sum (n .0) s ts (each-parts s ts e),
       held-rests n s,
       held-rests n (after s ts),
     )
 
 -- .. and they cancel nothing
-pub executions-cancel-none : (n m : Number) (s : List Holding) (ts : List ℕ) → cancelledIn n (executions m s ts) ≡ 0
+pub executions-cancel-none : (n m : Number) (price : Resting → HalfCents) (s : List Holding) (ts : List ℕ)
+    → cancelledIn n (executions m price s ts) ≡ 0
 unfolding executions sumOf
-executions-cancel-none n m [] ts = refl
-executions-cancel-none n m (h ∷ s) [] = refl
-executions-cancel-none n m (h ∷ s) (t ∷ ts) =
+executions-cancel-none n m price [] ts = refl
+executions-cancel-none n m price (h ∷ s) [] = refl
+executions-cancel-none n m price (h ∷ s) (t ∷ ts) =
     ⊎-elim
-    (λ (z : eqb t 0 ≡ true). rw z (executions-cancel-none n m s ts))
-    (λ (z : eqb t 0 ≡ false). rw z (omega (arith, executions-cancel-none n m s ts)))
+    (λ (z : eqb t 0 ≡ true). rw z (executions-cancel-none n m price s ts))
+    (λ (z : eqb t 0 ≡ false). rw z (omega (arith, executions-cancel-none n m price s ts)))
     (holds-or-not (eqb t 0))
 
 -- ── What is cancelled and what is set anew ──
@@ -181,17 +182,20 @@ isFilled (Cancels reason) = false
 abbrev Unfilled : Ending → Type 0
 Unfilled e = isFilled e ≡ false
 
-with-unfilled : (left : ℕ) (o : Order) (away : Away) (s : List Resting) → Leaves left (endingWith left o away s)
+with-unfilled : (left : ℕ) (o : Order) (met : Met) → Leaves left (endingWith left o met)
 unfolding endingWith
-with-unfilled left o away s f =
+with-unfilled left o met f =
     ⊎-elim
     (λ (t : eqb left 0 ≡ true). eqb-true left 0 t)
     (λ (t : eqb left 0 ≡ false).
-    let u : Unfilled (endingWith left o away s) =
-    rw t (chosen Unfilled (has (o .word) fok) refl (chosen Unfilled (has (o .word) ioc) refl (sought-is Unfilled (λ price e. refl) refl refl refl o away s refl))) in
+    let u : Unfilled (endingWith left o met) =
+    rw t
+    (chosen Unfilled (has (o .word) fok) refl
+    (chosen Unfilled (has (o .word) ioc) refl
+    (sought-is Unfilled (λ price e. refl) refl refl refl o (met .away) (met .opposite) refl))) in
     absurd (true≢false (sym (ap isFilled f) ∙ u)))
     (holds-or-not (eqb left 0))
 
-pub ending-leaves : (o : Order) (away : Away) (s : List Resting) → Leaves (remainder o away s) (ending o away s)
+pub ending-leaves : (o : Order) (met : Met) → Leaves (remainder o met) (ending o met)
 unfolding ending
-ending-leaves o away s = with-unfilled (remainder o away s) o away s
+ending-leaves o met = with-unfilled (remainder o met) o met

@@ -9,11 +9,11 @@ use lib.Dec.{eqb}
 use native.Mathlib.Omega.{arith}
 use borrow.Author.Tests.{eqb-true, eqb-false, ltb-false, le-ltb}
 use Rattle.basics.specs.Choice.{if_then_else_}
-use Rattle.basics.specs.Lists.{All, OneOf}
+use Rattle.basics.specs.Lists.{any, All, OneOf}
 use Rattle.basics.proofs.LawsChoice.{holds-or-not, and-right}
 use Rattle.basics.proofs.LawsLists.{all-alike, one-of-all}
-use Rattle.kinds.specs.Kinds.{priceInRange}
-use Rattle.kinds.specs.declared.Cents.{Cents}
+use Rattle.kinds.specs.Kinds.{inHalfCents, restingPriceInRange}
+use Rattle.kinds.specs.declared.HalfCents.{HalfCents}
 use Rattle.kinds.specs.declared.Number.{Number}
 use Rattle.rules.specs.declared.Away.{Away}
 use Rattle.rules.specs.declared.Body.{Body}
@@ -28,9 +28,9 @@ use Rattle.rules.specs.Book.{Book, fresh, sound}
 use Rattle.rules.specs.Commands.{does}
 use Rattle.rules.specs.Day.{bookAfter}
 use Rattle.rules.specs.Instructions.{ioc, fok, displayed, cancelBack, postOnly, iso, has}
-use Rattle.rules.specs.Settling.{ownSide, oppositeSide}
+use Rattle.rules.specs.Settling.{ownSide}
 use Rattle.rules.specs.Step.{answerTo}
-use Rattle.rules.specs.Working.{buying, beyond, lockingPrice, absent, remainder, adjusted, oneCentLessAggressive, seeks, equalsOrPasses, unlessPostOnlyMeets, endingWith, ending}
+use Rattle.rules.specs.Working.{Met, buying, metBy, beyond, limitOf, lockingPrice, absent, remainder, adjusted, oneCentLessAggressive, seeks, meetsOrPasses, unlessPostOnlyMeets, endingWith, ending}
 use Rattle.rules.proofs.LawsCommands.{fateBy, IfSet, if-set, never-set, crosses-beyond, not-beyond-itself}
 use Rattle.soundness.proofs.LawsEndings.{chosen}
 use Rattle.soundness.proofs.LawsKept.{answer-sound, fresh-sound}
@@ -48,12 +48,12 @@ use Rattle.demands.proofs.LawsRun.{accepted-does}
 -- an ending that rests at no price beyond the limit
 abbrev WithinLimit : Order → Ending → Type 0
 WithinLimit o Filled = Unit {0}
-WithinLimit o (Rests price) = beyond (buying o) (o .price) price ≡ false
+WithinLimit o (Rests price) = beyond (buying o) (limitOf o) price ≡ false
 WithinLimit o (Cancels reason) = Unit {0}
 
 -- what is not beyond a bound is not beyond a limit at or beyond that bound
-not-further : (buy : Bool) (bound limit price : Cents) → (eqb (limit .0) (bound .0) || beyond buy bound limit) ≡ true → beyond buy bound price ≡ false
-    → beyond buy limit price ≡ false
+not-further : (buy : Bool) (bound limit price : HalfCents) → (eqb (limit .0) (bound .0) || beyond buy bound limit) ≡ true
+    → beyond buy bound price ≡ false → beyond buy limit price ≡ false
 not-further buy bound limit price m b =
     ⊎-elim
     (λ (t : beyond buy limit price ≡ true). absurd (true≢false (sym (beyond-within buy bound limit price m t) ∙ b)))
@@ -61,27 +61,27 @@ not-further buy bound limit price m b =
     (holds-or-not (beyond buy limit price))
 
 -- a cent less aggressive is not beyond
-less-not-beyond : (buy : Bool) (bound : Cents) → beyond buy bound (oneCentLessAggressive buy bound) ≡ false
-less-not-beyond true bound = le-ltb (bound .0) (bound .0 - 1) (omega arith)
-less-not-beyond false bound = le-ltb (bound .0 + 1) (bound .0) (omega arith)
+less-not-beyond : (buy : Bool) (bound : HalfCents) → beyond buy bound (oneCentLessAggressive buy bound) ≡ false
+less-not-beyond true bound = le-ltb (bound .0) (bound .0 - 2) (omega arith)
+less-not-beyond false bound = le-ltb (bound .0 + 2) (bound .0) (omega arith)
 
 -- a claim on an ending that is chosen by a test
 tested : (P : Ending → Type 0) (t : Bool) {e f : Ending} → (t ≡ true → P e) → P f → P (if t then e else f)
 tested P true p q = p refl
 tested P false p q = q
 
-module _ (o : Order) (away : Away) where
+module _ (o : Order) where
   -- an adjusted order rests at the price that it is adjusted to, or not at all
-  adjusted-within : (price : Cents) → beyond (buying o) (o .price) price ≡ false → WithinLimit o (adjusted o price)
+  adjusted-within : (price : HalfCents) → beyond (buying o) (limitOf o) price ≡ false → WithinLimit o (adjusted o price)
   adjusted-within price b =
-      chosen (WithinLimit o) (has (o .word) cancelBack) tt (chosen (WithinLimit o) (priceInRange price) b tt)
+      chosen (WithinLimit o) (has (o .word) cancelBack) tt (chosen (WithinLimit o) (restingPriceInRange price) b tt)
 
   -- 4. a remainder seeks its limit, or a price at or below (selling: above) the Locking Price that its limit meets
-  seeks-within : WithinLimit o (seeks o away)
+  seeks-within : (away : Away) → WithinLimit o (seeks o away)
   unfolding seeks
-  seeks-within =
+  seeks-within away =
       let buy = buying o in
-      let limit = o .price in
+      let limit = limitOf o in
       let locking = lockingPrice buy away in
       let wouldCross = beyond buy locking limit in
       let wouldLock = eqb (limit .0) (locking .0) in
@@ -99,30 +99,30 @@ module _ (o : Order) (away : Away) where
   -- 5. changes no price
   unless-within : (s : List Resting) (e : Ending) → WithinLimit o e → WithinLimit o (unlessPostOnlyMeets o s e)
   unless-within s Filled w = tt
-  unless-within s (Rests price) w = chosen (WithinLimit o) (has (o .word) postOnly && equalsOrPasses (buying o) price s) tt w
+  unless-within s (Rests price) w = chosen (WithinLimit o) (has (o .word) postOnly && any (meetsOrPasses (buying o) price) s) tt w
   unless-within s (Cancels reason) w = tt
 
   -- whatever becomes of the order
-  ending-within : (s : List Resting) → WithinLimit o (ending o away s)
+  ending-within : (met : Met) → WithinLimit o (ending o met)
   unfolding ending endingWith
-  ending-within s =
-      chosen (WithinLimit o) (eqb (remainder o away s) 0) tt
+  ending-within met =
+      chosen (WithinLimit o) (eqb (remainder o met) 0) tt
       (chosen (WithinLimit o) (has (o .word) fok) tt
-      (chosen (WithinLimit o) (has (o .word) ioc) tt (unless-within s (seeks o away) seeks-within)))
+      (chosen (WithinLimit o) (has (o .word) ioc) tt (unless-within (met .opposite) (seeks o (met .away)) (seeks-within (met .away)))))
 
 -- ── Every resting order of a number ──
 
 -- a resting order of a side is on the order's side, at no price beyond its limit
 record Limited (o : Order) (buy : Bool) (h : Resting) : Type 0 where
   isSide : buying o ≡ buy
-  within : beyond buy (o .price) (h .price) ≡ false
+  within : beyond buy (limitOf o) (h .price) ≡ false
 
 -- those that have number n are
 abbrev Limits : Order → Number → Book → Type 0
 Limits o n b = (buy : Bool) → All (λ (h : Resting). h .number ≡ n → Limited o buy h) (ownSide buy b)
 
 -- whoever is set at a bound that it was beyond is not beyond its limit, if it was not before
-less-aggressive : (buy : Bool) (limit bound price : Cents) → beyond buy bound price ≡ true → beyond buy limit price ≡ false
+less-aggressive : (buy : Bool) (limit bound price : HalfCents) → beyond buy bound price ≡ true → beyond buy limit price ≡ false
     → beyond buy limit bound ≡ false
 less-aggressive buy limit bound price b w =
     ⊎-elim
@@ -131,7 +131,7 @@ less-aggressive buy limit bound price b w =
     (holds-or-not (beyond buy limit bound))
 
 -- so is whoever a command sets anew
-set-within : (c : Body) (buy : Bool) (limit : Cents) (h : Resting) → beyond buy limit (h .price) ≡ false
+set-within : (c : Body) (buy : Bool) (limit : HalfCents) (h : Resting) → beyond buy limit (h .price) ≡ false
     → IfSet (λ (new : Resting). beyond buy limit (new .price) ≡ false) (fateBy c buy h)
 set-within c buy limit h w =
     if-set (λ (new : Resting). beyond buy limit (new .price) ≡ false) c buy h
@@ -146,8 +146,8 @@ module _ (b : Book) (isSound : Sound b) (n : Number) (next : b .held .last .0 < 
       limited x (stayed h p a i e) same = absurd (another-number b isSound n next buy p (ap (λ (m : Number). m .0) (sym i ∙ same)))
       limited x (anew h new p a i e) same = never-set a
       limited x (rests t e i) same =
-          let w : beyond (buying o) (o .price) (x .price) ≡ false = subst (WithinLimit o) e (ending-within o (b .held .away) (oppositeSide buy b)) in
-          record { isSide = t; within = subst (λ (side : Bool). beyond side (o .price) (x .price) ≡ false) t w }
+          let w : beyond (buying o) (limitOf o) (x .price) ≡ false = subst (WithinLimit o) e (ending-within o (metBy o b)) in
+          record { isSide = t; within = subst (λ (side : Bool). beyond side (limitOf o) (x .price) ≡ false) t w }
 
   -- by any later command
   later-limits : (o : Order) (m : Number) → m .0 ≤ b .held .last .0 → Limits o m b → (c : Body) → Limits o m (does n time c b .book)
@@ -159,7 +159,8 @@ module _ (b : Book) (isSound : Sound b) (n : Number) (next : b .held .last .0 < 
           record { isSide = w .isSide; within = rw e (w .within) }
       limited c x (anew h new p a i e) same =
           let w = one-of-all (limits buy) p (sym i ∙ same) in
-          let within = subst (IfSet (λ (new : Resting). beyond buy (o .price) (new .price) ≡ false)) a (set-within c buy (o .price) h (w .within)) in
+          let within = subst (IfSet (λ (new : Resting). beyond buy (limitOf o) (new .price) ≡ false)) a
+          (set-within c buy (limitOf o) h (w .within)) in
           record { isSide = w .isSide; within = rw e within }
       limited (body.Order entered) x (rests t e i) same =
           let z : ⊥ = omega (arith, next, l, ap (λ (k : Number). k .0) (sym i ∙ same)) in
@@ -201,14 +202,15 @@ enters-side (later r) = enters-side r
 -- over any run from a fresh book, an order rests on its side, a buy at most at its limit, a sell at least
 pub rests-within-limit : (lines : List (List ℕ)) (stood : Book) (line : List ℕ) (c : Command) (o : Order) → Enters byLine fresh lines stood line c o
     → (h : Resting) → h .number ≡ c .number
-    → (OneOf h (bookAfter fresh lines .buys) → (o .side ≡ 0) × (h .price .0 ≤ o .price .0))
-    × (OneOf h (bookAfter fresh lines .sells) → (o .side ≡ 1) × (o .price .0 ≤ h .price .0))
+    → (OneOf h (bookAfter fresh lines .buys) → (o .side ≡ 0) × (h .price .0 ≤ inHalfCents (o .price) .0))
+    × (OneOf h (bookAfter fresh lines .sells) → (o .side ≡ 1) × (inHalfCents (o .price) .0 ≤ h .price .0))
 rests-within-limit lines stood line c o r h same =
     let limits = enters-limits fresh-sound r in (
       λ p.
           let w = one-of-all (limits true) p same in
-          (eqb-true (o .side) 0 (w .isSide), ltb-false (o .price .0) (h .price .0) (w .within)),
+          (eqb-true (o .side) 0 (w .isSide), ltb-false (inHalfCents (o .price) .0) (h .price .0) (w .within)),
       λ p.
           let w = one-of-all (limits false) p same in
-          (omega (arith, enters-side r, eqb-false (o .side) 0 (w .isSide)), ltb-false (h .price .0) (o .price .0) (w .within)),
+          let isSell : o .side ≡ 1 = omega (arith, enters-side r, eqb-false (o .side) 0 (w .isSide)) in
+          (isSell, ltb-false (h .price .0) (inHalfCents (o .price) .0) (w .within)),
     )

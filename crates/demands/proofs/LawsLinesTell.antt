@@ -11,11 +11,10 @@ use borrow.Author.Tests.{eq-eqb, eqb-true, eqb-false, not-true}
 use Rattle.basics.specs.Lists.{any, distinct, total, sumOf, gathered, All, none, also, OneOf, first, later, Each, empty, with}
 use Rattle.basics.proofs.LawsChoice.{holds-or-not, by-choice, and-left, and-right, or-neither}
 use Rattle.basics.proofs.LawsLists.{all-alike, one-of-all, each-there, gathered-append, gathered-all}
-use Rattle.kinds.specs.declared.Cents.{Cents}
+use Rattle.kinds.specs.declared.HalfCents.{HalfCents}
 use Rattle.kinds.specs.declared.Number.{Number}
 use Rattle.kinds.specs.declared.Shares.{Shares}
 use Rattle.kinds.specs.Kinds.{shares}
-use Rattle.rules.specs.declared.Away.{Away}
 use Rattle.rules.specs.declared.Ending.{Ending}
 use Rattle.rules.specs.declared.Ending.the-variants.{Filled, Rests, Cancels}
 use Rattle.rules.specs.declared.Event.{Event}
@@ -29,7 +28,7 @@ use Rattle.rules.specs.EventLines.{fokKilled}
 use Rattle.rules.specs.Holdings.{Holding, executions}
 use Rattle.rules.specs.Instructions.{ioc, fok, has}
 use Rattle.rules.specs.Settling.{toldBy, told}
-use Rattle.rules.specs.Working.{endingWith, lastLine, refillFate}
+use Rattle.rules.specs.Working.{Met, endingWith, lastLine, refillFate}
 use Rattle.rules.proofs.LawsRank.{ranks-not-itself, ranked-first, ranked-rest, ranks-transitive}
 use Rattle.soundness.proofs.LawsEndings.{chosen, sought-is}
 use Rattle.soundness.proofs.LawsNumbers.{oneIf, fewer-distinct}
@@ -42,7 +41,8 @@ use Rattle.demands.proofs.LawsShareOut.{pricedAt}
 -- ── Lines of one kind ──
 
 -- whoever is refilled is told by a move: what holds of each move holds of the lines of the refills
-pub every-refill : {P : Event → Type 0} → ((m : Number) (price : Cents) (k : Shares) → P (Moved m price k)) → (s : List Resting) → All P (told refillFate s)
+pub every-refill : {P : Event → Type 0} → ((m : Number) (price : HalfCents) (k : Shares) → P (Moved m price k)) → (s : List Resting)
+    → All P (told refillFate s)
 unfolding told
 every-refill {P = P} f s = gathered-all (λ (h : Resting). toldBy (refillFate h) h) (all-alike (λ h p. by-refill h) (each-there s))
   where
@@ -85,17 +85,17 @@ some : (t : ℕ) → t ≢ 0 → 1 ≤ t
 some zero n = absurd (n refl)
 some (suc t) n = omega arith
 
-pub executions-between : (n : Number) {side : List Resting} {hs : List Holding} → All (λ (h : Holding). OneOf (h .of) side) hs → (ts : List ℕ)
-    → All (Between n side) (executions n hs ts)
+pub executions-between : (n : Number) (price : Resting → HalfCents) {side : List Resting} {hs : List Holding}
+    → All (λ (h : Holding). OneOf (h .of) side) hs → (ts : List ℕ) → All (Between n side) (executions n price hs ts)
 unfolding executions
-executions-between n none ts = none
-executions-between n (also p a) [] = none
-executions-between n {side = side} (also {x = h} p a) (t ∷ ts) =
+executions-between n price none ts = none
+executions-between n price (also p a) [] = none
+executions-between n price {side = side} (also {x = h} p a) (t ∷ ts) =
     ⊎-elim
-    (λ (z : eqb t 0 ≡ true). rw z (executions-between n a ts))
+    (λ (z : eqb t 0 ≡ true). rw z (executions-between n price a ts))
     (λ (z : eqb t 0 ≡ false).
-    let own : Between n side (Executed n (h .of .number) (h .of .price) (shares t)) = (refl, found p, some t (eqb-false t 0 z)) in
-    rw z (also own (executions-between n a ts)))
+    let own : Between n side (Executed n (h .of .number) (price (h .of)) (shares t)) = (refl, found p, some t (eqb-false t 0 z)) in
+    rw z (also own (executions-between n price a ts)))
     (holds-or-not (eqb t 0))
 
 pub last-between : (n : Number) (s : List Resting) (left : ℕ) (e : Ending) → All (Between n s) (lastLine n left e)
@@ -138,16 +138,17 @@ opposite-once {buy = buy} {own = own} {opposite = opposite} sides =
 
 -- ── What execution lines tell ──
 
--- the executions are the lines of the share-out that is taken, each at its holding's price
-lines-of-taken : (m : Number) (hs : List Holding) (ts : List ℕ) → executionsIn (executions m hs ts) ≡ linesOf m hs (pricedAt hs ts)
+-- the executions are the lines of the share-out that is taken, each at its order's price for the walk
+lines-of-taken : (m : Number) (price : Resting → HalfCents) (hs : List Holding) (ts : List ℕ)
+    → executionsIn (executions m price hs ts) ≡ linesOf m hs (pricedAt price hs ts)
 unfolding executions linesOf pricedAt gathered
-lines-of-taken m [] ts = refl
-lines-of-taken m (h ∷ hs) [] = refl
-lines-of-taken m (h ∷ hs) (t ∷ ts) =
+lines-of-taken m price [] ts = refl
+lines-of-taken m price (h ∷ hs) [] = refl
+lines-of-taken m price (h ∷ hs) (t ∷ ts) =
     ⊎-elim
-    (λ (z : eqb t 0 ≡ true). rw z (lines-of-taken m hs ts))
+    (λ (z : eqb t 0 ≡ true). rw z (lines-of-taken m price hs ts))
     (λ (z : eqb t 0 ≡ false).
-    rw z (ap (λ (es : List Event). Executed m (h .of .number) (h .of .price) (shares t) ∷ es) (lines-of-taken m hs ts)))
+    rw z (ap (λ (es : List Event). Executed m (h .of .number) (price (h .of)) (shares t) ∷ es) (lines-of-taken m price hs ts)))
     (holds-or-not (eqb t 0))
 
 -- no other line of an order is one of them
@@ -165,20 +166,20 @@ refills-no-execution s = none-gathered (every-refill (λ m price k. refl) s)
     none-gathered none = refl
     none-gathered (also z a) = rw z (none-gathered a)
 
-pub lines-told : (m : Number) (hs : List Holding) (ts : List ℕ) (left : ℕ) (e : Ending) (s : List Resting)
-    → executionsIn (executions m hs ts ++ (lastLine m left e ++ told refillFate s)) ≡ linesOf m hs (pricedAt hs ts)
-lines-told m hs ts left e s =
-    gathered-append executionIn (executions m hs ts) (lastLine m left e ++ told refillFate s)
+pub lines-told : (m : Number) (price : Resting → HalfCents) (hs : List Holding) (ts : List ℕ) (left : ℕ) (e : Ending) (s : List Resting)
+    → executionsIn (executions m price hs ts ++ (lastLine m left e ++ told refillFate s)) ≡ linesOf m hs (pricedAt price hs ts)
+lines-told m price hs ts left e s =
+    gathered-append executionIn (executions m price hs ts) (lastLine m left e ++ told refillFate s)
     ∙ rw (gathered-append executionIn (lastLine m left e) (told refillFate s), last-no-execution m left e, refills-no-execution s)
-    (append-nil (executionsIn (executions m hs ts)) ∙ lines-of-taken m hs ts)
+    (append-nil (executionsIn (executions m price hs ts)) ∙ lines-of-taken m price hs ts)
 
 -- .. and of the incoming order, which is none of the side, what is taken in all
-pub executed-total : (m : Number) {hs : List Holding} {ts : List ℕ} → Each NoMore hs ts → All (λ (h : Holding). m .0 ≢ h .of .number .0) hs
-    → executedIn m (executions m hs ts) ≡ total ts
+pub executed-total : (m : Number) (price : Resting → HalfCents) {hs : List Holding} {ts : List ℕ} → Each NoMore hs ts
+    → All (λ (h : Holding). m .0 ≢ h .of .number .0) hs → executedIn m (executions m price hs ts) ≡ total ts
 unfolding executions sumOf total
-executed-total m empty none = refl
-executed-total m (with {x = h} {y = t} {u = ts} l e) (also d a) =
-    let ih = executed-total m e a in
+executed-total m price empty none = refl
+executed-total m price (with {x = h} {y = t} {u = ts} l e) (also d a) =
+    let ih = executed-total m price e a in
     ⊎-elim
     (λ (z : eqb t 0 ≡ true). rw z (omega (arith, ih, eqb-true t 0 z)))
     (λ (z : eqb t 0 ≡ false). rw z (omega (arith, ih, counted-same m m t refl, counted-other m (h .of .number) t d)))
@@ -226,14 +227,15 @@ kill-cancels m left (Rests price) k = absurd (true≢false (sym k))
 kill-cancels m left (Cancels reason) k = omega (arith, counted-same m m left refl)
 
 -- executions kill nobody
-pub executions-kill-none : (n m : Number) (s : List Holding) (ts : List ℕ) (fs : List Event) → isKilled n (executions m s ts ++ fs) ≡ isKilled n fs
+pub executions-kill-none : (n m : Number) (price : Resting → HalfCents) (s : List Holding) (ts : List ℕ) (fs : List Event)
+    → isKilled n (executions m price s ts ++ fs) ≡ isKilled n fs
 unfolding executions any
-executions-kill-none n m [] ts fs = refl
-executions-kill-none n m (h ∷ s) [] fs = refl
-executions-kill-none n m (h ∷ s) (t ∷ ts) fs =
+executions-kill-none n m price [] ts fs = refl
+executions-kill-none n m price (h ∷ s) [] fs = refl
+executions-kill-none n m price (h ∷ s) (t ∷ ts) fs =
     ⊎-elim
-    (λ (z : eqb t 0 ≡ true). rw z (executions-kill-none n m s ts fs))
-    (λ (z : eqb t 0 ≡ false). rw z (executions-kill-none n m s ts fs))
+    (λ (z : eqb t 0 ≡ true). rw z (executions-kill-none n m price s ts fs))
+    (λ (z : eqb t 0 ≡ false). rw z (executions-kill-none n m price s ts fs))
     (holds-or-not (eqb t 0))
 
 -- what seeks its price ends as no killed one
@@ -241,16 +243,16 @@ abbrev Lives : Ending → Type 0
 Lives e = isKill e ≡ false
 
 -- an order ends as a killed one exactly if it is a Fill-or-Kill of which something is left
-pub ending-kills : (left : ℕ) (o : Order) (away : Away) (s : List Resting) → isKill (endingWith left o away s) ≡ (not (eqb left 0) && has (o .word) fok)
+pub ending-kills : (left : ℕ) (o : Order) (met : Met) → isKill (endingWith left o met) ≡ (not (eqb left 0) && has (o .word) fok)
 unfolding endingWith
-ending-kills left o away s =
+ending-kills left o met =
     ⊎-elim
     (λ (z : eqb left 0 ≡ true). rw z refl)
     (λ (z : eqb left 0 ≡ false).
     ⊎-elim
     (λ (k : has (o .word) fok ≡ true). rw (z, k) refl)
     (λ (k : has (o .word) fok ≡ false).
-    rw (z, k) (chosen Lives (has (o .word) ioc) refl (sought-is Lives (λ price e. refl) refl refl refl o away s refl)))
+    rw (z, k) (chosen Lives (has (o .word) ioc) refl (sought-is Lives (λ price e. refl) refl refl refl o (met .away) (met .opposite) refl)))
     (holds-or-not (has (o .word) fok)))
     (holds-or-not (eqb left 0))
 

@@ -1,13 +1,13 @@
 -- Where the resting orders after a command come from: each stood there before and keeps its price, or the command set it anew, or it is
 -- what rests of the order that the command enters. Assumes nothing.
 use Prim.Native.Nat.{ℕ, _+_, _<_}
-use mathlib.Core.Bool.{Bool, true, false}
+use mathlib.Core.Bool.{Bool, true, false, not}
 use mathlib.Core.List.{List, [], _++_}
 use mathlib.Core.Logic.{_≢_, ⊎-elim}
-use mathlib.Core.Path.{_≡_, refl, sym, subst}
+use mathlib.Core.Path.{_≡_, refl, sym, ap, subst}
 use native.Mathlib.Omega.{arith}
 use Rattle.basics.specs.Lists.{All, OneOf, first, later}
-use Rattle.basics.proofs.LawsChoice.{holds-or-not}
+use Rattle.basics.proofs.LawsChoice.{holds-or-not, by-choice}
 use Rattle.basics.proofs.LawsLists.{all-alike, one-of-all, each-there, behind}
 use Rattle.kinds.specs.declared.Number.{Number}
 use Rattle.rules.specs.declared.Body.{Body}
@@ -28,7 +28,7 @@ use Rattle.rules.specs.declared.Fate.the-variants.{Stays, IsSet}
 use Rattle.rules.specs.Holdings.{after}
 use Rattle.rules.specs.Settling.{stampedAs, refilled, settledSide, firstMove, ownSide, oppositeSide, settled, bothSettled}
 use Rattle.rules.specs.Step.{answerTo}
-use Rattle.rules.specs.Working.{buying, takings, remainder, ending, remainderOf, withRemainder, refillFate}
+use Rattle.rules.specs.Working.{buying, metBy, takings, remainder, ending, remainderOf, withRemainder, refillFate}
 use Rattle.rules.proofs.LawsCommands.{fateBy, IfSet, SameOrder, set-same, order-does}
 use Rattle.rules.proofs.LawsWalkOrder.{after-are, RefillSays, refill-says}
 use Rattle.soundness.proofs.LawsAccepted.{InOrder}
@@ -50,49 +50,61 @@ pub data Comes (b : Book) (n : Number) (buy : Bool) (x : Resting) : Body → Typ
       → Comes b n buy x c
   anew : {c : Body} (h new : Resting) → OneOf h (ownSide buy b) → fateBy c buy h ≡ IsSet new → x .number ≡ h .number → x .price ≡ new .price
       → Comes b n buy x c
-  rests : {o : Order} → buying o ≡ buy → ending o (b .held .away) (oppositeSide buy b) ≡ Rests (x .price) → x .number ≡ n → Comes b n buy x (body.Order o)
+  rests : {o : Order} → buying o ≡ buy → ending o (metBy o b) ≡ Rests (x .price) → x .number ≡ n → Comes b n buy x (body.Order o)
+
+-- the opposite side of a buy is that of the sells, and the other way round
+pub opposite-own : (buy : Bool) (b : Book) → oppositeSide buy b ≡ ownSide (not buy) b
+opposite-own true b = refl
+opposite-own false b = refl
 
 module _ (b : Book) (isSound : Sound b) (n : Number) (time : ℕ) where
   -- an order: on its own side, and on the opposite one, where neither fewer shares nor a refill change number or price
   same-comes : (o : Order) (buy : Bool) → All (λ x. Comes b n buy x (body.Order o)) (ownSide buy b)
   same-comes o buy = all-alike (λ h p. stayed h p refl refl refl) (each-there (ownSide buy b))
 
-  own-comes : (o : Order) (buy : Bool) → buying o ≡ buy → (left : ℕ) (e : Ending) → ending o (b .held .away) (oppositeSide buy b) ≡ e
-      → All (λ x. Comes b n buy x (body.Order o)) (withRemainder n o left e (ownSide buy b))
-  own-comes o buy t left Filled i = same-comes o buy
-  own-comes o buy t left (Cancels reason) i = same-comes o buy
-  own-comes o buy t left (Rests price) i =
-      added-all (rests t i refl) (added-insert (buying o) (remainderOf n o left price) (ownSide buy b)) (same-comes o buy)
+  own-comes : (o : Order) (left : ℕ) (e : Ending) → ending o (metBy o b) ≡ e
+      → All (λ x. Comes b n (buying o) x (body.Order o)) (withRemainder n o left e (ownSide (buying o) b))
+  own-comes o left Filled i = same-comes o (buying o)
+  own-comes o left (Cancels reason) i = same-comes o (buying o)
+  own-comes o left (Rests price) i =
+      added-all (rests refl i refl) (added-insert (buying o) (remainderOf n o left price) (ownSide (buying o) b)) (same-comes o (buying o))
 
-  opposite-comes : (o : Order) (buy : Bool) (k : ℕ)
-      → All (λ x. Comes b n buy x (body.Order o)) (settledSide n k buy refillFate (after (ownSide buy b) (takings o (b .held .away) (ownSide buy b))))
-  opposite-comes o buy k =
-      let side = ownSide buy b in
-      let left = after side (takings o (b .held .away) side) in
+  opposite-comes : (o : Order) (k : ℕ)
+      → let met = metBy o b in
+      All (λ x. Comes b n (not (buying o)) x (body.Order o))
+      (settledSide n k (not (buying o)) refillFate (after (met .opposite) (takings o met)))
+  opposite-comes o k =
+      let met = metBy o b in
+      let buy = not (buying o) in
+      let left = after (met .opposite) (takings o met) in
       let came : All (λ x. Comes b n buy x (body.Order o)) left =
-      after-are o (b .held .away) side (λ h t r p g kept. stayed h p refl refl refl) in
+      after-are o met (λ h t r p g kept. stayed h (subst (OneOf h) (opposite-own (buying o) b) p) refl refl refl) in
       settled-are refillFate n k buy left (λ h p e. one-of-all came p)
       (λ h new p e. subst (λ (x : Resting). Comes b n buy (stampedAs (stamp n (setPlace refillFate k p)) x) (body.Order o))
       (subst (RefillSays h) e (refill-says h) .1) (same (one-of-all came p)))
     where
-      same : {h : Resting} {anew : Stamp} → Comes b n buy h (body.Order o) → Comes b n buy (stampedAs anew (refilled h)) (body.Order o)
+      same : {buy : Bool} {h : Resting} {anew : Stamp} → Comes b n buy h (body.Order o)
+          → Comes b n buy (stampedAs anew (refilled h)) (body.Order o)
       same (stayed g p a i e) = stayed g p a i e
       same (anew g new p a i e) = anew g new p a i e
       same (rests t e i) = rests t e i
 
+  -- each on the side that it is
+  on-side : {side buy : Bool} (o : Order) {s : List Resting} → side ≡ buy → All (λ x. Comes b n side x (body.Order o)) s
+      → All (λ x. Comes b n buy x (body.Order o)) s
+  on-side o {s = s} e a = subst (λ (side : Bool). All (λ x. Comes b n side x (body.Order o)) s) e a
+
   accept-comes : (o : Order) (buy : Bool) → All (λ x. Comes b n buy x (body.Order o)) (ownSide buy (does n time (body.Order o) b .book))
   accept-comes o true =
+      let mine = own-comes o (remainder o (metBy o b)) (ending o (metBy o b)) refl in
       rw (order-does n time b o .0)
-      (⊎-elim
-      (λ (t : buying o ≡ true). rw t (own-comes o true t (remainder o (b .held .away) (b .sells)) (ending o (b .held .away) (b .sells)) refl))
-      (λ (t : buying o ≡ false). rw t (opposite-comes o true firstMove))
-      (holds-or-not (buying o)))
+      (by-choice (All (λ x. Comes b n true x (body.Order o))) (buying o) (λ t. on-side o t mine)
+      (λ t. on-side o (ap not t) (opposite-comes o firstMove)))
   accept-comes o false =
+      let mine = own-comes o (remainder o (metBy o b)) (ending o (metBy o b)) refl in
       rw (order-does n time b o .0)
-      (⊎-elim
-      (λ (t : buying o ≡ true). rw t (opposite-comes o false firstMove))
-      (λ (t : buying o ≡ false). rw t (own-comes o false t (remainder o (b .held .away) (b .buys)) (ending o (b .held .away) (b .buys)) refl))
-      (holds-or-not (buying o)))
+      (by-choice (All (λ x. Comes b n false x (body.Order o))) (buying o)
+      (λ t. on-side o (ap not t) (opposite-comes o firstMove)) (λ t. on-side o t mine))
 
   -- every other command
   settled-comes : (c : Body) (buy : Bool) (k : ℕ) → All (λ x. Comes b n buy x c) (settledSide n k buy (fateBy c buy) (ownSide buy b))

@@ -12,7 +12,7 @@ use borrow.Author.Tests.{eq-eqb}
 use Rattle.basics.specs.Lists.{gathered, All, OneOf, first}
 use Rattle.basics.proofs.LawsChoice.{holds-or-not}
 use Rattle.basics.proofs.LawsLists.{all-alike, one-of-all, in-front, behind, gathered-has}
-use Rattle.kinds.specs.declared.Cents.{Cents}
+use Rattle.kinds.specs.declared.HalfCents.{HalfCents}
 use Rattle.kinds.specs.declared.Number.{Number}
 use Rattle.rules.specs.declared.Away.{Away}
 use Rattle.rules.specs.declared.Body.the-variants as body
@@ -70,7 +70,7 @@ ranks-behind : (buy : Bool) (x y : Resting) → x .price ≡ y .price → y .dis
     → earlier (x .stamp) (y .stamp) ≡ true → ranksBefore buy x y ≡ true
 unfolding ranksBefore
 ranks-behind buy x y same hidden before =
-    let one : eqb (x .price .0) (y .price .0) ≡ true = eq-eqb (x .price .0) (y .price .0) (ap (λ (p : Cents). p .0) same) in
+    let one : eqb (x .price .0) (y .price .0) ≡ true = eq-eqb (x .price .0) (y .price .0) (ap (λ (p : HalfCents). p .0) same) in
     ⊎-elim
     (λ (t : x .displayed ≡ true). rw (one, hidden, t) refl)
     (λ (t : x .displayed ≡ false). rw (one, hidden, t) before)
@@ -186,8 +186,8 @@ writes-side buy away (h ∷ s) =
     quote-fate (λ (f : Fate). Writes buy away (h ∷ s) (toldBy f h ++ told (quoteFate away buy) s)) away buy h
     (λ t. ofNone (not-crossing t) (writes-side buy away s))
     (λ t b. ofCancelled (would-cross buy away h t) b (writes-side buy away s))
-    (λ t b. subst (λ (p : Cents). Writes buy away (h ∷ s) (Moved (h .number) p (h .shares) ∷ told (quoteFate away buy) s)) (locking-is buy away)
-    (ofMoved (would-cross buy away h t) b (writes-side buy away s)))
+    (λ t b. subst (λ (p : HalfCents). Writes buy away (h ∷ s) (Moved (h .number) p (h .shares) ∷ told (quoteFate away buy) s))
+    (locking-is buy away) (ofMoved (would-cross buy away h t) b (writes-side buy away s)))
 
 -- an accepted quote writes the lines of its moves, buys first, and nothing else
 pub quote-writes : (b : Book) (line : List ℕ) (n : Number) (time : ℕ) (away : Away) → sound b ≡ true

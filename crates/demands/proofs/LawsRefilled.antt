@@ -12,9 +12,8 @@ use Rattle.basics.specs.Choice.{if_then_else_}
 use Rattle.basics.specs.Lists.{All, OneOf}
 use Rattle.basics.proofs.LawsChoice.{holds-or-not}
 use Rattle.basics.proofs.LawsLists.{all-alike, one-of-all}
-use Rattle.kinds.specs.declared.Cents.{Cents}
+use Rattle.kinds.specs.declared.HalfCents.{HalfCents}
 use Rattle.kinds.specs.declared.Number.{Number}
-use Rattle.rules.specs.declared.Away.{Away}
 use Rattle.rules.specs.declared.Body.the-variants as body
 use Rattle.rules.specs.declared.Command.{Command}
 use Rattle.rules.specs.declared.Event.{Event}
@@ -29,7 +28,7 @@ use Rattle.rules.specs.Day.{printed}
 use Rattle.rules.specs.Holdings.{reducedBy, keeping, after}
 use Rattle.rules.specs.Settling.{stampedAs, refilled, settledSide, firstMove}
 use Rattle.rules.specs.Step.{answerTo}
-use Rattle.rules.specs.Working.{buying, takings, refillFate}
+use Rattle.rules.specs.Working.{Met, buying, metBy, takings, refillFate}
 use Rattle.rules.proofs.LawsCommands.{order-does}
 use Rattle.rules.proofs.LawsHoldings.{Parts, parts-alike, keeping-all}
 use Rattle.rules.proofs.LawsRank.{earlier-command, earlier-place}
@@ -56,7 +55,7 @@ use Rattle.demands.proofs.LawsGave.{Took, left-is, shown-left, shown-us
 ranks-first : (buy : Bool) (x y : Resting) → x .price ≡ y .price → x .displayed ≡ true → earlier (x .stamp) (y .stamp) ≡ true → ranksBefore buy x y ≡ true
 unfolding ranksBefore
 ranks-first buy x y same shown before =
-    let one : eqb (x .price .0) (y .price .0) ≡ true = eq-eqb (x .price .0) (y .price .0) (ap (λ (p : Cents). p .0) same) in
+    let one : eqb (x .price .0) (y .price .0) ≡ true = eq-eqb (x .price .0) (y .price .0) (ap (λ (p : HalfCents). p .0) same) in
     ⊎-elim
     (λ (t : y .displayed ≡ true). rw (one, shown, t) before)
     (λ (t : y .displayed ≡ false). rw (one, shown, t) refl)
@@ -70,7 +69,8 @@ ranks-again buy g h g′ h′ r isG isH before =
     rw (isG .price, isH .price, isG .displayed, isH .displayed)
     (by-fields (g .price) (h .price) (g .displayed) (h .displayed) (earlier (g .stamp) (h .stamp)) (earlier (g′ .stamp) (h′ .stamp)) r before)
   where
-    by-fields : (p q : Cents) (d e u v : Bool) → (if not (eqb (p .0) (q .0)) then better buy p q else (if not (Bool·beq d e) then d else u)) ≡ true
+    by-fields : (p q : HalfCents) (d e u v : Bool)
+        → (if not (eqb (p .0) (q .0)) then better buy p q else (if not (Bool·beq d e) then d else u)) ≡ true
         → v ≡ true → (if not (eqb (p .0) (q .0)) then better buy p q else (if not (Bool·beq d e) then d else v)) ≡ true
     by-fields p q d e u v r before =
         ⊎-elim
@@ -199,18 +199,18 @@ module _ (buy : Bool) (n : Number) (k : ℕ) {es : List Event} {last : Number} {
 -- ── An accepted order ──
 
 -- all that 02 says holds of the side that it meets
-side-refilled : (m : Number) (o : Order) (away : Away) {last : Number} (s : List Resting) → onceEach s ≡ true → All (InRange last) s
-    → (buy : Bool) (k : ℕ) → inRankOrder buy s ≡ true → last .0 < m .0
-    → Refills buy m s (settledSide m k buy refillFate (after s (takings o away s))) (workLines m o away s)
+side-refilled : (m : Number) (o : Order) (met : Met) {last : Number} → onceEach (met .opposite) ≡ true → All (InRange last) (met .opposite)
+    → (buy : Bool) (k : ℕ) → inRankOrder buy (met .opposite) ≡ true → last .0 < m .0
+    → Refills buy m (met .opposite) (settledSide m k buy refillFate (after (met .opposite) (takings o met))) (workLines m o met)
 unfolding after
-side-refilled m o away s once inRange buy k ranked above =
-    refills-side buy m k (lines-took m o away s once inRange) once inRange
-    (thinned-ranked buy (thinned-after (takings o away s) (all-alike (λ h r. omega (arith, r .holding)) inRange)) ranked) above
+side-refilled m o met once inRange buy k ranked above =
+    refills-side buy m k (lines-took m o met once inRange) once inRange
+    (thinned-ranked buy (thinned-after (takings o met) (all-alike (λ h r. omega (arith, r .holding)) inRange)) ranked) above
 
 -- the side that it meets, afterwards
 opposite-left : (b : Book) (line : List ℕ) (c : Command) (o : Order) → acts b line ≡ true → commandIn line ≡ reading.Is c → c .body ≡ body.Order o
     → opposite o (answerTo b line .book)
-    ≡ settledSide (c .number) firstMove (not (buying o)) refillFate (after (opposite o b) (takings o (b .held .away) (opposite o b)))
+    ≡ settledSide (c .number) firstMove (not (buying o)) refillFate (after (opposite o b) (takings o (metBy o b)))
 opposite-left b line c o t e f =
     rw (accepted-does b line c e t .0, f, order-does (c .number) (c .time) b o .0)
     (⊎-elim
@@ -226,5 +226,5 @@ order-refills b line c o s t e f =
     let sides = sides-of (buying o) b (sound-is b s) in
     let next = acts-accepted b line c t e .next in
     rw (line-told b line s, acts-lines b line c o t e f, opposite-left b line c o t e f)
-    (side-refilled (c .number) o (b .held .away) (opposite o b) (opposite-once sides) (sides .oppositeInRange) (not (buying o)) firstMove
+    (side-refilled (c .number) o (metBy o b) (opposite-once sides) (sides .oppositeInRange) (not (buying o)) firstMove
     (sides .oppositeRanked) (omega (arith, next)))

@@ -13,8 +13,8 @@ use native.Mathlib.Omega.{arith}
 use borrow.Author.Tests.{eqb-true, eqb-false}
 use Rattle.basics.specs.Lists.{gathered, total, Each, empty, with}
 use Rattle.basics.proofs.LawsChoice.{holds-or-not, lt-or-le, and-right}
+use Rattle.kinds.specs.declared.HalfCents.{HalfCents}
 use Rattle.kinds.specs.declared.Number.{Number}
-use Rattle.rules.specs.declared.Away.{Away}
 use Rattle.rules.specs.declared.Body.{Body}
 use Rattle.rules.specs.declared.Body.the-variants as body
 use Rattle.rules.specs.declared.Event.{Event}
@@ -31,7 +31,7 @@ use Rattle.rules.specs.Holdings.{Holding, size, holdings, ordersOf, nothing, wa
 use Rattle.rules.specs.Refusals.{leastRoom, firstOf, lineRefusals, refusals}
 use Rattle.rules.specs.Settling.{told, oppositeSide}
 use Rattle.rules.specs.Step.{doneBy, answer, answerTo, stepOn}
-use Rattle.rules.specs.Working.{buying, mayTouch, takings, remainder, endingWith, ending, lastLine, refillFate}
+use Rattle.rules.specs.Working.{Met, buying, metBy, executionPrice, mayTouch, takings, remainder, endingWith, ending, lastLine, refillFate}
 use Rattle.rules.proofs.LawsCommands.{fateBy, order-does, does-tells}
 use Rattle.rules.proofs.LawsEvents.{eventLines-append, none-long, refusal-length, executions-more, told-more, told-long, last-long}
 use Rattle.rules.proofs.LawsHoldings.{Parts, none, also, holdings-reserves}
@@ -50,13 +50,13 @@ keepers held (h ∷ s) [] = 0
 keepers held (h ∷ s) (t ∷ ts) = min 1 (held h - t) + keepers held s ts
 
 -- the bytes of a walk's executions, and of a refill for each holding that keeps a share
-abbrev couldWrite : Number → List Holding → List ℕ → ℕ
-couldWrite n hs ts = length (eventLines (executions n hs ts)) + 27 * keepers size hs ts
+abbrev couldWrite : Number → (Resting → HalfCents) → List Holding → List ℕ → ℕ
+couldWrite n price hs ts = length (eventLines (executions n price hs ts)) + 27 * keepers size hs ts
 
-nothing-writes : (n : Number) (hs : List Holding) → couldWrite n hs (nothing hs) ≤ 35 * length hs
+nothing-writes : (n : Number) (price : Resting → HalfCents) (hs : List Holding) → couldWrite n price hs (nothing hs) ≤ 35 * length hs
 unfolding keepers nothing executions
-nothing-writes n [] = omega (arith, none-long)
-nothing-writes n (h ∷ s) = omega (arith, executions-more n h s 0 (nothing s), nothing-writes n s)
+nothing-writes n price [] = omega (arith, none-long)
+nothing-writes n price (h ∷ s) = omega (arith, executions-more n price h s 0 (nothing s), nothing-writes n price s)
 
 -- only a holding that gives a part can have both lines, and then nothing is left
 one-writes : (left held : ℕ)
@@ -68,19 +68,19 @@ one-writes left held =
     (λ (l : held ≤ left). rw (min-eq-right l, sub-self) (omega arith))
     (lt-or-le left held)
 
-walk-writes : (n : Number) (may : Holding → Bool) (left : ℕ) (hs : List Holding)
+walk-writes : (n : Number) (price : Resting → HalfCents) (may : Holding → Bool) (left : ℕ) (hs : List Holding)
     → let ts = walk may smaller left hs in
-    couldWrite n hs ts + 27 * min 1 (left - total ts) ≤ 35 * length hs + 27 * min 1 left
+    couldWrite n price hs ts + 27 * min 1 (left - total ts) ≤ 35 * length hs + 27 * min 1 left
 unfolding walk keepers total executions
-walk-writes n may left [] = omega (arith, none-long)
-walk-writes n may left (h ∷ s) =
+walk-writes n price may left [] = omega (arith, none-long)
+walk-writes n price may left (h ∷ s) =
     ⊎-elim
     (λ (t : may h ≡ true).
     let gives = smaller left h in
     let ts = walk may smaller (left - gives) s in
     let others : min 1 (left - (gives + total ts)) ≡ min 1 (left - gives - total ts) = ap (min 1) (omega arith) in
-    rw t (omega (arith, executions-more n h s gives ts, walk-writes n may (left - gives) s, one-writes left (size h), others)))
-    (λ (t : may h ≡ false). rw t (omega (arith, nothing-writes n (h ∷ s), nothing-total (h ∷ s))))
+    rw t (omega (arith, executions-more n price h s gives ts, walk-writes n price may (left - gives) s, one-writes left (size h), others)))
+    (λ (t : may h ≡ false). rw t (omega (arith, nothing-writes n price (h ∷ s), nothing-total (h ∷ s))))
     (holds-or-not (may h))
 
 -- ── Refills ──
@@ -121,57 +121,68 @@ reserves-keep (with {x = h} c e) =
 
 -- ── An order ──
 
-module _ (n : Number) (o : Order) (away : Away) (s : List Resting) where
-  takings-write : couldWrite n (holdings s) (takings o away s) + 27 * min 1 (remainder o away s) ≤ 35 * length (holdings s) + 27
+module _ (n : Number) (o : Order) (met : Met) where
+  abbrev hs : List Holding
+  hs = holdings (met .opposite)
+
+  takings-write : couldWrite n (executionPrice o met) hs (takings o met) + 27 * min 1 (remainder o met) ≤ 35 * length hs + 27
   unfolding remainder
   takings-write =
       takings-are
-      (λ (ts : List ℕ). couldWrite n (holdings s) ts + 27 * min 1 (o .shares .0 - total ts) ≤ 35 * length (holdings s) + 27) o away s
-      (omega (arith, nothing-writes n (holdings s)))
-      (omega (arith, walk-writes n (λ (h : Holding). mayTouch o away (h .of .price)) (o .shares .0) (holdings s)))
+      (λ (ts : List ℕ). couldWrite n (executionPrice o met) hs ts + 27 * min 1 (o .shares .0 - total ts) ≤ 35 * length hs + 27) o met
+      (omega (arith, nothing-writes n (executionPrice o met) hs))
+      (omega (
+        arith,
+        walk-writes n (executionPrice o met) (λ (h : Holding). mayTouch o (met .away) (executionPrice o met (h .of))) (o .shares .0) hs,
+      ))
 
   -- the line of what is left of it
-  last-writes : length (eventLines (lastLine n (remainder o away s) (ending o away s))) ≤ 27 * min 1 (remainder o away s)
+  last-writes : length (eventLines (lastLine n (remainder o met) (ending o met))) ≤ 27 * min 1 (remainder o met)
   unfolding ending endingWith
   last-writes =
-      let left = remainder o away s in
+      let left = remainder o met in
       ⊎-elim
       (λ (z : eqb left 0 ≡ true). rw z (omega (arith, none-long)))
-      (λ (z : eqb left 0 ≡ false). let some : left ≢ 0 = eqb-false left 0 z in omega (arith, some, last-long n left (ending o away s)))
+      (λ (z : eqb left 0 ≡ false). let some : left ≢ 0 = eqb-false left 0 z in omega (arith, some, last-long n left (ending o met)))
       (holds-or-not (eqb left 0))
 
-  refills-write : length (eventLines (told refillFate (after s (takings o away s)))) ≤ 27 * keepers size (holdings s) (takings o away s)
+  refills-write : length (eventLines (told refillFate (after (met .opposite) (takings o met)))) ≤ 27 * keepers size hs (takings o met)
   unfolding after
   refills-write =
-      let hs = holdings s in
-      let ts = takings o away s in
+      let s = met .opposite in
+      let ts = takings o met in
       let kept : keepers reserveOf s (takenOf true hs ts) ≤ keepers size hs ts =
       subst (λ (l : List Resting). keepers reserveOf l (takenOf true hs ts) ≤ keepers size hs ts) (holdings-reserves s)
-      (reserves-keep (takings-within o away s)) in
-      omega (arith, kept, refills-long (parts-within o away s))
+      (reserves-keep (takings-within o met)) in
+      omega (arith, kept, refills-long (parts-within o met))
 
 module _ (n : Number) (time : ℕ) (b : Book) (o : Order) where
   -- its executions, its last line and the refills
-  pub order-writes : let away = b .held .away in
-      let s = oppositeSide (buying o) b in
-      let ts = takings o away s in
+  pub order-writes : let met = metBy o b in
+      let ts = takings o met in
       length (eventLines (does n time (body.Order o) b .events))
-      ≡ length (eventLines (executions n (holdings s) ts)) + length (eventLines (lastLine n (remainder o away s) (ending o away s)))
-      + length (eventLines (told refillFate (after s ts)))
+      ≡ length (eventLines (executions n (executionPrice o met) (holdings (met .opposite)) ts))
+      + length (eventLines (lastLine n (remainder o met) (ending o met)))
+      + length (eventLines (told refillFate (after (met .opposite) ts)))
   order-writes =
-      let away = b .held .away in
-      let s = oppositeSide (buying o) b in
-      let es = executions n (holdings s) (takings o away s) in
-      let last = lastLine n (remainder o away s) (ending o away s) in
-      let refills = told refillFate (after s (takings o away s)) in
+      let met = metBy o b in
+      let es = executions n (executionPrice o met) (holdings (met .opposite)) (takings o met) in
+      let last = lastLine n (remainder o met) (ending o met) in
+      let refills = told refillFate (after (met .opposite) (takings o met)) in
       rw (order-does n time b o .1, eventLines-append (es ++ last) refills, eventLines-append es last) (simp length-append)
 
   -- by the orders of the side that it meets, sound or not
   pub order-long : length (eventLines (does n time (body.Order o) b .events)) ≤ 70 * length (oppositeSide (buying o) b) + 27
   order-long =
-      let away = b .held .away in
-      let s = oppositeSide (buying o) b in
-      omega (arith, order-writes, takings-write n o away s, last-writes n o away s, refills-write n o away s, holdings-length s)
+      let met = metBy o b in
+      omega (
+        arith,
+        order-writes,
+        takings-write n o met,
+        last-writes n o met,
+        refills-write n o met,
+        holdings-length (met .opposite),
+      )
 
 -- ── A command ──
 

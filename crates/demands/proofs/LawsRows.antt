@@ -14,6 +14,7 @@ use Rattle.basics.specs.Lists.{any, All, none, also}
 use Rattle.basics.proofs.LawsChoice.{holds-or-not, and-left, and-right, and-none, or-neither}
 use Rattle.basics.proofs.LawsLists.{all-both}
 use Rattle.kinds.specs.declared.Cents.{Cents}
+use Rattle.kinds.specs.declared.HalfCents.{HalfCents}
 use Rattle.kinds.specs.declared.Number.{Number}
 use Rattle.kinds.specs.Kinds.{number, lowestPrice, highestPrice, fewestShares, mostShares, priceInRange, sharesInRange}
 use Rattle.rules.specs.declared.Away.{Away}
@@ -30,8 +31,7 @@ use Rattle.rules.specs.Book.{Book, BookRecord, bookIn, awayInRange, opening, cl
 use Rattle.rules.specs.Commands.{isNumber}
 use Rattle.rules.specs.Instructions.{market, reserve, has, lawful}
 use Rattle.rules.specs.Refusals.{Refusal, isClose, untimely, carriesFloor, orderLawful, orderPriceInRange, carriedInRange, orderInRange, isResting, isRest, restsOnFullSide, headerRefusals, bodyRefusals}
-use Rattle.rules.specs.Working.{ending}
-use Rattle.demands.specs.ShareOut.{opposite}
+use Rattle.rules.specs.Working.{metBy, ending}
 use Rattle.demands.specs.ExactlyWhen.{own, NeitherNoneNorInRange, AppliesTo, seen, tooHigh, isClosed, beforeTheLast, beforeTheOpening, fromTheClosingOn, afterTheClosing, unlawful, reserveWithNoFloor, floorWithNoReserve, noSide, sharesOutside, limitOutside, marketPriced, floorOutside, bidOutside, offerOutside, notResting, sideFull}
 
 -- a table gives a number, in one of its rows
@@ -203,7 +203,7 @@ found-on-neither n (h ∷ s) u (also other a) = rw (has-other n h other) (found-
 -- ── 11: the side is full ──
 
 -- what rests, rests at a price
-rest-price : (e : Ending) → isRest e ≡ true → (price : Cents) × (e ≡ Rests price)
+rest-price : (e : Ending) → isRest e ≡ true → (price : HalfCents) × (e ≡ Rests price)
 rest-price Filled h = absurd (true≢false (sym h))
 rest-price (Rests price) h = (price, refl)
 rest-price (Cancels reason) h = absurd (true≢false (sym h))
@@ -221,9 +221,9 @@ module _ (r : BookRecord) (c : Command) where
   body-applies (body.Order o) is (here t) = word-applies r c o is (not-true (orderLawful o) t)
   body-applies (body.Order o) is (later (here t)) = range-applies r c o is (not-true (orderInRange o) t)
   body-applies (body.Order o) is (later (later (here t))) =
-      let rest = isRest (ending o (r .held .away) (opposite o (bookIn r))) in
+      let rest = isRest (ending o (metBy o (bookIn r))) in
       let full = leb placesASide (length (own o (bookIn r))) in
-      let at = rest-price (ending o (r .held .away) (opposite o (bookIn r))) (and-left rest full t) in
+      let at = rest-price (ending o (metBy o (bookIn r))) (and-left rest full t) in
       sideFull o is (at .0) (at .1) (leb-true placesASide (length (own o (bookIn r))) (and-right rest full t))
   body-applies (body.Cancel n) is (here t) =
       let b = bookIn r in

@@ -9,42 +9,47 @@ use mathlib.Core.Path.{_≡_, refl, sym, _∙_, subst}
 use lib.Dec.{eqb, ltb}
 use native.Mathlib.Omega.{arith}
 use borrow.Author.Tests.{eq-eqb, ne-eqb, eqb-true, eqb-false, lt-ltb, le-ltb, ltb-false, not-true}
-use Rattle.basics.specs.Lists.{total, sumOf, All, also, OneOf, first, Each, empty, with}
+use Rattle.basics.specs.Lists.{total, sumOf, All, none, also, OneOf, first, Each, empty, with}
 use Rattle.basics.proofs.LawsChoice.{holds-or-not, lt-or-le, and-left, and-right}
-use Rattle.basics.proofs.LawsLists.{all-alike, one-of-all}
+use Rattle.basics.proofs.LawsLists.{one-of-all}
 use Rattle.kinds.specs.declared.Cents.{Cents}
+use Rattle.kinds.specs.declared.HalfCents.{HalfCents}
+use Rattle.kinds.specs.Kinds.{inHalfCents}
 use Rattle.rules.specs.declared.Away.{Away}
 use Rattle.rules.specs.declared.Order.{Order}
 use Rattle.rules.specs.declared.Resting.{Resting}
 use Rattle.rules.specs.Book.{inRankOrder}
 use Rattle.rules.specs.Holdings.{Holding, size, holdings, walksBefore, nothing, walk, smaller, BeforeAll, InWalkOrder, somebody}
 use Rattle.rules.specs.Instructions.{fok, iso, market, postOnly, has}
+use Rattle.rules.proofs.LawsBest.{all-holdings}
 use Rattle.rules.proofs.LawsInTurn.{InTurn, next, takings-in-turn}
 use Rattle.rules.proofs.LawsTakings.{nothing-total, walk-at-most}
-use Rattle.rules.specs.Working.{buying, beyond, lockingPrice, absent, mayTouch, walked, takings}
-use Rattle.rules.proofs.LawsWalkOrder.{walks-transitive, walks-not-itself, walks-price, holdings-walk}
+use Rattle.rules.specs.Working.{Met, buying, beyond, limitOf, lockingPrice, absent, executionPrice, mayTouch, walked, takings}
+use Rattle.rules.proofs.LawsWalkOrder.{walks-transitive, walks-not-itself, holdings-walk}
 use Rattle.demands.specs.ShareOut.{Given, Beside, here, later, Fair, LawfulGiving, given, Lawful, Fills}
+use Rattle.demands.proofs.LawsPriceHere.{sells, sells-other, given-here, here-is, Meetable, lower, higher}
 use Rattle.demands.proofs.LawsWalked.{taken, couldGive, available, walk-total}
 
 -- each taking beside the price of its holding
-unfoldable pub pricedAt : List Holding → List ℕ → List Given
-pricedAt [] ts = []
-pricedAt (h ∷ s) [] = []
-pricedAt (h ∷ s) (t ∷ ts) = record { shares = t; price = h .of .price } ∷ pricedAt s ts
+unfoldable pub pricedAt : (Resting → HalfCents) → List Holding → List ℕ → List Given
+pricedAt price [] ts = []
+pricedAt price (h ∷ s) [] = []
+pricedAt price (h ∷ s) (t ∷ ts) = record { shares = t; price = price (h .of) } ∷ pricedAt price s ts
 
 -- what is given in all is the total of what is taken
-nothing-given : (s : List Holding) → given (pricedAt s (nothing s)) ≡ 0
+nothing-given : (price : Resting → HalfCents) (s : List Holding) → given (pricedAt price s (nothing s)) ≡ 0
 unfolding nothing pricedAt sumOf
-nothing-given [] = refl
-nothing-given (h ∷ s) = omega (arith, nothing-given s)
+nothing-given price [] = refl
+nothing-given price (h ∷ s) = omega (arith, nothing-given price s)
 
-walk-given : (may : Holding → Bool) (left : ℕ) (s : List Holding) → given (pricedAt s (walk may smaller left s)) ≡ total (walk may smaller left s)
+walk-given : (price : Resting → HalfCents) (may : Holding → Bool) (left : ℕ) (s : List Holding)
+    → given (pricedAt price s (walk may smaller left s)) ≡ total (walk may smaller left s)
 unfolding walk total pricedAt sumOf
-walk-given may left [] = refl
-walk-given may left (h ∷ s) =
+walk-given price may left [] = refl
+walk-given price may left (h ∷ s) =
     ⊎-elim
-    (λ (t : may h ≡ true). rw t (omega (arith, walk-given may (left - min left (size h)) s)))
-    (λ (t : may h ≡ false). rw t (omega (arith, nothing-total (h ∷ s), nothing-given (h ∷ s))))
+    (λ (t : may h ≡ true). rw t (omega (arith, walk-given price may (left - min left (size h)) s)))
+    (λ (t : may h ≡ false). rw t (omega (arith, nothing-total (h ∷ s), nothing-given price (h ∷ s))))
     (holds-or-not (may h))
 
 -- ── Rank ──
@@ -59,52 +64,54 @@ never-itself : {P : Type 0} (buy : Bool) (x : Holding) → walksBefore buy x x �
 never-itself buy x w = absurd (true≢false (sym w ∙ walks-not-itself buy x))
 
 -- where holdings in the order of the walk give in turn, whoever the walk reaches before one that gives gave all
-turn-rank : (buy : Bool) {hs : List Holding} {ts : List ℕ} → InWalkOrder buy hs → InTurn hs ts → {better worse : Holding} {gives takes : Given}
-    → Beside better gives hs (pricedAt hs ts) → Beside worse takes hs (pricedAt hs ts) → walksBefore buy better worse ≡ true → 0 < takes .shares
-    → gives .shares ≡ size better
+turn-rank : (price : Resting → HalfCents) (buy : Bool) {hs : List Holding} {ts : List ℕ} → InWalkOrder buy hs → InTurn hs ts
+    → {better worse : Holding} {gives takes : Given} → Beside better gives hs (pricedAt price hs ts)
+    → Beside worse takes hs (pricedAt price hs ts) → walksBefore buy better worse ≡ true → 0 < takes .shares → gives .shares ≡ size better
 unfolding pricedAt
-turn-rank buy (somebody before w) (next c i) {better = better} here here b g = never-itself buy better b
-turn-rank buy (somebody before w) (next {h = h} {t = t} {s = hs} {ts = ts} c i) here (later q) b g =
+turn-rank price buy (somebody before w) (next c i) {better = better} here here b g = never-itself buy better b
+turn-rank price buy (somebody before w) (next {h = h} {t = t} {s = hs} {ts = ts} c i) here (later q) b g =
     ⊎-elim
     (λ (all : t ≡ size h). all)
     (λ (idle : All (λ (k : ℕ). k ≡ 0) ts). let n = none-priced hs ts idle q in let z : ⊥ = omega (arith, n, g) in absurd z)
     c
   where
-    none-priced : (hs : List Holding) (ts : List ℕ) → All (λ (k : ℕ). k ≡ 0) ts → {x : Holding} {g : Given} → Beside x g hs (pricedAt hs ts) → g .shares ≡ 0
+    none-priced : (hs : List Holding) (ts : List ℕ) → All (λ (k : ℕ). k ≡ 0) ts → {x : Holding} {g : Given}
+        → Beside x g hs (pricedAt price hs ts) → g .shares ≡ 0
     none-priced (h ∷ hs) (t ∷ ts) (also n a) here = n
     none-priced (h ∷ hs) (t ∷ ts) (also n a) (later p) = none-priced hs ts a p
-turn-rank buy (somebody {h = h} before w) (next c i) {better = better} (later p) here b g =
+turn-rank price buy (somebody {h = h} before w) (next c i) {better = better} (later p) here b g =
     never-itself buy better (walks-transitive buy better h better b (one-of-all before (beside-there p)))
-turn-rank buy (somebody before w) (next c i) (later p) (later q) b g = turn-rank buy w i p q b g
+turn-rank price buy (somebody before w) (next c i) (later p) (later q) b g = turn-rank price buy w i p q b g
 
 -- ── Fairness ──
 
-within-buys : (bound price : Cents) → not (beyond true bound price) ≡ true → price .0 ≤ bound .0
+within-buys : (bound price : HalfCents) → not (beyond true bound price) ≡ true → price .0 ≤ bound .0
 within-buys bound price w = ltb-false (bound .0) (price .0) (not-true (ltb (bound .0) (price .0)) w)
 
-within-sells : (bound price : Cents) → not (beyond false bound price) ≡ true → bound .0 ≤ price .0
+within-sells : (bound price : HalfCents) → not (beyond false bound price) ≡ true → bound .0 ≤ price .0
 within-sells bound price w = ltb-false (price .0) (bound .0) (not-true (ltb (price .0) (bound .0)) w)
 
-buys-within : (bound price : Cents) → price .0 ≤ bound .0 → not (beyond true bound price) ≡ true
+buys-within : (bound price : HalfCents) → price .0 ≤ bound .0 → not (beyond true bound price) ≡ true
 buys-within bound price l = rw (le-ltb (bound .0) (price .0) l) refl
 
-sells-within : (bound price : Cents) → bound .0 ≤ price .0 → not (beyond false bound price) ≡ true
+sells-within : (bound price : HalfCents) → bound .0 ≤ price .0 → not (beyond false bound price) ≡ true
 sells-within bound price l = rw (le-ltb (price .0) (bound .0) l) refl
 
-sells-other : (side : ℕ) → side ≡ 1 → eqb side 0 ≡ false
-sells-other side e = ne-eqb side 0 (λ (z : side ≡ 0). let n : ⊥ = omega (arith, e, z) in n)
-
 -- the two halves of the test
-abbrev withinLimit : Order → Cents → Bool
-withinLimit o price = has (o .word) market || not (beyond (buying o) (o .price) price)
+abbrev withinLimit : Order → HalfCents → Bool
+withinLimit o price = has (o .word) market || not (beyond (buying o) (limitOf o) price)
 
-abbrev withinAway : Order → Away → Cents → Bool
+abbrev withinAway : Order → Away → HalfCents → Bool
 withinAway o away price =
     has (o .word) iso || absent (lockingPrice (buying o) away) || not (beyond (buying o) (lockingPrice (buying o) away) price)
 
 -- the test of a holding
-abbrev mayTake : Order → Away → Holding → Bool
-mayTake o away h = mayTouch o away (h .of .price)
+abbrev mayTake : Order → Met → Holding → Bool
+mayTake o m h = mayTouch o (m .away) (executionPrice o m (h .of))
+
+-- an away price that is there is there in half cents
+pub present-is : (p : Cents) → p .0 ≢ 0 → absent (inHalfCents p) ≡ false
+present-is p some = ne-eqb (inHalfCents p .0) 0 (λ z. some (omega (arith, z)))
 
 -- a test that is passed, or that there is none to pass
 none-or-within : (bound : ℕ) (t : Bool) → (bound ≢ 0 → t ≡ true) → (eqb bound 0 || t) ≡ true
@@ -117,197 +124,212 @@ none-or-within bound t f =
 both : (a b : Bool) → a ≡ true → b ≡ true → (a && b) ≡ true
 both a b p q = rw (p, q) refl
 
--- a price that is no worse than a fair one is fair
-fair-better : (o : Order) (away : Away) (x y : Holding) → walksBefore (not (buying o)) x y ≡ true → Fair o away (y .of .price) → Fair o away (x .of .price)
-fair-better o away x y r f =
-    record {
-      buysWithinLimit = λ m b. omega (arith, lower b, f .buysWithinLimit m b);
-      sellsWithinLimit = λ m b. omega (arith, higher b, f .sellsWithinLimit m b);
-      buysWithinOffer = λ i b n. omega (arith, lower b, f .buysWithinOffer i b n);
-      sellsWithinBid = λ i b n. omega (arith, higher b, f .sellsWithinBid i b n);
-    }
-  where
-    lower : o .side ≡ 0 → x .of .price .0 ≤ y .of .price .0
-    lower b = let w = walks-price (not (buying o)) x y r in ltb-false (y .of .price .0) (x .of .price .0) (rw (eq-eqb (o .side) 0 b) at w)
-
-    higher : o .side ≡ 1 → y .of .price .0 ≤ x .of .price .0
-    higher b = let w = walks-price (not (buying o)) x y r in ltb-false (x .of .price .0) (y .of .price .0) (rw (sells-other (o .side) b) at w)
-
 -- ── Demand 3, of an order that is not Post Only, on a side in rank order ──
 
-module _ (o : Order) (away : Away) (opposite : List Resting) (isSide : o .side ≤ 1) (notPostOnly : has (o .word) postOnly ≡ false)
-    (ranked : inRankOrder (not (buying o)) opposite ≡ true) where
-  -- the holdings that it meets
+module _ (o : Order) (m : Met) (isSide : o .side ≤ 1) (notPostOnly : has (o .word) postOnly ≡ false)
+    (ranked : inRankOrder (not (buying o)) (m .opposite) ≡ true) (meetable : All (Meetable o m) (m .opposite)) where
+  -- the holdings that it meets, and their prices
   abbrev hs : List Holding
-  hs = holdings opposite
+  hs = holdings (m .opposite)
+
+  abbrev away : Away
+  away = m .away
+
+  abbrev at : Resting → HalfCents
+  at = executionPrice o m
+
+  all-meetable : All (λ (x : Holding). Meetable o m (x .of)) hs
+  all-meetable = all-holdings meetable meetable
 
   -- the test of 01's step 1 is the customer's fairness
-  pub may-fair : (price : Cents) → mayTouch o away price ≡ true → Fair o away price
+  pub may-fair : (price : HalfCents) → mayTouch o away price ≡ true → Fair o away price
   may-fair price t =
       let l = and-left (withinLimit o price) (withinAway o away price) t in
       let a = and-right (withinLimit o price) (withinAway o away price) t in
       record {
-        buysWithinLimit = λ m b. within-buys (o .price) price (rw (m, eq-eqb (o .side) 0 b) at l);
-        sellsWithinLimit = λ m b. within-sells (o .price) price (rw (m, sells-other (o .side) b) at l);
-        buysWithinOffer = λ i b n. within-buys (away .offer) price (rw (i, eq-eqb (o .side) 0 b, ne-eqb (away .offer .0) 0 n) at a);
-        sellsWithinBid = λ i b n. within-sells (away .bid) price (rw (i, sells-other (o .side) b, ne-eqb (away .bid .0) 0 n) at a);
+        buysWithinLimit = λ n b. within-buys (limitOf o) price (rw (n, eq-eqb (o .side) 0 b) at l);
+        sellsWithinLimit = λ n b. within-sells (limitOf o) price (rw (n, sells-other (o .side) b) at l);
+        buysWithinOffer = λ i b n.
+            within-buys (inHalfCents (away .offer)) price (rw (i, eq-eqb (o .side) 0 b, present-is (away .offer) n) at a);
+        sellsWithinBid = λ i b n.
+            within-sells (inHalfCents (away .bid)) price (rw (i, sells-other (o .side) b, present-is (away .bid) n) at a);
       }
 
-  sells : buying o ≡ false → o .side ≡ 1
-  sells b = omega (arith, isSide, eqb-false (o .side) 0 b)
-
-  fair-limit : (price : Cents) → Fair o away price → withinLimit o price ≡ true
+  fair-limit : (price : HalfCents) → Fair o away price → withinLimit o price ≡ true
   fair-limit price f =
       ⊎-elim
-      (λ (m : has (o .word) market ≡ true). rw m refl)
-      (λ (m : has (o .word) market ≡ false).
+      (λ (n : has (o .word) market ≡ true). rw n refl)
+      (λ (n : has (o .word) market ≡ false).
       ⊎-elim
-      (λ (b : buying o ≡ true). rw (m, b) (buys-within (o .price) price (f .buysWithinLimit m (eqb-true (o .side) 0 b))))
-      (λ (b : buying o ≡ false). rw (m, b) (sells-within (o .price) price (f .sellsWithinLimit m (sells b))))
+      (λ (b : buying o ≡ true). rw (n, b) (buys-within (limitOf o) price (f .buysWithinLimit n (eqb-true (o .side) 0 b))))
+      (λ (b : buying o ≡ false). rw (n, b) (sells-within (limitOf o) price (f .sellsWithinLimit n (sells o isSide b))))
       (holds-or-not (buying o)))
       (holds-or-not (has (o .word) market))
 
-  fair-away : (price : Cents) → Fair o away price → withinAway o away price ≡ true
+  fair-away : (price : HalfCents) → Fair o away price → withinAway o away price ≡ true
   fair-away price f =
       ⊎-elim
       (λ (i : has (o .word) iso ≡ true). rw i refl)
       (λ (i : has (o .word) iso ≡ false).
       ⊎-elim
       (λ (b : buying o ≡ true).
-      rw (i, b) (none-or-within (away .offer .0) (not (beyond true (away .offer) price))
-      (λ n. buys-within (away .offer) price (f .buysWithinOffer i (eqb-true (o .side) 0 b) n))))
+      rw (i, b) (none-or-within (inHalfCents (away .offer) .0) (not (beyond true (inHalfCents (away .offer)) price))
+      (λ n. buys-within (inHalfCents (away .offer)) price (f .buysWithinOffer i (eqb-true (o .side) 0 b) (λ z. n (omega (arith, z)))))))
       (λ (b : buying o ≡ false).
-      rw (i, b) (none-or-within (away .bid .0) (not (beyond false (away .bid) price))
-      (λ n. sells-within (away .bid) price (f .sellsWithinBid i (sells b) n))))
+      rw (i, b) (none-or-within (inHalfCents (away .bid) .0) (not (beyond false (inHalfCents (away .bid)) price))
+      (λ n. sells-within (inHalfCents (away .bid)) price (f .sellsWithinBid i (sells o isSide b) (λ z. n (omega (arith, z)))))))
       (holds-or-not (buying o)))
       (holds-or-not (has (o .word) iso))
 
-  pub fair-may : (price : Cents) → Fair o away price → mayTouch o away price ≡ true
+  pub fair-may : (price : HalfCents) → Fair o away price → mayTouch o away price ≡ true
   fair-may price f = both (withinLimit o price) (withinAway o away price) (fair-limit price f) (fair-away price f)
 
+  -- a price that is no worse than a fair one is fair
+  fair-better : (x y : Holding) → walksBefore (not (buying o)) x y ≡ true → Meetable o m (y .of) → Fair o away (at (y .of))
+      → Fair o away (at (x .of))
+  fair-better x y r c f =
+      record {
+        buysWithinLimit = λ n b. omega (arith, lower o m b x y r c, f .buysWithinLimit n b);
+        sellsWithinLimit = λ n b. omega (arith, higher o m b x y r c, f .sellsWithinLimit n b);
+        buysWithinOffer = λ i b n. omega (arith, lower o m b x y r c, f .buysWithinOffer i b n);
+        sellsWithinBid = λ i b n. omega (arith, higher o m b x y r c, f .sellsWithinBid i b n);
+      }
+
   -- none behind one that may not be touched may be
-  ends : (h : Holding) (s : List Holding) → BeforeAll (not (buying o)) h s → mayTake o away h ≡ false
-      → All (λ (y : Holding). mayTake o away y ≡ false) s
-  ends h s before n = all-alike behind before
+  ends : (h : Holding) (s : List Holding) → BeforeAll (not (buying o)) h s → All (λ (x : Holding). Meetable o m (x .of)) s
+      → mayTake o m h ≡ false → All (λ (y : Holding). mayTake o m y ≡ false) s
+  ends h [] none none n = none
+  ends h (y ∷ s) (also b before) (also c cs) n = also behind (ends h s before cs n)
     where
-      behind : (y : Holding) → walksBefore (not (buying o)) h y ≡ true → mayTake o away y ≡ false
-      behind y b =
+      behind : mayTake o m y ≡ false
+      behind =
           ⊎-elim
-          (λ (t : mayTake o away y ≡ true).
-          absurd (true≢false (sym (fair-may (h .of .price) (fair-better o away h y b (may-fair (y .of .price) t))) ∙ n)))
-          (λ (t : mayTake o away y ≡ false). t)
-          (holds-or-not (mayTake o away y))
+          (λ (t : mayTake o m y ≡ true).
+          absurd (true≢false (sym (fair-may (at (h .of)) (fair-better h y b c (may-fair (at (y .of)) t))) ∙ n)))
+          (λ (t : mayTake o m y ≡ false). t)
+          (holds-or-not (mayTake o m y))
 
   -- ── Lawful share-outs, and what the walk gives ──
 
   -- who gives lawfully gives no more than it could
-  one-within : (h : Holding) (g : Given) → LawfulGiving o away h g → g .shares ≤ couldGive (mayTake o away) h
+  one-within : (h : Holding) (g : Given) → LawfulGiving o (m .away) (m .own) h g → g .shares ≤ couldGive (mayTake o m) h
   one-within h g l =
       ⊎-elim
       (λ (p : 0 < g .shares).
-      let f : Fair o away (h .of .price) = subst (Fair o away) (l .atItsPrice p) (l .fair p) in
-      rw (fair-may (h .of .price) f) (l .noMore))
+      let f : Fair o away (at (h .of)) = subst (Fair o away) (here-is o m (h .of) (g .price) (l .atItsPrice p)) (l .fair p) in
+      rw (fair-may (at (h .of)) f) (l .noMore))
       (λ (p : g .shares ≤ 0). omega (arith, p))
       (lt-or-le 0 (g .shares))
 
-  lawful-within : {s : List Holding} {gs : List Given} → Each (LawfulGiving o away) s gs → given gs ≤ available (mayTake o away) s
+  lawful-within : {s : List Holding} {gs : List Given} → Each (LawfulGiving o (m .away) (m .own)) s gs → given gs ≤ available (mayTake o m) s
   unfolding sumOf available
   lawful-within empty = omega arith
   lawful-within (with {x = h} {y = g} l e) = omega (arith, one-within h g l, lawful-within e)
 
-  gives-nothing : (h : Holding) → LawfulGiving o away h (record { shares = 0; price = h .of .price })
+  gives-nothing : (h : Holding) → LawfulGiving o (m .away) (m .own) h (record { shares = 0; price = at (h .of) })
   gives-nothing h =
-      record { noMore = omega arith; atItsPrice = λ p. refl; fair = λ (p : 0 < 0). let z : ⊥ = omega (arith, p) in absurd z }
+      record {
+        noMore = omega arith;
+        atItsPrice = λ (p : 0 < 0). let z : ⊥ = omega (arith, p) in absurd z;
+        fair = λ (p : 0 < 0). let z : ⊥ = omega (arith, p) in absurd z;
+      }
 
-  gives-smaller : (left : ℕ) (h : Holding) → mayTake o away h ≡ true → LawfulGiving o away h (record { shares = min left (size h); price = h .of .price })
-  gives-smaller left h t = record { noMore = omega arith; atItsPrice = λ p. refl; fair = λ p. may-fair (h .of .price) t }
+  gives-smaller : (left : ℕ) (h : Holding) → 1 ≤ h .of .price .0 → mayTake o m h ≡ true
+      → LawfulGiving o (m .away) (m .own) h (record { shares = min left (size h); price = at (h .of) })
+  gives-smaller left h some t = record {
+    noMore = omega arith;
+    atItsPrice = λ p. given-here o m isSide (h .of) some;
+    fair = λ p. may-fair (at (h .of)) t;
+  }
 
-  nothing-each : (s : List Holding) → Each (LawfulGiving o away) s (pricedAt s (nothing s))
+  nothing-each : (s : List Holding) → Each (LawfulGiving o (m .away) (m .own)) s (pricedAt at s (nothing s))
   unfolding nothing pricedAt
   nothing-each [] = empty
   nothing-each (h ∷ s) = with (gives-nothing h) (nothing-each s)
 
-  walk-each : (left : ℕ) (s : List Holding) → Each (LawfulGiving o away) s (pricedAt s (walk (mayTake o away) smaller left s))
+  walk-each : (left : ℕ) (s : List Holding) → All (λ (x : Holding). Meetable o m (x .of)) s
+      → Each (LawfulGiving o (m .away) (m .own)) s (pricedAt at s (walk (mayTake o m) smaller left s))
   unfolding walk pricedAt
-  walk-each left [] = empty
-  walk-each left (h ∷ s) =
+  walk-each left [] none = empty
+  walk-each left (h ∷ s) (also c cs) =
       ⊎-elim
-      (λ (t : mayTake o away h ≡ true). rw t (with (gives-smaller left h t) (walk-each (left - min left (size h)) s)))
-      (λ (t : mayTake o away h ≡ false). rw t (nothing-each (h ∷ s)))
-      (holds-or-not (mayTake o away h))
+      (λ (t : mayTake o m h ≡ true). rw t (with (gives-smaller left h (c .priced) t) (walk-each (left - min left (size h)) s cs)))
+      (λ (t : mayTake o m h ≡ false). rw t (nothing-each (h ∷ s)))
+      (holds-or-not (mayTake o m h))
 
-  walked-is : walked o away opposite ≡ walk (mayTake o away) smaller (o .shares .0) hs
+  walked-is : walked o m ≡ walk (mayTake o m) smaller (o .shares .0) hs
   unfolding walked
   walked-is = rw notPostOnly refl
 
-  walked-at-most : total (walked o away opposite) ≤ o .shares .0
-  walked-at-most = rw walked-is (walk-at-most (mayTake o away) smaller (λ left h. omega arith) (o .shares .0) hs)
+  walked-at-most : total (walked o m) ≤ o .shares .0
+  walked-at-most = rw walked-is (walk-at-most (mayTake o m) smaller (λ left h. omega arith) (o .shares .0) hs)
 
-  walked-given : given (pricedAt hs (walked o away opposite)) ≡ total (walked o away opposite)
-  walked-given = rw walked-is (walk-given (mayTake o away) (o .shares .0) hs)
+  walked-given : given (pricedAt at hs (walked o m)) ≡ total (walked o m)
+  walked-given = rw walked-is (walk-given at (mayTake o m) (o .shares .0) hs)
 
-  walked-lawful : Lawful o away hs (pricedAt hs (walked o away opposite))
+  walked-lawful : Lawful o (m .away) (m .own) hs (pricedAt at hs (walked o m))
   walked-lawful = record {
-    each = rw walked-is (walk-each (o .shares .0) hs);
+    each = rw walked-is (walk-each (o .shares .0) hs all-meetable);
     inAll = rw walked-given walked-at-most;
   }
 
-  walked-greatest : (gs : List Given) → Lawful o away hs gs → given gs ≤ total (walked o away opposite)
+  walked-greatest : (gs : List Given) → Lawful o (m .away) (m .own) hs gs → given gs ≤ total (walked o m)
   walked-greatest gs l =
-      rw walked-is
-      (omega (arith, l .inAll, lawful-within (l .each), walk-total (mayTake o away) (not (buying o)) ends (o .shares .0) (holdings-walk (not (buying o)) opposite ranked)))
+      let inOrder = holdings-walk (not (buying o)) (m .opposite) ranked in
+      let takes = walk-total (mayTake o m) (not (buying o)) (λ (x : Holding). Meetable o m (x .of)) ends (o .shares .0) inOrder all-meetable in
+      rw walked-is (omega (arith, l .inAll, lawful-within (l .each), takes))
 
   -- ── Fill-or-Kill ──
 
   -- a lawful share-out totals the order's size exactly if the walk leaves nothing
-  pub walk-fills : Fills o away hs → total (walked o away opposite) ≡ o .shares .0
+  pub walk-fills : Fills o (m .away) (m .own) hs → total (walked o m) ≡ o .shares .0
   walk-fills f = omega (arith, walked-greatest (f .shareOut) (f .isLawful), walked-at-most, f .totals)
 
-  pub fills-walk : total (walked o away opposite) ≡ o .shares .0 → Fills o away hs
+  pub fills-walk : total (walked o m) ≡ o .shares .0 → Fills o (m .away) (m .own) hs
   fills-walk e = record {
-    shareOut = pricedAt hs (walked o away opposite);
+    shareOut = pricedAt at hs (walked o m);
     isLawful = walked-lawful;
     totals = walked-given ∙ e;
   }
 
   -- a Fill-or-Kill that no lawful share-out fills executes nothing
-  pub killed-nothing : has (o .word) fok ≡ true → (Fills o away hs → ⊥) → total (takings o away opposite) ≡ 0
+  pub killed-nothing : has (o .word) fok ≡ true → (Fills o (m .away) (m .own) hs → ⊥) → total (takings o m) ≡ 0
   unfolding takings
   killed-nothing k n =
       ⊎-elim
-      (λ (l : total (walked o away opposite) < o .shares .0).
-      rw (k, lt-ltb (total (walked o away opposite)) (o .shares .0) l) (nothing-total hs))
-      (λ (l : o .shares .0 ≤ total (walked o away opposite)). absurd (n (fills-walk (omega (arith, l, walked-at-most)))))
-      (lt-or-le (total (walked o away opposite)) (o .shares .0))
+      (λ (l : total (walked o m) < o .shares .0).
+      rw (k, lt-ltb (total (walked o m)) (o .shares .0) l) (nothing-total hs))
+      (λ (l : o .shares .0 ≤ total (walked o m)). absurd (n (fills-walk (omega (arith, l, walked-at-most)))))
+      (lt-or-le (total (walked o m)) (o .shares .0))
 
   -- .. and every other one executes whole
-  pub filled-whole : has (o .word) fok ≡ true → Fills o away hs → total (takings o away opposite) ≡ o .shares .0
+  pub filled-whole : has (o .word) fok ≡ true → Fills o (m .away) (m .own) hs → total (takings o m) ≡ o .shares .0
   unfolding takings
   filled-whole k f =
       let e = walk-fills f in
-      rw (k, le-ltb (total (walked o away opposite)) (o .shares .0) (omega (arith, e))) e
+      rw (k, le-ltb (total (walked o m)) (o .shares .0) (omega (arith, e))) e
 
   -- ── Every order ──
 
   -- what is executed is lawful
-  pub takings-lawful : Lawful o away hs (pricedAt hs (takings o away opposite))
+  pub takings-lawful : Lawful o (m .away) (m .own) hs (pricedAt at hs (takings o m))
   takings-lawful =
-      taken (λ (ts : List ℕ). Lawful o away hs (pricedAt hs ts)) o away opposite
-      (record { each = nothing-each hs; inAll = omega (arith, nothing-given hs) })
+      taken (λ (ts : List ℕ). Lawful o (m .away) (m .own) hs (pricedAt at hs ts)) o m
+      (record { each = nothing-each hs; inAll = omega (arith, nothing-given at hs) })
       walked-lawful
 
   -- every order but a Fill-or-Kill executes the greatest lawful total
-  pub takings-greatest : has (o .word) fok ≡ false → (gs : List Given) → Lawful o away hs gs → given gs ≤ total (takings o away opposite)
+  pub takings-greatest : has (o .word) fok ≡ false → (gs : List Given) → Lawful o (m .away) (m .own) hs gs → given gs ≤ total (takings o m)
   unfolding takings
   takings-greatest k gs l = rw k (walked-greatest gs l)
 
   -- no holding gives a share while one that the walk reaches before it, and that could lawfully give, keeps one
-  pub takings-rank : {better worse : Holding} {gives takes : Given} → Beside better gives hs (pricedAt hs (takings o away opposite))
-      → Beside worse takes hs (pricedAt hs (takings o away opposite)) → walksBefore (not (buying o)) better worse ≡ true → 0 < takes .shares
+  pub takings-rank : {better worse : Holding} {gives takes : Given} → Beside better gives hs (pricedAt at hs (takings o m))
+      → Beside worse takes hs (pricedAt at hs (takings o m)) → walksBefore (not (buying o)) better worse ≡ true → 0 < takes .shares
       → gives .shares ≡ size better
-  takings-rank = turn-rank (not (buying o)) (holdings-walk (not (buying o)) opposite ranked) (takings-in-turn o away opposite)
+  takings-rank = turn-rank at (not (buying o)) (holdings-walk (not (buying o)) (m .opposite) ranked) (takings-in-turn o m)
 
   -- what is executed in all is what that share-out gives
-  pub takings-given : given (pricedAt hs (takings o away opposite)) ≡ total (takings o away opposite)
+  pub takings-given : given (pricedAt at hs (takings o m)) ≡ total (takings o m)
   takings-given =
-      taken (λ (ts : List ℕ). given (pricedAt hs ts) ≡ total ts) o away opposite (nothing-given hs ∙ sym (nothing-total hs)) walked-given
+      taken (λ (ts : List ℕ). given (pricedAt at hs ts) ≡ total ts) o m (nothing-given at hs ∙ sym (nothing-total hs)) walked-given

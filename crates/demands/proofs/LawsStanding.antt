@@ -1,5 +1,5 @@
--- Every execution is at the price at which the resting order was last told to stand, and that price is fair: within the incoming limit
--- and, unless the order is an ISO, the away quote then held. Assumes nothing.
+-- Every execution is at the price at which the resting order was last told to stand, or under a lock half a cent from it (02, W6), and the
+-- price of the execution is fair: within the incoming limit and, unless the order is an ISO, the away quote then held. Assumes nothing.
 use Prim.Native.Nat.{ℕ, _<_}
 use mathlib.Core.Bool.{Bool, true, false, not}
 use mathlib.Core.List.{List, [], _∷_, _++_, append-assoc, append-nil}
@@ -12,8 +12,8 @@ use Rattle.basics.specs.Choice.{if_then_else_}
 use Rattle.basics.specs.Lists.{gathered, All, none, also, OneOf, first, later}
 use Rattle.basics.proofs.LawsChoice.{by-choice}
 use Rattle.basics.proofs.LawsLists.{all-alike, all-both, one-of-all, each-there, gathered-all}
-use Rattle.kinds.specs.Kinds.{cents}
-use Rattle.kinds.specs.declared.Cents.{Cents}
+use Rattle.kinds.specs.Kinds.{halfCents}
+use Rattle.kinds.specs.declared.HalfCents.{HalfCents}
 use Rattle.kinds.specs.declared.Number.{Number}
 use Rattle.kinds.specs.declared.Shares.{Shares}
 use Rattle.rules.specs.declared.Body.{Body}
@@ -36,21 +36,21 @@ use Rattle.rules.specs.declared.Fate.the-variants.{Stays, IsCancelled, IsSet}
 use Rattle.rules.specs.Settling.{told, ownSide, oppositeSide}
 use Rattle.rules.specs.Step.{answerTo}
 use Rattle.rules.specs.Holdings.{Holding, holdings, executions, reducedBy, after}
-use Rattle.rules.specs.Working.{buying, takings, remainder, ending, lastLine, refillFate}
+use Rattle.rules.specs.Working.{buying, metBy, executionPrice, takings, remainder, ending, lastLine, refillFate}
 use Rattle.rules.proofs.LawsCommands.{fateBy, IfSet, SameOrder, set-same, never-set, order-does, does-tells}
 use Rattle.rules.proofs.LawsFloors.{refill-same}
 use Rattle.rules.proofs.LawsWalkOrder.{after-are}
 use Rattle.soundness.proofs.LawsKept.{answer-sound, fresh-sound, after-sound}
 use Rattle.soundness.proofs.LawsSides.{sides-of}
 use Rattle.soundness.proofs.LawsSound.{Sound, sound-is}
-use Rattle.demands.specs.Beyond.{priceTold, lastTold, standsAt}
+use Rattle.demands.specs.Beyond.{priceTold, lastTold, standsAt, WhereTold}
 use Rattle.demands.specs.Once.{acts}
 use Rattle.demands.specs.Run.{eventsOf}
 use Rattle.demands.specs.ShareOut.{Fair}
 use Rattle.demands.specs.Told.{eventsIn}
 use Rattle.demands.proofs.LawsFairly.{every-execution, Fairly, order-fairly}
 use Rattle.demands.proofs.LawsLinesTell.{onceEach, once-first, once-rest, opposite-once}
-use Rattle.demands.proofs.LawsOrigins.{Comes, stayed, anew, rests, does-comes, one-number, other-number, another-number, after-line}
+use Rattle.demands.proofs.LawsOrigins.{Comes, stayed, anew, rests, opposite-own, does-comes, one-number, other-number, another-number, after-line}
 use Rattle.demands.proofs.LawsRun.{run-read}
 use Rattle.demands.proofs.LawsTold.{line-told}
 
@@ -58,39 +58,39 @@ use Rattle.demands.proofs.LawsTold.{line-told}
 
 -- an event tells nothing of where the order of a number stands
 abbrev Quiet : Number → Event → Type 0
-Quiet n e = (before : Cents) → priceTold n e before ≡ before
+Quiet n e = (before : HalfCents) → priceTold n e before ≡ before
 
 -- an event leaves the order of a number at a price
-abbrev Leaves : Number → Cents → Event → Type 0
+abbrev Leaves : Number → HalfCents → Event → Type 0
 Leaves n price e = priceTold n e price ≡ price
 
 -- after such events it stands where it stood, and of two runs of events the second goes on from the first
-quiet-told : (n : Number) (before : Cents) {es : List Event} → All (Quiet n) es → lastTold n before es ≡ before
+quiet-told : (n : Number) (before : HalfCents) {es : List Event} → All (Quiet n) es → lastTold n before es ≡ before
 unfolding lastTold
 quiet-told n before none = refl
 quiet-told n before (also {x = e} q a) = rw (q before) (quiet-told n before a)
 
 -- .. and so after events of which each leaves it where it stands
-leaves-told : (n : Number) (price : Cents) {es : List Event} → All (Leaves n price) es → lastTold n price es ≡ price
+leaves-told : (n : Number) (price : HalfCents) {es : List Event} → All (Leaves n price) es → lastTold n price es ≡ price
 unfolding lastTold
 leaves-told n price none = refl
 leaves-told n price (also {x = e} q a) = rw q (leaves-told n price a)
 
-told-append : (n : Number) (before : Cents) (es fs : List Event) → lastTold n before (es ++ fs) ≡ lastTold n (lastTold n before es) fs
+told-append : (n : Number) (before : HalfCents) (es fs : List Event) → lastTold n before (es ++ fs) ≡ lastTold n (lastTold n before es) fs
 unfolding lastTold
 told-append n before [] fs = refl
 told-append n before (e ∷ es) fs = told-append n (priceTold n e before) es fs
 
 -- what is told of a number, and of another one
-told-same : (n : Number) (price before : Cents) → (if eqb (n .0) (n .0) then price else before) ≡ price
+told-same : (n : Number) (price before : HalfCents) → (if eqb (n .0) (n .0) then price else before) ≡ price
 told-same n price before = rw (eq-eqb (n .0) (n .0) refl) refl
 
-told-other : (n m : Number) (price before : Cents) → n .0 ≢ m .0 → (if eqb (n .0) (m .0) then price else before) ≡ before
+told-other : (n m : Number) (price before : HalfCents) → n .0 ≢ m .0 → (if eqb (n .0) (m .0) then price else before) ≡ before
 told-other n m price before d = rw (ne-eqb (n .0) (m .0) d) refl
 
 -- executions tell no price
-executions-quiet : (n m : Number) (s : List Holding) (ts : List ℕ) → All (Quiet n) (executions m s ts)
-executions-quiet n m s ts = every-execution m (λ h t before. refl) s ts
+executions-quiet : (n m : Number) (price : Resting → HalfCents) (s : List Holding) (ts : List ℕ) → All (Quiet n) (executions m price s ts)
+executions-quiet n m price s ts = every-execution m price (λ h t before. refl) s ts
 
 -- the last line of an order tells no price of another
 last-quiet : (n m : Number) (left : ℕ) (e : Ending) → n .0 ≢ m .0 → All (Quiet n) (lastLine m left e)
@@ -99,7 +99,8 @@ last-quiet n m left (Rests price) d = also (λ before. told-other n m price befo
 last-quiet n m left (Cancels reason) d = also (λ before. refl) none
 
 -- .. and its own where it comes to rest
-last-told : (n : Number) (left : ℕ) (e : Ending) (price : Cents) → e ≡ Rests price → (before : Cents) → lastTold n before (lastLine n left e) ≡ price
+last-told : (n : Number) (left : ℕ) (e : Ending) (price : HalfCents) → e ≡ Rests price → (before : HalfCents)
+    → lastTold n before (lastLine n left e) ≡ price
 unfolding lastTold
 last-told n left e price i before = rw i (told-same n price before)
 
@@ -118,7 +119,7 @@ module _ (fate : Resting → Fate) (same : (h : Resting) → IfSet (SameOrder h)
           also (λ before. told-other n (new .number) (new .price) before other) none
 
   -- whoever is set anew is told to stand at the new price
-  set-told : (h new : Resting) → fate h ≡ IsSet new → {s : List Resting} → onceEach s ≡ true → OneOf h s → (before : Cents)
+  set-told : (h new : Resting) → fate h ≡ IsSet new → {s : List Resting} → onceEach s ≡ true → OneOf h s → (before : HalfCents)
       → lastTold (h .number) before (told fate s) ≡ new .price
   unfolding told gathered lastTold
   set-told h new e d (first {s = s}) before =
@@ -138,14 +139,10 @@ StandAsTold es b = (buy : Bool) → All (λ (h : Resting). standsAt (h .number) 
 module _ (b : Book) (isSound : Sound b) (n : Number) (next : b .held .last .0 < n .0) (time : ℕ) where
   -- whoever is left by an order on the opposite side has the number and the price of one that stood there
   left-stood : {P : Resting → Type 0} (o : Order) → ((g : Resting) → OneOf g (ownSide (not (buying o)) b) → (x : Resting) → x .number ≡ g .number
-      → x .price ≡ g .price → P x) → All P (after (oppositeSide (buying o) b) (takings o (b .held .away) (oppositeSide (buying o) b)))
+      → x .price ≡ g .price → P x) → All P (after (oppositeSide (buying o) b) (takings o (metBy o b)))
   left-stood o f =
-      after-are o (b .held .away) (oppositeSide (buying o) b)
-      (λ g t r p gives kept. f g (subst (OneOf g) (opposite-own (buying o)) p) (reducedBy t r g) refl refl)
-    where
-      opposite-own : (buy : Bool) → oppositeSide buy b ≡ ownSide (not buy) b
-      opposite-own true = refl
-      opposite-own false = refl
+      after-are o (metBy o b)
+      (λ g t r p gives kept. f g (subst (OneOf g) (opposite-own (buying o) b) p) (reducedBy t r g) refl refl)
 
   -- events leave one that stays where it stands; if an order refills it, they tell its price once more
   stays-left : (buy : Bool) (h : Resting) → OneOf h (ownSide buy b) → (c : Body) → fateBy c buy h ≡ Stays
@@ -160,20 +157,21 @@ module _ (b : Book) (isSound : Sound b) (n : Number) (next : b .held .last .0 < 
       refill-leaves x same =
           by-choice (λ (f : Fate). All (Leaves (h .number) (h .price)) (settling.toldBy f x)) (eqb (x .shares .0) 0)
           (λ t. also
-          (by-choice (λ (price : Cents). price ≡ h .price) (eqb (h .number .0) (x .number .0))
+          (by-choice (λ (price : HalfCents). price ≡ h .price) (eqb (h .number .0) (x .number .0))
           (λ e. same (eqb-true (h .number .0) (x .number .0) e)) (λ e. refl)) none)
           (λ t. none)
 
       order-leaves : (o : Order) → fateBy (body.Order o) buy h ≡ Stays → All (Leaves (h .number) (h .price)) (does n time (body.Order o) b .events)
       order-leaves o alone =
-          let s = oppositeSide (buying o) b in
-          let ts = takings o (b .held .away) s in
-          let last = last-quiet (h .number) n (remainder o (b .held .away) s) (ending o (b .held .away) s) (another-number b isSound n next buy p) in
+          let met = metBy o b in
+          let hs = holdings (met .opposite) in
+          let last = last-quiet (h .number) n (remainder o met) (ending o met) (another-number b isSound n next buy p) in
           let refills = gathered-all (λ (x : Resting). settling.toldBy (refillFate x) x)
           (all-alike refill-leaves
           (left-stood o (λ g q x number price is. price ∙ ap (λ (y : Resting). y .price)
           (sym (one-number b isSound buy (not (buying o)) p q (is ∙ ap (λ (m : Number). m .0) number) .1))))) in
-          rw (order-does n time b o .1) (all-both (quiet-leaves (all-both (executions-quiet (h .number) n (holdings s) ts) last)) refills)
+          rw (order-does n time b o .1)
+          (all-both (quiet-leaves (all-both (executions-quiet (h .number) n (executionPrice o met) hs (takings o met)) last)) refills)
 
       side-quiet : (c : Body) → fateBy c buy h ≡ Stays → (side : Bool) → All (Quiet (h .number)) (told (fateBy c side) (ownSide side b))
       side-quiet c alone side =
@@ -187,7 +185,7 @@ module _ (b : Book) (isSound : Sound b) (n : Number) (next : b .held .last .0 < 
       both-leave c alone = quiet-leaves (all-both (side-quiet c alone true) (side-quiet c alone false))
 
   -- one that is set anew is told its new price, whatever was told of it before
-  anew-told : (buy : Bool) (h new : Resting) → OneOf h (ownSide buy b) → (before : Cents) (c : Body) → fateBy c buy h ≡ IsSet new
+  anew-told : (buy : Bool) (h new : Resting) → OneOf h (ownSide buy b) → (before : HalfCents) (c : Body) → fateBy c buy h ≡ IsSet new
       → lastTold (h .number) before (does n time c b .events) ≡ new .price
   anew-told buy h new p before =
       does-tells n time b (λ (c : Body) (es : List Event). fateBy c buy h ≡ IsSet new → lastTold (h .number) before es ≡ new .price)
@@ -208,39 +206,39 @@ module _ (b : Book) (isSound : Sound b) (n : Number) (next : b .held .last .0 < 
           ∙ set-told (fateBy c false) (set-same c false) h new e (opposite-once (sides-of true b isSound)) p (lastTold (h .number) before buys)
 
   -- and one that comes to rest is told where
-  rested-told : (o : Order) (price : Cents) (buy : Bool) → buying o ≡ buy → ending o (b .held .away) (oppositeSide buy b) ≡ Rests price → (before : Cents)
+  rested-told : (o : Order) (price : HalfCents) → ending o (metBy o b) ≡ Rests price → (before : HalfCents)
       → lastTold n before (does n time (body.Order o) b .events) ≡ price
-  rested-told o price buy t e before =
-      let s = oppositeSide (buying o) b in
-      let ts = takings o (b .held .away) s in
-      let left = remainder o (b .held .away) s in
-      let es = executions n (holdings s) ts in
-      let last = lastLine n left (ending o (b .held .away) s) in
-      let rests : ending o (b .held .away) s ≡ Rests price = rw t e in
-      let quiet : All (Quiet n) (told refillFate (after s ts)) =
+  rested-told o price e before =
+      let met = metBy o b in
+      let ts = takings o met in
+      let left = remainder o met in
+      let es = executions n (executionPrice o met) (holdings (met .opposite)) ts in
+      let last = lastLine n left (ending o met) in
+      let refills = told refillFate (after (met .opposite) ts) in
+      let quiet : All (Quiet n) refills =
       told-quiet refillFate refill-same n
       (left-stood o (λ g q x number at is.
       absurd (another-number b isSound n next (not (buying o)) q (sym (is ∙ ap (λ (m : Number). m .0) number))))) in
       rw (order-does n time b o .1)
-      (told-append n before (es ++ last) (told refillFate (after s ts))
+      (told-append n before (es ++ last) refills
       ∙ quiet-told n (lastTold n before (es ++ last)) quiet
       ∙ told-append n before es last
-      ∙ last-told n left (ending o (b .held .away) s) price rests (lastTold n before es))
+      ∙ last-told n left (ending o met) price e (lastTold n before es))
 
   -- so each that stands afterwards stands where it was last told to
   comes-told : (es : List Event) → StandAsTold es b → (c : Body) (buy : Bool) (x : Resting) → Comes b n buy x c
       → standsAt (x .number) (es ++ does n time c b .events) ≡ x .price
   comes-told es stand c buy x (stayed h p a i e) =
       rw (i, e)
-      (told-append (h .number) (cents 0) es (does n time c b .events)
-      ∙ ap (λ (price : Cents). lastTold (h .number) price (does n time c b .events)) (one-of-all (stand buy) p)
+      (told-append (h .number) (halfCents 0) es (does n time c b .events)
+      ∙ ap (λ (price : HalfCents). lastTold (h .number) price (does n time c b .events)) (one-of-all (stand buy) p)
       ∙ leaves-told (h .number) (h .price) (stays-left buy h p c a))
   comes-told es stand c buy x (anew h new p a i e) =
-      rw (i, e) (told-append (h .number) (cents 0) es (does n time c b .events) ∙ anew-told buy h new p (standsAt (h .number) es) c a)
+      rw (i, e) (told-append (h .number) (halfCents 0) es (does n time c b .events) ∙ anew-told buy h new p (standsAt (h .number) es) c a)
   comes-told es stand (body.Order o) buy x (rests t e i) =
       rw i
-      (told-append n (cents 0) es (does n time (body.Order o) b .events)
-      ∙ rested-told o (x .price) buy t e (standsAt n es))
+      (told-append n (halfCents 0) es (does n time (body.Order o) b .events)
+      ∙ rested-told o (x .price) e (standsAt n es))
 
   -- a command keeps it
   does-told : (es : List Event) → StandAsTold es b → (c : Body) → StandAsTold (es ++ does n time c b .events) (does n time c b .book)
@@ -271,23 +269,33 @@ run-stands b (line ∷ lines) es s stand =
 -- of any sound book, and of events that told its orders where to stand
 executes-where-told : (b : Book) (es : List Event) → sound b ≡ true → StandAsTold es b → (line : List ℕ) (c : Command) (o : Order)
     → acts b line ≡ true → commandIn line ≡ reading.Is c → c .body ≡ body.Order o
-    → (incoming resting : Number) (price : Cents) (shares : Shares) → OneOf (Executed incoming resting price shares) (answerTo b line .events)
-    → (incoming ≡ c .number) × (price ≡ standsAt resting es) × Fair o (b .held .away) price
+    → (incoming resting : Number) (price : HalfCents) (shares : Shares)
+    → OneOf (Executed incoming resting price shares) (answerTo b line .events)
+    → (incoming ≡ c .number) × WhereTold o b es resting price × Fair o (b .held .away) price
 executes-where-told b es s stand line c o t e f incoming resting price shares p =
-    let x : Fairly o (b .held .away) (c .number) (oppositeSide (buying o) b) incoming resting price = one-of-all (order-fairly b line c o s t e f) p in
+    let x : Fairly o (metBy o b) (c .number) incoming resting price = one-of-all (order-fairly b line c o s t e f) p in
     let stands = one-of-all (opposite-told (buying o)) (x .there) in
-    (x .isIncoming, x .atItsPrice ∙ sym stands ∙ ap (λ (n : Number). standsAt n es) (sym (x .isResting)), x .isFair)
+    let told : WhereTold o b es resting price = record {
+      whom = x .whom;
+      there = x .there;
+      isResting = sym (x .isResting);
+      standing = sym stands ∙ ap (λ (n : Number). standsAt n es) (sym (x .isResting));
+      atItsPrice = x .atItsPrice;
+    } in
+    (x .isIncoming, told, x .isFair)
   where
     opposite-told : (buy : Bool) → All (λ (h : Resting). standsAt (h .number) es ≡ h .price) (oppositeSide buy b)
     opposite-told true = stand false
     opposite-told false = stand true
 
--- each execution of a day is at the price at which the resting order was last told to stand, which is fair
+-- each execution of a day is at the price at which the resting order was last told to stand, or under a lock half a cent from it; and at a
+-- fair price
 pub executions-where-told : (before : List (List ℕ)) (line : List ℕ) (c : Command) (o : Order)
     → acts (bookAfter fresh before) line ≡ true → commandIn line ≡ reading.Is c → c .body ≡ body.Order o
-    → (incoming resting : Number) (price : Cents) (shares : Shares)
+    → (incoming resting : Number) (price : HalfCents) (shares : Shares)
     → OneOf (Executed incoming resting price shares) (eventsIn (printed (answerTo (bookAfter fresh before) line)))
-    → (incoming ≡ c .number) × (price ≡ standsAt resting (eventsIn (printedOf fresh before))) × Fair o (bookAfter fresh before .held .away) price
+    → (incoming ≡ c .number) × WhereTold o (bookAfter fresh before) (eventsIn (printedOf fresh before)) resting price
+    × Fair o (bookAfter fresh before .held .away) price
 executions-where-told before line c o t e f incoming resting price shares p =
     let b = bookAfter fresh before in
     let s = after-sound fresh before fresh-sound in

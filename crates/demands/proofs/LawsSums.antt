@@ -10,7 +10,6 @@ use Rattle.basics.specs.Lists.{total, sumOf, All, none, also}
 use Rattle.basics.proofs.LawsChoice.{holds-or-not}
 use Rattle.basics.proofs.LawsLists.{sumOf-append}
 use Rattle.kinds.specs.declared.Number.{Number}
-use Rattle.rules.specs.declared.Away.{Away}
 use Rattle.rules.specs.declared.Body.{Body}
 use Rattle.rules.specs.declared.Body.the-variants as body
 use Rattle.rules.specs.declared.Command.{Command}
@@ -27,7 +26,7 @@ use Rattle.rules.specs.declared.Fate.{Fate}
 use Rattle.rules.specs.Settling.{told, Done, onHeld, firstMove, settled, bothSettled}
 use Rattle.rules.specs.Step.{doneBy, answer, answerTo}
 use Rattle.rules.specs.Holdings.{holdings, executions, after}
-use Rattle.rules.specs.Working.{buying, takings, remainder, ending, lastLine, withRemainder, worked, refillFate, accept}
+use Rattle.rules.specs.Working.{Met, buying, metBy, executionPrice, takings, remainder, ending, lastLine, withRemainder, worked, refillFate, accept}
 use Rattle.rules.proofs.LawsCommands.{fateBy, IfSet, SameOrder, set-same}
 use Rattle.rules.proofs.LawsFloors.{refill-same}
 use Rattle.rules.proofs.LawsTakings.{takings-at-most, takings-within}
@@ -50,27 +49,28 @@ gone-append : (n : Number) (es fs : List Event) → goneIn n (es ++ fs) ≡ gone
 gone-append n es fs = omega (arith, sumOf-append (executedBy n) es fs, sumOf-append (cancelledBy n) es fs)
 
 -- an order's shares are what it takes and what is left of it
-split-entered : (n m : Number) (o : Order) (away : Away) (s : List Resting)
-    → countedIf n m (o .shares .0) ≡ countedIf n m (total (takings o away s)) + countedIf n m (remainder o away s)
+split-entered : (n m : Number) (o : Order) (met : Met)
+    → countedIf n m (o .shares .0) ≡ countedIf n m (total (takings o met)) + countedIf n m (remainder o met)
 unfolding remainder
-split-entered n m o away s = counted-split n m (total (takings o away s)) (o .shares .0) (takings-at-most o away s)
+split-entered n m o met = counted-split n m (total (takings o met)) (o .shares .0) (takings-at-most o met)
 
 -- an order worked against the opposite side, with its own side
-work-sum : (n m : Number) (o : Order) (away : Away) (own opposite : List Resting)
-    → restsOn n own + restsOn n opposite + countedIf n m (o .shares .0)
-    ≡ goneIn n (executions m (holdings opposite) (takings o away opposite) ++ lastLine m (remainder o away opposite) (ending o away opposite))
-    + (restsOn n (withRemainder m o (remainder o away opposite) (ending o away opposite) own) + restsOn n (after opposite (takings o away opposite)))
-work-sum n m o away own opposite =
-    let ts = takings o away opposite in
-    let left = remainder o away opposite in
-    let end = ending o away opposite in
+work-sum : (n m : Number) (o : Order) (met : Met)
+    → let left = remainder o met in
+    restsOn n (met .own) + restsOn n (met .opposite) + countedIf n m (o .shares .0)
+    ≡ goneIn n (executions m (executionPrice o met) (holdings (met .opposite)) (takings o met) ++ lastLine m left (ending o met))
+    + (restsOn n (withRemainder m o left (ending o met) (met .own)) + restsOn n (after (met .opposite) (takings o met)))
+work-sum n m o met =
+    let ts = takings o met in
+    let left = remainder o met in
+    let end = ending o met in
     omega (
       arith,
-      gone-append n (executions m (holdings opposite) ts) (lastLine m left end),
-      executions-sum n m opposite ts (takings-within o away opposite),
-      executions-cancel-none n m (holdings opposite) ts,
-      ending-sum n m o left end own (ending-leaves o away opposite),
-      split-entered n m o away opposite,
+      gone-append n (executions m (executionPrice o met) (holdings (met .opposite)) ts) (lastLine m left end),
+      executions-sum n m (executionPrice o met) (met .opposite) ts (takings-within o met),
+      executions-cancel-none n m (executionPrice o met) (holdings (met .opposite)) ts,
+      ending-sum n m o left end (met .own) (ending-leaves o met),
+      split-entered n m o met,
     )
 
 worked-sum : (n m : Number) (time : ℕ) (o : Order) (b : Book)
@@ -78,9 +78,10 @@ worked-sum : (n m : Number) (time : ℕ) (o : Order) (b : Book)
     ≡ goneIn n (worked m o (begun m time b) .events) + restingOf n (worked m o (begun m time b) .book)
 unfolding worked
 worked-sum n m time o b =
+    let sum = work-sum n m o (metBy o b) in
     ⊎-elim
-    (λ (t : buying o ≡ true). rw t (work-sum n m o (b .held .away) (b .buys) (b .sells)))
-    (λ (t : buying o ≡ false). rw t (omega (arith, work-sum n m o (b .held .away) (b .sells) (b .buys))))
+    (λ (t : buying o ≡ true). rw t (rw t at sum))
+    (λ (t : buying o ≡ false). rw t (let flipped = rw t at sum in omega (arith, flipped)))
     (holds-or-not (buying o))
 
 -- what settles a side, after all that a command has done, loses no share: what is gone and what rests add up as before

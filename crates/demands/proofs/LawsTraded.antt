@@ -29,7 +29,7 @@ use Rattle.rules.specs.Day.{printedOf}
 use Rattle.rules.specs.Refusals.{firstOf, bodyRefusals}
 use Rattle.rules.specs.Settling.{ownSide, oppositeSide}
 use Rattle.rules.specs.Step.{answerTo}
-use Rattle.rules.specs.Working.{buying}
+use Rattle.rules.specs.Working.{Met, buying, metBy}
 use Rattle.rules.proofs.LawsCommands.{does-tells}
 use Rattle.soundness.proofs.LawsAccepted.{InOrder, accepted-order}
 use Rattle.soundness.proofs.LawsKept.{answer-sound, fresh-sound}
@@ -114,15 +114,17 @@ module _ (ns : Bool → List Number) (b : Book) (line : List ℕ) (s : sound b �
       (λ c t e order buy. rw (t, e) (does-listed ns b (sound-is b s) listed c (c .body) (order .byBody) buy))
 
   -- an execution of an order of one side is with one of the other
-  fairly-pairs : (o : Order) (n : Number) (buy : Bool) → OneOf n (withLine ns b line buy)
-      → (e : Event) → FairlyExecuted o (b .held .away) n (oppositeSide buy b) e → Pairs (withLine ns b line true) (withLine ns b line false) e
-  fairly-pairs o n true p (Executed incoming resting price shares) q =
-      inl (rw (q .isIncoming) p, rw (q .isResting) (in-front (enteredAt 1 b line) (one-of-all (listed false) (q .there))))
-  fairly-pairs o n false p (Executed incoming resting price shares) q =
-      inr (rw (q .isIncoming) p, rw (q .isResting) (in-front (enteredAt 0 b line) (one-of-all (listed true) (q .there))))
-  fairly-pairs o n buy p (Rested m price shares) q = tt
-  fairly-pairs o n buy p (Cancelled m shares reason) q = tt
-  fairly-pairs o n buy p (Moved m price shares) q = tt
+  fairly-pairs : (o : Order) (met : Met) (n : Number) (buy : Bool) → met .opposite ≡ oppositeSide buy b → OneOf n (withLine ns b line buy)
+      → (e : Event) → FairlyExecuted o met n e → Pairs (withLine ns b line true) (withLine ns b line false) e
+  fairly-pairs o met n true same p (Executed incoming resting price shares) q =
+      let whom = one-of-all (listed false) (subst (OneOf (q .whom)) same (q .there)) in
+      inl (rw (q .isIncoming) p, rw (q .isResting) (in-front (enteredAt 1 b line) whom))
+  fairly-pairs o met n false same p (Executed incoming resting price shares) q =
+      let whom = one-of-all (listed true) (subst (OneOf (q .whom)) same (q .there)) in
+      inr (rw (q .isIncoming) p, rw (q .isResting) (in-front (enteredAt 0 b line) whom))
+  fairly-pairs o met n buy same p (Rested m price shares) q = tt
+  fairly-pairs o met n buy same p (Cancelled m shares reason) q = tt
+  fairly-pairs o met n buy same p (Moved m price shares) q = tt
 
   -- whatever a command does
   body-pairs : (c : Command) → acts b line ≡ true → commandIn line ≡ reading.Is c → InOrder b c → (x : Body) → c .body ≡ x
@@ -139,7 +141,8 @@ module _ (ns : Bool → List Number) (b : Book) (line : List ℕ) (s : sound b �
           let side = order-side o (acts-order b c o order f .inRange) in
           let new : OneOf (c .number) (enteredAt (sideOf (buying o)) b line) = rw (t, e, f) (order-entered c o (buying o) side refl) in
           subst (All (Pairs (withLine ns b line true) (withLine ns b line false))) events
-          (all-alike (fairly-pairs o (c .number) (buying o) (behind (ns (buying o)) new)) (order-fairly b line c o s t e f))
+          (all-alike (fairly-pairs o (metBy o b) (c .number) (buying o) refl (behind (ns (buying o)) new))
+          (order-fairly b line c o s t e f))
 
   -- whatever a line tells
   line-pairs : All (Pairs (withLine ns b line true) (withLine ns b line false)) (answerTo b line .events)

@@ -10,12 +10,10 @@ use native.Mathlib.Omega.{arith}
 use Rattle.basics.specs.Choice.{if_then_else_}
 use Rattle.basics.specs.Lists.{total, All, none, also}
 use Rattle.basics.proofs.LawsChoice.{holds-or-not}
-use Rattle.rules.specs.declared.Away.{Away}
 use Rattle.rules.specs.declared.Order.{Order}
-use Rattle.rules.specs.declared.Resting.{Resting}
 use Rattle.rules.specs.Holdings.{Holding, size, holdings, nothing, walk, smaller, BeforeAll, InWalkOrder, nobody, somebody}
 use Rattle.rules.specs.Instructions.{fok, has}
-use Rattle.rules.specs.Working.{walked, takings}
+use Rattle.rules.specs.Working.{Met, walked, takings}
 use Rattle.rules.proofs.LawsTakings.{nothing-total}
 
 -- ── A walk, with any test of which may be touched ──
@@ -33,25 +31,26 @@ unfolding available
 none-available may none = refl
 none-available may (also {x = h} n a) = rw n (omega (arith, none-available may a))
 
--- in the order of the walk, where none behind one that may not be touched may be: ending the walk there loses nothing
-module _ (may : Holding → Bool) (buy : Bool)
-    (ends : (h : Holding) (s : List Holding) → BeforeAll buy h s → may h ≡ false → All (λ (y : Holding). may y ≡ false) s) where
-  pub walk-total : (left : ℕ) {s : List Holding} → InWalkOrder buy s → total (walk may smaller left s) ≡ min left (available may s)
+-- in the order of the walk, where of holdings of which a claim holds none behind one that may not be touched may be: ending the walk there
+-- loses nothing
+module _ (may : Holding → Bool) (buy : Bool) (Claim : Holding → Type 0)
+    (ends : (h : Holding) (s : List Holding) → BeforeAll buy h s → All Claim s → may h ≡ false → All (λ (y : Holding). may y ≡ false) s) where
+  pub walk-total : (left : ℕ) {s : List Holding} → InWalkOrder buy s → All Claim s → total (walk may smaller left s) ≡ min left (available may s)
   unfolding walk total available
-  walk-total left nobody = omega arith
-  walk-total left (somebody {h = h} {hs = s} b w) =
+  walk-total left nobody none = omega arith
+  walk-total left (somebody {h = h} {hs = s} b w) (also c cs) =
       ⊎-elim
-      (λ (t : may h ≡ true). rw t (omega (arith, walk-total (left - min left (size h)) w)))
-      (λ (t : may h ≡ false). rw t (omega (arith, nothing-total (h ∷ s), none-available may (ends h s b t))))
+      (λ (t : may h ≡ true). rw t (omega (arith, walk-total (left - min left (size h)) w cs)))
+      (λ (t : may h ≡ false). rw t (omega (arith, nothing-total (h ∷ s), none-available may (ends h s b cs t))))
       (holds-or-not (may h))
 
 -- ── An order ──
 
 -- an order takes nothing, or what the walk gives
-pub taken : (P : List ℕ → Type 0) (o : Order) (away : Away) (s : List Resting) → P (nothing (holdings s)) → P (walked o away s) → P (takings o away s)
+pub taken : (P : List ℕ → Type 0) (o : Order) (m : Met) → P (nothing (holdings (m .opposite))) → P (walked o m) → P (takings o m)
 unfolding takings
-taken P o away s p q =
+taken P o m p q =
     ⊎-elim
-    (λ (t : (has (o .word) fok && ltb (total (walked o away s)) (o .shares .0)) ≡ true). rw t p)
-    (λ (t : (has (o .word) fok && ltb (total (walked o away s)) (o .shares .0)) ≡ false). rw t q)
-    (holds-or-not (has (o .word) fok && ltb (total (walked o away s)) (o .shares .0)))
+    (λ (t : (has (o .word) fok && ltb (total (walked o m)) (o .shares .0)) ≡ true). rw t p)
+    (λ (t : (has (o .word) fok && ltb (total (walked o m)) (o .shares .0)) ≡ false). rw t q)
+    (holds-or-not (has (o .word) fok && ltb (total (walked o m)) (o .shares .0)))

@@ -12,6 +12,7 @@ use borrow.Author.Tests.{eq-eqb, le-leb, le-ltb, lt-leb, lt-ltb, ne-eqb}
 use Rattle.basics.specs.Lists.{every, any, distinct, total, All, none, also}
 use Rattle.basics.proofs.LawsChoice.{and-none}
 use Rattle.kinds.specs.Kinds.{number, shares, lowestPrice, mostShares}
+use Rattle.kinds.specs.declared.HalfCents.{HalfCents}
 use Rattle.kinds.specs.declared.Number.{Number}
 use Rattle.rules.specs.declared.Event.the-variants.{Rested}
 use Rattle.rules.specs.declared.Resting.{Resting}
@@ -24,7 +25,7 @@ use Rattle.rules.specs.Holdings.{Holding, size, holdings, walk, smaller, execut
 use Rattle.rules.specs.Instructions.{lawful}
 use Rattle.rules.specs.Refusals.{firstOf, isRest, restsOnFullSide, headerRefusals, bodyRefusals, lineRefusals, refusals}
 use Rattle.rules.specs.Step.{doneBy, answer, answerTo}
-use Rattle.rules.specs.Working.{mayTouch, walked, takings, remainder, seeks, endingWith, ending, lastLine}
+use Rattle.rules.specs.Working.{metBy, limitOf, executionPrice, mayTouch, walked, takings, remainder, seeks, endingWith, ending, lastLine}
 use Rattle.rules.proofs.LawsBest.{all-holdings}
 use Rattle.rules.proofs.LawsEvents.{eventLines-one, none-long, rested-length, executions-more}
 use Rattle.rules.proofs.LawsLines.{commandIn-lineOf}
@@ -86,18 +87,18 @@ worst-sound n fit =
 -- ── The walk takes all ──
 
 -- where each may be touched and holds one share, each gives it
-walk-all : (n : Number) (may : Holding → Bool) {hs : List Holding} → All (λ (h : Holding). (may h ≡ true) × (size h ≡ 1)) hs
-    → (left : ℕ) → length hs ≤ left
+walk-all : (n : Number) (price : Resting → HalfCents) (may : Holding → Bool) {hs : List Holding}
+    → All (λ (h : Holding). (may h ≡ true) × (size h ≡ 1)) hs → (left : ℕ) → length hs ≤ left
     → let ts = walk may smaller left hs in
-    (length (eventLines (executions n hs ts)) ≡ 35 * length hs) × (total ts ≡ length hs)
+    (length (eventLines (executions n price hs ts)) ≡ 35 * length hs) × (total ts ≡ length hs)
 unfolding walk executions total
-walk-all n may none left l = (none-long, refl)
-walk-all n may (also {x = h} {s = s} c a) left l =
+walk-all n price may none left l = (none-long, refl)
+walk-all n price may (also {x = h} {s = s} c a) left l =
     let gives = smaller left h in
     let ts = walk may smaller (left - gives) s in
-    let others = walk-all n may a (left - gives) (omega (arith, c .1)) in
+    let others = walk-all n price may a (left - gives) (omega (arith, c .1)) in
     rw (c .0)
-    (omega (arith, c .1, others .0, executions-more n h s gives ts), omega (arith, c .1, others .1))
+    (omega (arith, c .1, others .0, executions-more n price h s gives ts), omega (arith, c .1, others .1))
 
 reserves-all : {P : Resting → Type 0} → ((k : ℕ) → P (twoShares k)) → (k n : ℕ) → All P (reservesFrom k n)
 unfolding reservesFrom
@@ -113,17 +114,17 @@ worst-does n =
     let c = nextCommand n in
     let o = walksThrough n in
     let b = fullOfReserves n in
-    let away = b .held .away in
+    let met = metBy o b in
     let s = b .sells in
-    let may : Holding → Bool = λ h. mayTouch o away (h .of .price) in
+    let may : Holding → Bool = λ h. mayTouch o (met .away) (executionPrice o met (h .of)) in
     let all : All (λ (h : Holding). (may h ≡ true) × (size h ≡ 1)) (holdings s) =
     all-holdings (reserves-all (λ k. (refl, refl)) 1 n) (reserves-all (λ k. (refl, refl)) 1 n) in
     let long : length (holdings s) ≡ 2 * n = omega (arith, holdings-length s, reserves-length 1 n) in
-    let taken = walk-all (c .number) may all (2 * n + 1) (omega (arith, long)) in
-    let left : remainder o away s ≡ 1 = omega (arith, taken .1, long) in
-    let rested = Rested (c .number) (o .price) (shares 1) in
-    let last : length (eventLines (lastLine (c .number) (remainder o away s) (ending o away s))) ≡ 27 =
-    rw left (ap length (eventLines-one rested) ∙ rested-length (c .number) (o .price) (shares 1)) in
+    let taken = walk-all (c .number) (executionPrice o met) may all (2 * n + 1) (omega (arith, long)) in
+    let left : remainder o met ≡ 1 = omega (arith, taken .1, long) in
+    let rested = Rested (c .number) (limitOf o) (shares 1) in
+    let last : length (eventLines (lastLine (c .number) (remainder o met) (ending o met))) ≡ 27 =
+    rw left (ap length (eventLines-one rested) ∙ rested-length (c .number) (limitOf o) (shares 1)) in
     omega (
       arith,
       order-writes (c .number) (c .time) b o,
@@ -155,7 +156,7 @@ module _ (n : ℕ) (fit : n ≤ placesASide) where
         le-ltb (n + 1) (n + 1) (omega arith),
         le-leb 1 (2 * n + 1) (omega arith),
         le-leb (2 * n + 1) mostShares (omega arith),
-        and-none (isRest (ending o (b .held .away) (b .sells))),
+        and-none (isRest (ending o (metBy o b))),
       )
       refl
 

@@ -1,6 +1,6 @@
 -- What each accepted command writes and leaves (01, How an order is worked): an order's lines one by one, a cancel, a close, and what every
 -- command leaves of the number, the time, the away quote and the session. Assumes nothing.
-use Prim.Native.Nat.{ℕ, _+_, _<_}
+use Prim.Native.Nat.{ℕ, _+_, _≤_, _<_}
 use mathlib.Core.Bool.{Bool, true, false, not, _||_, true≢false}
 use mathlib.Core.List.{List, [], _∷_, _++_, map}
 use mathlib.Core.Logic.{_≢_, ⊎-elim}
@@ -8,11 +8,11 @@ use mathlib.Core.Path.{_≡_, refl, sym, ap, subst, _∙_}
 use lib.Dec.{eqb}
 use native.Mathlib.Omega.{arith}
 use borrow.Author.Tests.{eq-eqb, ne-eqb, eqb-true, eqb-false, not-false}
-use Rattle.basics.specs.Lists.{any, total, gathered, none, also, OneOf, first, later, Each, empty, with}
+use Rattle.basics.specs.Lists.{any, total, gathered, All, none, also, OneOf, first, later, Each, empty, with}
 use Rattle.basics.proofs.LawsChoice.{holds-or-not}
 use Rattle.basics.proofs.LawsLists.{map-append, all-alike, one-of-all, each-there, in-front, behind, gathered-append, gathered-all, gathered-has}
 use Rattle.kinds.specs.Kinds.{shares, number}
-use Rattle.kinds.specs.declared.Cents.{Cents}
+use Rattle.kinds.specs.declared.HalfCents.{HalfCents}
 use Rattle.kinds.specs.declared.Number.{Number}
 use Rattle.kinds.specs.declared.Shares.{Shares}
 use Rattle.rules.specs.declared.Away.{Away}
@@ -36,11 +36,12 @@ use Rattle.rules.specs.declared.Fate.{Fate}
 use Rattle.rules.specs.Settling.{shownOf, insert, keptBy, toldBy, staying, told, ownSide, oppositeSide, settled, bothSettled}
 use Rattle.rules.specs.Step.{answerTo}
 use Rattle.rules.specs.Holdings.{Holding, holdings, executions, after}
-use Rattle.rules.specs.Working.{buying, takings, remainder, ending, lastLine, floorOf, remainderOf, withRemainder, worked, refillFate, accept}
+use Rattle.rules.specs.Working.{Met, buying, metBy, executionPrice, takings, remainder, ending, lastLine, floorOf, remainderOf, withRemainder, worked, refillFate, accept}
 use Rattle.rules.proofs.LawsCommands.{cancel-fate, order-does, cancel-does, quote-does, close-does, does-tells, does-number-and-time}
 use Rattle.rules.proofs.LawsFloors.{shown-at-most}
 use Rattle.rules.proofs.LawsRefusals.{none-given}
 use Rattle.rules.proofs.LawsTakings.{takings-at-most, takings-within}
+use Rattle.rules.proofs.LawsWalkOrder.{holdings-there}
 use Rattle.soundness.proofs.LawsInsert.{added-insert, added-new, added-old, added-other}
 use Rattle.soundness.proofs.LawsSettled.{staying-are}
 use Rattle.soundness.proofs.LawsSides.{sides-of}
@@ -49,7 +50,7 @@ use Rattle.demands.specs.Beyond.{NoExecution}
 use Rattle.demands.specs.Once.{acts}
 use Rattle.demands.specs.Told.{executedIn, eventsIn}
 use Rattle.demands.specs.Written.{Executions, ofNobody, ofNone, ofOne, LastLine, filled, rests, isCancelled, OrderWrites, CancelWrites, closeLine, IsOrder}
-use Rattle.demands.proofs.LawsExecutes.{acts-accepted, acts-lines, workLines, lines-tell}
+use Rattle.demands.proofs.LawsExecutes.{acts-accepted, acts-order, acts-lines, order-side, all-meetable, workLines, lines-tell}
 use Rattle.demands.proofs.LawsFairly.{every-told}
 use Rattle.demands.proofs.LawsGave.{refills-told}
 use Rattle.demands.proofs.LawsHeld.{NoMore, Leaves, ending-leaves}
@@ -57,6 +58,7 @@ use Rattle.demands.proofs.LawsLinesTell.{onceEach, NoneIs, once-first, 
 use Rattle.demands.proofs.LawsOrigins.{another-number}
 use Rattle.demands.proofs.LawsRows.{NoneHas, has-other, either-holds}
 use Rattle.demands.proofs.LawsRun.{accepted-does}
+use Rattle.demands.proofs.LawsPriceHere.{given-here}
 use Rattle.demands.proofs.LawsTold.{line-told}
 
 -- ── An accepted command of a known body ──
@@ -77,14 +79,17 @@ printed-body P b line c x s t e f p = rw (line-told b line s) (after-body P b li
 
 -- ── An order ──
 
--- each taking that is not nothing has its line, in turn
-executions-are : (n : Number) {s : List Holding} {ts : List ℕ} → Each NoMore s ts → Executions n s (executions n s ts)
+-- each taking that is not nothing has its line, in turn, at the price that its order has here
+executions-are : (n : Number) (o : Order) (met : Met) → o .side ≤ 1 → {s : List Holding} {ts : List ℕ}
+    → All (λ (h : Holding). 1 ≤ h .of .price .0) s → Each NoMore s ts
+    → Executions n o (met .own) s (executions n (executionPrice o met) s ts)
 unfolding executions
-executions-are n empty = ofNobody
-executions-are n (with {y = t} m e) =
+executions-are n o met side none empty = ofNobody
+executions-are n o met side (also {x = h} p a) (with {y = t} m e) =
     ⊎-elim
-    (λ (z : eqb t 0 ≡ true). rw z (ofNone (executions-are n e)))
-    (λ (z : eqb t 0 ≡ false). rw z (ofOne (shares t) (omega (arith, eqb-false t 0 z)) m (executions-are n e)))
+    (λ (z : eqb t 0 ≡ true). rw z (ofNone (executions-are n o met side a e)))
+    (λ (z : eqb t 0 ≡ false).
+    rw z (ofOne (shares t) (given-here o met side (h .of) p) (omega (arith, eqb-false t 0 z)) m (executions-are n o met side a e)))
     (holds-or-not (eqb t 0))
 
 -- the last line says what becomes of the rest, on its own side, where no order had its number
@@ -112,39 +117,40 @@ remainder-none-new n o left (Rests price) side h d p = added-other (added-insert
 remainder-none-new n o left (Cancels reason) side h d p = p
 
 -- what is taken and what is left is what was entered
-entered-split : (o : Order) (away : Away) (s : List Resting) → total (takings o away s) + remainder o away s ≡ o .shares .0
+entered-split : (o : Order) (met : Met) → total (takings o met) + remainder o met ≡ o .shares .0
 unfolding remainder
-entered-split o away s = omega (arith, takings-at-most o away s)
+entered-split o met = omega (arith, takings-at-most o met)
 
 -- so of an order that is entered under a number that no order has
-accept-writes : (b : Book) → sound b ≡ true → (n : Number) (time : ℕ) (o : Order) → NoneHas n (ownSide (buying o) b)
+accept-writes : (b : Book) → sound b ≡ true → (n : Number) (time : ℕ) (o : Order) → o .side ≤ 1 → NoneHas n (ownSide (buying o) b)
     → NoneIs n (oppositeSide (buying o) b)
-    → OrderWrites n o b (does n time (body.Order o) b .book) (workLines n o (b .held .away) (oppositeSide (buying o) b))
-accept-writes b s n time o new other =
-    let away = b .held .away in
-    let side = oppositeSide (buying o) b in
-    let ts = takings o away side in
-    let left = remainder o away side in
-    let end = ending o away side in
+    → OrderWrites n o b (does n time (body.Order o) b .book) (workLines n o (metBy o b))
+accept-writes b s n time o isSide new other =
+    let met = metBy o b in
+    let side = met .opposite in
+    let ts = takings o met in
+    let left = remainder o met in
+    let end = ending o met in
     let sides = sides-of (buying o) b (sound-is b s) in
-    let all : executedIn n (workLines n o away side) + left ≡ o .shares .0 = omega (arith, lines-tell n o away side other, entered-split o away side) in
-    let own = ownSide (buying o) b in
-    let last = last-line-is n o (executedIn n (workLines n o away side)) left end own (ending-leaves o away side) all new in
-    let others = remainder-others n o left end own in
-    let none-other = remainder-none-new n o left end own in
+    let all : executedIn n (workLines n o met) + left ≡ o .shares .0 = omega (arith, lines-tell n o met other, entered-split o met) in
+    let last = last-line-is n o (executedIn n (workLines n o met)) left end (met .own) (ending-leaves o met) all new in
+    let others = remainder-others n o left end (met .own) in
+    let none-other = remainder-none-new n o left end (met .own) in
+    let priced : All (λ (h : Holding). 1 ≤ h .of .price .0) (holdings side) =
+    all-alike (λ h p. one-of-all (all-meetable o b s) p .priced) (holdings-there side) in
     record {
-      executions = executions n (holdings side) ts;
+      executions = executions n (executionPrice o met) (holdings side) ts;
       last = lastLine n left end;
       refills = told refillFate (after side ts);
       inTurn = refl;
-      inRank = executions-are n (takings-within o away side);
+      inRank = executions-are n o met isSide priced (takings-within o met);
       atMostOne =
           rw (order-does n time b o .0)
           (⊎-elim
           (λ (t : buying o ≡ true). rw t (rw t at last))
           (λ (t : buying o ≡ false). rw t (rw t at last))
           (holds-or-not (buying o)));
-      asDue = refills-told n o away side (opposite-once sides) (sides .oppositeInRange);
+      asDue = refills-told n o met (opposite-once sides) (sides .oppositeInRange);
       others =
           rw (order-does n time b o .0)
           (⊎-elim
@@ -168,12 +174,15 @@ none-new b s n l buy =
 pub order-writes : (b : Book) (line : List ℕ) (c : Command) (o : Order) → sound b ≡ true → acts b line ≡ true → commandIn line ≡ reading.Is c
     → c .body ≡ body.Order o → OrderWrites (c .number) o b (answerTo b line .book) (eventsIn (printed (answerTo b line)))
 order-writes b line c o s t e f =
-    let next = acts-accepted b line c t e .next in
+    let header = acts-accepted b line c t e in
+    let next = header .next in
+    let isSide = order-side o (acts-order b c o header f .inRange) in
     let new = none-new b s (c .number) (omega (arith, next)) (buying o) in
     let sides = sides-of (buying o) b (sound-is b s) in
     let other : NoneIs (c .number) (oppositeSide (buying o) b) =
     all-alike (λ h r. λ (z : c .number .0 ≡ h .number .0). omega (arith, z, r .upToLast, next)) (sides .oppositeInRange) in
-    rw (line-told b line s, acts-lines b line c o t e f, accepted-does b line c e t .0, f) (accept-writes b s (c .number) (c .time) o new other)
+    rw (line-told b line s, acts-lines b line c o t e f, accepted-does b line c e t .0, f)
+    (accept-writes b s (c .number) (c .time) o isSide new other)
 
 -- ── A cancel ──
 
@@ -307,7 +316,7 @@ open-unless-closed b line c t e other =
 -- ── Only orders execute ──
 
 -- a command that gives an execution is an order: cancels and moves are none
-does-executes : (n : Number) (time : ℕ) (b : Book) (incoming resting : Number) (price : Cents) (given : Shares) (x : Body)
+does-executes : (n : Number) (time : ℕ) (b : Book) (incoming resting : Number) (price : HalfCents) (given : Shares) (x : Body)
     → OneOf (Executed incoming resting price given) (does n time x b .events) → IsOrder x
 does-executes n time b incoming resting price given =
     does-tells n time b (λ (x : Body) (es : List Event). OneOf (Executed incoming resting price given) es → IsOrder x)
@@ -315,8 +324,8 @@ does-executes n time b incoming resting price given =
     (λ x p. absurd (one-of-all {P = NoExecution} (every-told (λ m k reason. tt) (λ m price k. tt) x b) p))
 
 -- and so of what is printed
-pub only-orders-execute : (b : Book) (line : List ℕ) (c : Command) (incoming resting : Number) (price : Cents) (shares : Shares) → sound b ≡ true
-    → acts b line ≡ true → commandIn line ≡ reading.Is c
+pub only-orders-execute : (b : Book) (line : List ℕ) (c : Command) (incoming resting : Number) (price : HalfCents) (shares : Shares)
+    → sound b ≡ true → acts b line ≡ true → commandIn line ≡ reading.Is c
     → OneOf (Executed incoming resting price shares) (eventsIn (printed (answerTo b line))) → IsOrder (c .body)
 only-orders-execute b line c incoming resting price shares s t e =
     printed-body (λ (a : Book) (es : List Event). OneOf (Executed incoming resting price shares) es → IsOrder (c .body)) b line c (c .body) s t e refl

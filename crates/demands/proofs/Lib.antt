@@ -3,6 +3,8 @@ pub mod LawsWorst
 pub mod LawsRuns
 pub mod LawsOnce
 pub mod LawsWalked
+pub mod LawsPriceHere
+pub mod LawsLocks
 pub mod LawsShareOut
 pub mod LawsHeld
 pub mod LawsSums

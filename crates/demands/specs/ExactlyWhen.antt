@@ -11,10 +11,10 @@ use lib.ListN.{length}
 use Rattle.basics.specs.Choice.{if_then_else_}
 use Rattle.basics.specs.Lists.{All}
 use Rattle.kinds.specs.declared.Cents.{Cents}
+use Rattle.kinds.specs.declared.HalfCents.{HalfCents}
 use Rattle.kinds.specs.declared.Number.{Number}
 use Rattle.kinds.specs.declared.Shares.{Shares}
 use Rattle.rules.specs.declared.Away.{Away}
-use Rattle.rules.specs.declared.Body.{Body}
 use Rattle.rules.specs.declared.Body.the-variants as body
 use Rattle.rules.specs.declared.Carried.the-variants.{Nothing, MaxFloor}
 use Rattle.rules.specs.declared.Command.{Command}
@@ -24,8 +24,7 @@ use Rattle.rules.specs.declared.Resting.{Resting}
 use Rattle.rules.specs.Book.{Book, BookRecord, bookIn, recordSound}
 use Rattle.rules.specs.CommandLines.{Fits, lineOf}
 use Rattle.rules.specs.Instructions.{market, reserve, has, lawful}
-use Rattle.rules.specs.Working.{ending}
-use Rattle.demands.specs.ShareOut.{opposite}
+use Rattle.rules.specs.Working.{metBy, ending}
 
 -- the side that an order would rest on: a buy (side 0) among the buys, a sell among the sells
 abbrev pub own : Order → Book → List Resting
@@ -70,7 +69,7 @@ pub data AppliesTo (r : BookRecord) (c : Command) : ℕ → Type 0 where
   notResting : (n : Number) → c .body ≡ body.Cancel n → All (λ (h : Resting). h .number ≢ n) (bookIn r .buys ++ bookIn r .sells)
       → AppliesTo r c 10
   -- 11 "the rules would rest a remainder and that side holds 64", which W5 makes 256
-  sideFull : (o : Order) → c .body ≡ body.Order o → (price : Cents) → ending o (r .held .away) (opposite o (bookIn r)) ≡ Rests price
+  sideFull : (o : Order) → c .body ≡ body.Order o → (price : HalfCents) → ending o (metBy o (bookIn r)) ≡ Rests price
       → 256 ≤ length (own o (bookIn r)) → AppliesTo r c 11
 
 -- the whole table

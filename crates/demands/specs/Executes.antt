@@ -8,6 +8,7 @@ use lib.Dec.{eqb}
 use Rattle.basics.specs.Choice.{if_then_else_}
 use Rattle.basics.specs.Lists.{any, gathered, All}
 use Rattle.kinds.specs.Kinds.{shares}
+use Rattle.kinds.specs.declared.HalfCents.{HalfCents}
 use Rattle.kinds.specs.declared.Number.{Number}
 use Rattle.rules.specs.declared.Command.{Command}
 use Rattle.rules.specs.declared.Event.{Event}
@@ -19,7 +20,8 @@ use Rattle.rules.specs.Commands.{isNumber}
 use Rattle.rules.specs.Holdings.{Holding, size, walksBefore}
 use Rattle.rules.specs.Instructions.{fok, has}
 use Rattle.rules.specs.Working.{buying}
-use Rattle.demands.specs.ShareOut.{opposite, against, Given, Beside, Fair, given, Lawful, Fills}
+use Rattle.demands.specs.ExactlyWhen.{own}
+use Rattle.demands.specs.ShareOut.{opposite, against, Given, Beside, Fair, given, Lawful, Fills, PriceHere}
 use Rattle.demands.specs.Told.{executedIn, cancelledIn, isKilled}
 
 -- the executions among some lines
@@ -54,17 +56,19 @@ pub record Executes (stood : Book) (c : Command) (o : Order) (es : List Event) :
   pub shareOut : List Given
   pub told : executionsIn es ≡ linesOf (c .number) (against o stood) shareOut
   pub inAll : executedIn (c .number) es ≡ given shareOut
-  pub isLawful : Lawful o (stood .held .away) (against o stood) shareOut
+  pub isLawful : Lawful o (stood .held .away) (own o stood) (against o stood) shareOut
   -- "A Fill-or-Kill is killed exactly if no lawful share-out totals its size, and then executes nothing."
-  pub killedOnly : isKilled (c .number) es ≡ true → Fills o (stood .held .away) (against o stood) → ⊥
-  pub killedIf : has (o .word) fok ≡ true → (Fills o (stood .held .away) (against o stood) → ⊥) → isKilled (c .number) es ≡ true
+  pub killedOnly : isKilled (c .number) es ≡ true → Fills o (stood .held .away) (own o stood) (against o stood) → ⊥
+  pub killedIf : has (o .word) fok ≡ true → (Fills o (stood .held .away) (own o stood) (against o stood) → ⊥)
+      → isKilled (c .number) es ≡ true
   pub killedNothing : isKilled (c .number) es ≡ true → executedIn (c .number) es ≡ 0
   pub killedWhole : isKilled (c .number) es ≡ true → cancelledIn (c .number) es ≡ o .shares .0
   pub onlyFok : isKilled (c .number) es ≡ true → has (o .word) fok ≡ true
   -- "Every other such order executes the greatest lawful total"
-  pub greatest : isKilled (c .number) es ≡ false → (gs : List Given) → Lawful o (stood .held .away) (against o stood) gs
+  pub greatest : isKilled (c .number) es ≡ false → (gs : List Given) → Lawful o (stood .held .away) (own o stood) (against o stood) gs
       → given gs ≤ executedIn (c .number) es
   -- "and no resting order gives a share while a better-ranked one that could lawfully give keeps one"
   pub inRank : {better worse : Holding} {gives takes : Given} → Beside better gives (against o stood) shareOut
       → Beside worse takes (against o stood) shareOut → walksBefore (not (buying o)) better worse ≡ true → 0 < takes .shares
-      → Fair o (stood .held .away) (better .of .price) → gives .shares ≡ size better
+      → {price : HalfCents} → PriceHere o (own o stood) (better .of) price → Fair o (stood .held .away) price
+      → gives .shares ≡ size better

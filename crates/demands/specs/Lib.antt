@@ -2,6 +2,7 @@ pub mod Once
 pub mod Run
 pub mod Told
 pub mod ShareOut
+pub mod Locks
 pub mod Executes
 pub mod ExactlyWhen
 pub mod Refilled

@@ -8,7 +8,8 @@ use mathlib.Core.Logic.{_≢_}
 use mathlib.Core.Path.{_≡_}
 use Rattle.basics.specs.Lists.{All, OneOf}
 use Rattle.kinds.specs.Kinds.{shares}
-use Rattle.kinds.specs.declared.Cents.{Cents}
+use Rattle.kinds.specs.declared.HalfCents.{HalfCents}
+use Rattle.kinds.specs.Kinds.{inHalfCents}
 use Rattle.kinds.specs.declared.Number.{Number}
 use Rattle.rules.specs.declared.Away.{Away}
 use Rattle.rules.specs.declared.Event.{Event}
@@ -17,14 +18,14 @@ use Rattle.rules.specs.declared.Resting.{Resting}
 use Rattle.rules.specs.Book.{ranksBefore, sharesLeft}
 
 -- "The Locking Price is the away offer for a buy, the away bid for a sell." (01, step 4); 0 where there is none
-abbrev pub locking : Bool → Away → Cents
-locking true away = away .offer
-locking false away = away .bid
+abbrev pub locking : Bool → Away → HalfCents
+locking true away = inHalfCents (away .offer)
+locking false away = inHalfCents (away .bid)
 
 -- "a non-displayed order that would now cross the away quote": a buy above the away offer, a sell below the away bid
 pub data Crosses (away : Away) (h : Resting) : Bool → Type 0 where
-  aBuy : h .displayed ≡ false → away .offer .0 ≢ 0 → away .offer .0 < h .price .0 → Crosses away h true
-  aSell : h .displayed ≡ false → away .bid .0 ≢ 0 → h .price .0 < away .bid .0 → Crosses away h false
+  aBuy : h .displayed ≡ false → away .offer .0 ≢ 0 → inHalfCents (away .offer) .0 < h .price .0 → Crosses away h true
+  aSell : h .displayed ≡ false → away .bid .0 ≢ 0 → h .price .0 < inHalfCents (away .bid) .0 → Crosses away h false
 
 -- the order as it stands afterwards: "set at the Locking Price with a new time stamp" of command n (its place among the command's moves is
 -- DECISIONS, 43), all else as it was

@@ -3,7 +3,7 @@
 use Prim.Native.Nat.{ℕ, zero, suc, _+_, _*_}
 use mathlib.Core.Bool.{true, false}
 use mathlib.Core.List.{List, [], _∷_}
-use Rattle.kinds.specs.Kinds.{cents, shares, number, lowestPrice}
+use Rattle.kinds.specs.Kinds.{cents, inHalfCents, shares, number, lowestPrice}
 use Rattle.rules.specs.declared.Body.the-variants as body
 use Rattle.rules.specs.declared.Carried.the-variants.{Nothing}
 use Rattle.rules.specs.declared.Command.{Command}
@@ -24,7 +24,7 @@ worstLines = 70 * placesASide + 27
 abbrev pub twoShares : ℕ → Resting
 twoShares k = record {
   number = number k;
-  price = cents lowestPrice;
+  price = inHalfCents (cents lowestPrice);
   shares = shares 1;
   displayed = true;
   back = false;

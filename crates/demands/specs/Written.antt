@@ -7,6 +7,7 @@ use mathlib.Core.Logic.{_≢_}
 use mathlib.Core.Path.{_≡_}
 use Rattle.basics.specs.Lists.{All, OneOf}
 use Rattle.kinds.specs.Kinds.{shares}
+use Rattle.kinds.specs.declared.HalfCents.{HalfCents}
 use Rattle.kinds.specs.declared.Number.{Number}
 use Rattle.kinds.specs.declared.Shares.{Shares}
 use Rattle.rules.specs.declared.Body.{Body}
@@ -21,18 +22,19 @@ use Rattle.rules.specs.Settling.{shownOf}
 use Rattle.rules.specs.Working.{floorOf}
 use Rattle.demands.specs.ExactlyWhen.{own}
 use Rattle.demands.specs.Refilled.{RefillLines}
-use Rattle.demands.specs.ShareOut.{opposite, against}
+use Rattle.demands.specs.ShareOut.{opposite, against, PriceHere}
 use Rattle.demands.specs.Told.{executedIn}
 
 -- ── An order ──
 
--- "walk the opposite side in rank order .. Each execution is at the resting order's price": one line at most of each opposite holding, in
--- the order of the walk, of a share at least and no more than it holds
-pub data Executions (n : Number) : List Holding → List Event → Type 0 where
-  ofNobody : Executions n [] []
-  ofNone : {h : Holding} {s : List Holding} {es : List Event} → Executions n s es → Executions n (h ∷ s) es
-  ofOne : {h : Holding} {s : List Holding} {es : List Event} (given : Shares) → 1 ≤ given .0 → given .0 ≤ size h → Executions n s es
-      → Executions n (h ∷ s) (Executed n (h .of .number) (h .of .price) given ∷ es)
+-- "walk the opposite side in rank order .. Each execution is at the resting order's price", or half a cent from it under a lock (02, W6):
+-- one line at most of each opposite holding, in the order of the walk, of a share at least and no more than it holds
+pub data Executions (n : Number) (o : Order) (own : List Resting) : List Holding → List Event → Type 0 where
+  ofNobody : Executions n o own [] []
+  ofNone : {h : Holding} {s : List Holding} {es : List Event} → Executions n o own s es → Executions n o own (h ∷ s) es
+  ofOne : {h : Holding} {s : List Holding} {es : List Event} {price : HalfCents} (given : Shares) → PriceHere o own (h .of) price
+      → 1 ≤ given .0 → given .0 ≤ size h → Executions n o own s es
+      → Executions n o own (h ∷ s) (Executed n (h .of .number) price given ∷ es)
 
 -- "then at most one `12` or `13`", of an order of which so many shares are executed: nothing where these are all; or the others rest, as
 -- the line says, on its own side, both parts counted, and it shows its Max Floor, or what is left if that is less, or all of it where it
@@ -52,7 +54,7 @@ pub record OrderWrites (n : Number) (o : Order) (stood after : Book) (es : List 
   pub last : List Event
   pub refills : List Event
   pub inTurn : es ≡ executions ++ (last ++ refills)
-  pub inRank : Executions n (against o stood) executions
+  pub inRank : Executions n o (own o stood) (against o stood) executions
   pub atMostOne : LastLine n o (executedIn n es) (own o after) last
   pub asDue : RefillLines es (opposite o stood) refills
   pub others : (h : Resting) → OneOf h (own o stood) → OneOf h (own o after)

@@ -1,6 +1,6 @@
 // The reader of our own event lines, kinds 11 to 14, over any bytes (02, W1 and W2). Refusals are tried in this order: unknown kind, short
 // (also below two bytes), trailing bytes, bad digit or ending.
-use kinds::Cents;
+use kinds::HalfCents;
 use kinds::Number;
 use kinds::Shares;
 use rules::Event;
@@ -28,7 +28,7 @@ fn read_executed(s: &[u8]) -> EventReading
     EventReading::Is(Event::Executed {
         incoming: Number(incoming.number),
         resting: Number(resting.number),
-        price: Cents(price.number),
+        price: HalfCents(price.number),
         shares: Shares(shares.number),
     })
 }
@@ -46,13 +46,13 @@ fn read_at_price(s: &[u8], moved: bool) -> EventReading
     if moved {
         return EventReading::Is(Event::Moved {
             number: Number(number.number),
-            price: Cents(price.number),
+            price: HalfCents(price.number),
             shares: Shares(shares.number),
         });
     }
     EventReading::Is(Event::Rested {
         number: Number(number.number),
-        price: Cents(price.number),
+        price: HalfCents(price.number),
         shares: Shares(shares.number),
     })
 }

@@ -1,7 +1,7 @@
 // The writers of event lines 11 to 14, and of a refusal's line (01, What the machine says back; 02, W2). Each gets the rest of the
 // output, from its first free byte, as a mutable subslice, writes its line to the front of it and tells the line's length. That there
 // is room for the line is the caller's to show: whoever accepts a command has tested the room for all of its lines.
-use kinds::Cents;
+use kinds::HalfCents;
 use kinds::Number;
 use kinds::Shares;
 ghost use mathlib.Core.List.{[], _∷_};
@@ -18,7 +18,7 @@ pub fn write_executed(
     out: &mut [u8],
     incoming: Number,
     resting: Number,
-    price: Cents,
+    price: HalfCents,
     shares: Shares,
 ) -> usize
     requires { ⌜ 35 ≤ length (now out) ⌝ }
@@ -35,7 +35,13 @@ pub fn write_executed(
 }
 
 // Lines 12 and 14 are alike but for their kind: an order at a price.
-fn write_at_price(out: &mut [u8], kind: u8, number: Number, price: Cents, shares: Shares) -> usize
+fn write_at_price(
+    out: &mut [u8],
+    kind: u8,
+    number: Number,
+    price: HalfCents,
+    shares: Shares,
+) -> usize
     requires { ⌜ 27 ≤ length (now out) ⌝ }
     ensures { λ r. ⌜ r ≡ 27 ⌝ }
     ensures { λ _. ⌜ now (out .exit) ≡ onto (line (withKind restedFields) (kind ∷ number .0 ∷ price .0 ∷ shares .0 ∷ []))
@@ -50,7 +56,7 @@ fn write_at_price(out: &mut [u8], kind: u8, number: Number, price: Cents, shares
 }
 
 // Line 12: an order rests.
-pub fn write_rested(out: &mut [u8], number: Number, price: Cents, shares: Shares) -> usize
+pub fn write_rested(out: &mut [u8], number: Number, price: HalfCents, shares: Shares) -> usize
     requires { ⌜ 27 ≤ length (now out) ⌝ }
     ensures { λ r. ⌜ r ≡ 27 ⌝ }
     ensures { λ _. ⌜ now (out .exit) ≡ onto (eventLine (Rested number price shares)) (now (out .entry)) ⌝ }
@@ -73,7 +79,7 @@ pub fn write_cancelled(out: &mut [u8], number: Number, shares: Shares, reason: u
 }
 
 // Line 14: a resting order is set at a price with a new stamp.
-pub fn write_moved(out: &mut [u8], number: Number, price: Cents, shares: Shares) -> usize
+pub fn write_moved(out: &mut [u8], number: Number, price: HalfCents, shares: Shares) -> usize
     requires { ⌜ 27 ≤ length (now out) ⌝ }
     ensures { λ r. ⌜ r ≡ 27 ⌝ }
     ensures { λ _. ⌜ now (out .exit) ≡ onto (eventLine (Moved number price shares)) (now (out .entry)) ⌝ }

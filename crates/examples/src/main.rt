@@ -180,10 +180,10 @@ const OUTPUT: usize = rules::LEAST_ROOM + 104;
 
 // The room of the input. It is made apart from `main`: a proof that sees so many zeros counts them one by one, and its checker runs
 // out of stack.
-fn input_room() -> [u8; 1048576]
-    ensures { λ r. ⌜ 1048576 ≡ length r ⌝ }
+fn input_room() -> [u8; 2097152]
+    ensures { λ r. ⌜ 2097152 ≡ length r ⌝ }
 {
-    [0; 1048576]
+    [0; 2097152]
 }
 
 fn main() {

@@ -4,13 +4,14 @@ use mathlib.Core.Bool.{Bool, true, false, not, _&&_, _||_}
 use mathlib.Core.List.{List, [], _∷_, map}
 use mathlib.Core.Logic.{⊎-elim}
 use mathlib.Core.Path.{_≡_, refl, sym, ap, _∙_}
-use lib.Dec.{eqb, ltb}
+use lib.Dec.{eqb, ltb, leb}
 use lib.ListN.{length, getD, take, drop, drop-of-length-le}
 use lib.Seq.{take-nil, drop-cons}
 use native.Mathlib.Numerals.{add-one}
 use native.Mathlib.Omega.{arith}
 use borrow.Author.Tests.{not-true, not-false, eqb-true, eqb-false}
 use Rattle.basics.proofs.LawsLists.{map-take, map-drop, ahead-none, ahead-cons}
+use Rattle.basics.specs.Choice.{if_then_else_}
 use Rattle.basics.specs.Lists.{any}
 use Rattle.basics.proofs.LawsChoice.{holds-or-not, or-neither}
 use Rattle.kinds.specs.declared.Number.{Number}
@@ -104,7 +105,8 @@ module _ (n m : ℕ) (t u : List (List ℕ)) where
       no-sells (x ∷ s) = refl
 
   pub apart-best : n ≤ length t → m ≤ length u → (eqb n 0 || eqb m 0) ≡ false → (x y : Resting) → x ≡ orderOf (getD t 0 []) → y ≡ orderOf (getD u 0 [])
-      → apart (loaded n t) (loaded m u) ≡ ltb (x .price .0) (y .price .0)
+      → apart (loaded n t) (loaded m u)
+      ≡ (if x .displayed && y .displayed then ltb (x .price .0) (y .price .0) else leb (x .price .0) (y .price .0))
   unfolding apart
   apart-best wholeT wholeU some x y ex ey =
       let p : 0 < n = positive n (or-neither (eqb n 0) (eqb m 0) some .0) in

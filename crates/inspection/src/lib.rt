@@ -137,7 +137,7 @@ pub fn side_sound(t: &Rows, n: usize, buying: bool, last: Number, other: &Rows, 
 
 // ── The book ──
 
-// The best buy is below the best sell.
+// Displayed never meets displayed, and nothing crosses: the best two tell (02, W6).
 fn are_apart(buys: &Rows, n: usize, sells: &Rows, m: usize) -> bool
     requires { ⌜ (n ≤ placesASide) × (m ≤ placesASide) ⌝ }
     ensures { λ r. ⌜ r ≡ apart (loaded n (now (buys .entry))) (loaded m (now (sells .entry))) ⌝ }
@@ -149,7 +149,10 @@ fn are_apart(buys: &Rows, n: usize, sells: &Rows, m: usize) -> bool
     }
     let buy = rows::row(buys, 0);
     let sell = rows::row(sells, 0);
-    buy.price.0 < sell.price.0
+    if buy.displayed & sell.displayed {
+        return buy.price.0 < sell.price.0;
+    }
+    buy.price.0 <= sell.price.0
 }
 
 // What sound says of the header alone.

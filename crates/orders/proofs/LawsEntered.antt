@@ -29,6 +29,7 @@ use Rattle.side.specs.Answers.{Left, bodyAnswer, Stands}
 use Rattle.side.specs.Tables.{bookOn}
 use Rattle.side.proofs.tables.LawsAnswers.{refusedWith, doneWith, body-refused, body-done, left-refused}
 use Rattle.orders.specs.Orders.{stepAfter}
+use Rattle.orders.proofs.LawsReady.{metOn}
 
 module _ (n : Number) (time : ℕ) (o : Order) (b : Book) where
   pub unlawful : orderLawful o ≡ false → bodyAnswer n time (body.Order o) b ≡ refusedWith 8 b
@@ -41,16 +42,16 @@ module _ (n : Number) (time : ℕ) (o : Order) (b : Book) where
 
   -- the match of the order, on whichever side of the market
   abbrev pub matches : Bool → Match
-  matches buy = matchOf o n (b .held .away) (ownSide buy b) (oppositeSide buy b)
+  matches buy = matchOf o n (metOn buy b)
 
   module _ (isLawful : orderLawful o ≡ true) (inRange : orderInRange o ≡ true) where
-    full : (buy : Bool) → buying o ≡ buy → isFull (ending o (b .held .away) (oppositeSide buy b)) (ownSide buy b) ≡ true
+    full : (buy : Bool) → buying o ≡ buy → isFull (ending o (metOn buy b)) (ownSide buy b) ≡ true
         → (bodyAnswer n time (body.Order o) b ≡ refusedWith 11 b)
         × (matches buy ≡ record { refusal = 11; events = []; own = ownSide buy b; opposite = oppositeSide buy b })
     unfolding bodyRefusals firstOf restsOnFullSide matchOf
     full buy q f = (body-refused n time (body.Order o) b 11 (omega arith) (rw (isLawful, inRange, q, f)), rw f)
 
-    room : (buy : Bool) → buying o ≡ buy → isFull (ending o (b .held .away) (oppositeSide buy b)) (ownSide buy b) ≡ false
+    room : (buy : Bool) → buying o ≡ buy → isFull (ending o (metOn buy b)) (ownSide buy b) ≡ false
         → (bodyAnswer n time (body.Order o) b ≡ doneWith (record {
           book = record {
             held = withAccepted n time (b .held);
@@ -110,10 +111,10 @@ module _ (h : Head) (x : List ℕ) (t : List (List ℕ)) (y : List ℕ) (u : Lis
         let m = matches n time o book buy in
         rw (left .0)
         (⊎-elim
-        (λ (f : isFull (ending o (book .held .away) (oppositeSide buy book)) (ownSide buy book) ≡ true).
+        (λ (f : isFull (ending o (metOn buy book)) (ownSide buy book) ≡ true).
         let k = full n time o book isLawful inRange buy q f in
         left-full buy m (left .1 .0) (left .1 .1 .0) (left .1 .1 .1) a (k .0) (k .1))
-        (λ (f : isFull (ending o (book .held .away) (oppositeSide buy book)) (ownSide buy book) ≡ false).
+        (λ (f : isFull (ending o (metOn buy book)) (ownSide buy book) ≡ false).
         let k = room n time o book isLawful inRange buy q f in
         left-room buy m (left .1 .0) (left .1 .1 .0) (left .1 .1 .1) a (k .0) (k .1))
-        (holds-or-not (isFull (ending o (book .held .away) (oppositeSide buy book)) (ownSide buy book))))
+        (holds-or-not (isFull (ending o (metOn buy book)) (ownSide buy book))))

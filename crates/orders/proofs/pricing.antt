@@ -1,2 +1,3 @@
 pub mod LawsBound
+pub mod LawsLocks
 pub mod Determined

@@ -8,8 +8,8 @@ use mathlib.Core.Path.{_≡_}
 use lib.Dec.{eqb}
 use lib.ListN.{length, getD, take, drop}
 use Rattle.basics.specs.Choice.{if_then_else_}
-use Rattle.kinds.specs.declared.Cents.{Cents}
-use Rattle.kinds.specs.Kinds.{cents, shares}
+use Rattle.kinds.specs.declared.HalfCents.{HalfCents}
+use Rattle.kinds.specs.Kinds.{halfCents, shares}
 use Rattle.rules.specs.declared.Resting.{Resting}
 use Rattle.rules.specs.Book.{unused}
 use Rattle.rules.specs.Holdings.{Holding, shownPart, reservePart, size}
@@ -32,14 +32,14 @@ reserves i [] = []
 reserves i (o ∷ s) = if eqb (o .reserve .0) 0 then reserves (i + 1) s else reserveAt i o ∷ reserves (i + 1) s
 
 -- the parts from rank i on, behind an order at the price `level`; the reserves in `waiting` stand behind every other order at that price
-unfoldable pub partsFrom : ℕ → Cents → List Part → List Resting → List Part
+unfoldable pub partsFrom : ℕ → HalfCents → List Part → List Resting → List Part
 partsFrom i level waiting [] = waiting
 partsFrom i level waiting (o ∷ s) =
     if eqb (o .price .0) (level .0) then shownAt i o ∷ partsFrom (i + 1) (o .price) (waiting ++ reserves i (o ∷ [])) s
     else waiting ++ (shownAt i o ∷ partsFrom (i + 1) (o .price) (reserves i (o ∷ [])) s)
 
 abbrev pub parts : List Resting → List Part
-parts s = partsFrom 0 (cents 0) [] s
+parts s = partsFrom 0 (halfCents 0) [] s
 
 -- ── The same with empty reserves, as holdings at their places ──
 
@@ -74,7 +74,7 @@ unfoldable pub ahead : List Resting → Cursor → List Part
 ahead s c = partsFrom (c .at) (c .level) (waiting s (c .waits) (c .at)) (drop (c .at) s)
 
 abbrev pub start : Cursor
-start = record { at = 0; waits = 0; level = cents 0 }
+start = record { at = 0; waits = 0; level = halfCents 0 }
 
 -- a cursor within a side: the order that it names as waiting has a reserve
 pub record IsAt (s : List Resting) (c : Cursor) : Type 0 where

@@ -1,4 +1,5 @@
 pub mod Walk
+pub mod Locks
 pub mod Bound
 pub mod Reports
 pub mod Fills

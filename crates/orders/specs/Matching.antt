@@ -10,8 +10,6 @@ use Rattle.basics.specs.Choice.{if_then_else_}
 use Rattle.basics.specs.Lists.{All}
 use Rattle.kinds.specs.declared.Number.{Number}
 use Rattle.kinds.specs.declared.Shares.{Shares}
-use Rattle.kinds.specs.Kinds.{largest}
-use Rattle.rules.specs.declared.Away.{Away}
 use Rattle.rules.specs.declared.Ending.{Ending}
 use Rattle.rules.specs.declared.Ending.the-variants.{Filled, Rests, Cancels}
 use Rattle.rules.specs.declared.Event.{Event}
@@ -23,9 +21,9 @@ use Rattle.rules.specs.EventLines.{eventLines}
 use Rattle.rules.specs.Refusals.{isRest}
 use Rattle.rules.specs.Holdings.{holdings, executions, after}
 use Rattle.rules.specs.Settling.{firstMove, told, settledSide}
-use Rattle.rules.specs.Working.{buying, lockingPrice, takings, remainder, ending, lastLine, withRemainder, refillFate}
+use Rattle.rules.specs.Working.{buying, Met, executionPrice, takings, remainder, ending, lastLine, withRemainder, refillFate}
 use Rattle.side.specs.Looking.{priceBound, Older}
-use Rattle.orders.specs.Walking.{Workable}
+use Rattle.orders.specs.Walking.{Walkable}
 use Rattle.orders.specs.declared.matching.Finished.{Finished}
 use Rattle.orders.specs.declared.matching.Matched.{Matched}
 
@@ -40,17 +38,17 @@ abbrev pub isFull : Ending → List Resting → Bool
 isFull end own = isRest end && leb placesASide (length own)
 
 -- the sides and the events of `Working.accept`, or refusal 11 with the same sides
-unfoldable pub matchOf : Order → Number → Away → List Resting → List Resting → Match
-matchOf o number away own opposite =
-    if isFull (ending o away opposite) own then record { refusal = 11; events = []; own = own; opposite = opposite }
+unfoldable pub matchOf : Order → Number → Met → Match
+matchOf o number met =
+    if isFull (ending o met) (met .own) then record { refusal = 11; events = []; own = met .own; opposite = met .opposite }
     else record {
       refusal = 0;
       events =
-          (executions number (holdings opposite) (takings o away opposite)
-          ++ lastLine number (remainder o away opposite) (ending o away opposite))
-          ++ told refillFate (after opposite (takings o away opposite));
-      own = withRemainder number o (remainder o away opposite) (ending o away opposite) own;
-      opposite = settledSide number firstMove (not (buying o)) refillFate (after opposite (takings o away opposite));
+          (executions number (executionPrice o met) (holdings (met .opposite)) (takings o met)
+          ++ lastLine number (remainder o met) (ending o met))
+          ++ told refillFate (after (met .opposite) (takings o met));
+      own = withRemainder number o (remainder o met) (ending o met) (met .own);
+      opposite = settledSide number firstMove (not (buying o)) refillFate (after (met .opposite) (takings o met));
     }
 
 -- the same in numbers
@@ -88,11 +86,8 @@ pub record MayRest (buy : Bool) (n : Number) (end : Ending) (own : List Resting)
   pub older : All (Older (stamp n 0)) own
 
 -- what a match by command n asks of both sides, and a sound book gives
-pub record Ready (o : Order) (n : Number) (away : Away) (own opposite : List Resting) : Type 0 where
-  pub limited : o .price .0 < priceBound
-  pub lockingPriced : lockingPrice (buying o) away .0 < largest
-  pub ownRanked : inRankOrder (buying o) own ≡ true
-  pub older : All (Older (stamp n 0)) own
-  pub oppositeRanked : inRankOrder (not (buying o)) opposite ≡ true
-  pub workable : All Workable opposite
-  pub oppositeOlder : All (Older (stamp n firstMove)) opposite
+pub record Ready (o : Order) (n : Number) (met : Met) : Type 0 where
+  pub walkable : Walkable o met
+  pub ownRanked : inRankOrder (buying o) (met .own) ≡ true
+  pub older : All (Older (stamp n 0)) (met .own)
+  pub oppositeOlder : All (Older (stamp n firstMove)) (met .opposite)

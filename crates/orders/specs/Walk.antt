@@ -8,8 +8,8 @@ use lib.Dec.{eqb}
 use lib.ListN.{length, getD, take, drop}
 use Rattle.basics.specs.Choice.{if_then_else_}
 use Rattle.basics.specs.Lists.{total}
-use Rattle.kinds.specs.declared.Cents.{Cents}
-use Rattle.kinds.specs.Kinds.{cents, shares}
+use Rattle.kinds.specs.declared.HalfCents.{HalfCents}
+use Rattle.kinds.specs.Kinds.{halfCents, shares}
 use Rattle.rules.specs.Book.{placesASide}
 use Rattle.rules.specs.Holdings.{walk}
 use Rattle.rules.specs.Working.{beyond}
@@ -21,7 +21,7 @@ abbrev pub mostTakings : ℕ
 mostTakings = 2 * placesASide
 
 -- the price of a part is not beyond a bound
-abbrev pub isWithin : Bool → Cents → Part → Bool
+abbrev pub isWithin : Bool → HalfCents → Part → Bool
 isWithin buy bound p = not (beyond buy bound (p .price))
 
 -- "for the smaller of the two sizes"
@@ -67,7 +67,7 @@ abbrev pub takingRow : Taking → List ℕ
 takingRow k = k .place ∷ k .price .0 ∷ k .shares .0 ∷ []
 
 abbrev pub takingIn : List ℕ → Taking
-takingIn r = record { place = getD r 0 0; price = cents (getD r 1 0); shares = shares (getD r 2 0) }
+takingIn r = record { place = getD r 0 0; price = halfCents (getD r 1 0); shares = shares (getD r 2 0) }
 
 -- the takings that the first rows hold
 abbrev pub takingsIn : ℕ → List (List ℕ) → List Taking

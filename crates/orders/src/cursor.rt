@@ -1,7 +1,7 @@
 // The parts of a side's orders, which are 02's holdings without empty reserves, in the order in which a walk reaches them (W4): each shown
 // part at its rank, each reserve behind every other order at its price. A cursor goes from one part to the next and passes the orders
 // once; only where a price has a reserve does it pass that price's orders again, and look behind them once more for each reserve.
-use kinds::Cents;
+use kinds::HalfCents;
 use kinds::Shares;
 use side::rows;
 use side::rows::Index;
@@ -15,7 +15,7 @@ ghost use Rattle.orders.specs.Cursor.{IsAt, Skips, LevelEnds, firstWaiti
 // What one order can give at one point of a walk: its shown part, or its reserve. The order stands at rank `place`.
 pub struct Part {
     pub place: usize,
-    pub price: Cents,
+    pub price: HalfCents,
     pub shares: Shares,
 }
 
@@ -24,7 +24,7 @@ pub struct Part {
 pub struct Cursor {
     pub at: usize,
     pub waits: usize,
-    pub level: Cents,
+    pub level: HalfCents,
 }
 
 pub enum Following {

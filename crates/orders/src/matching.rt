@@ -1,13 +1,14 @@
 // An order matched in place, all of 01's steps on two sides that are lent, its own and the opposite one, with refusal 11 for a full side.
 // One function for both sides of the market.
 use crate::fills;
+use crate::pricing;
 use crate::refills;
 use crate::reports;
 use crate::walk::Takings;
 use crate::work;
 use event_lines::writer;
 use judge::instructions;
-use kinds::Cents;
+use kinds::HalfCents;
 use kinds::Number;
 use kinds::Shares;
 use rules::Away;
@@ -35,6 +36,7 @@ ghost use Rattle.kinds.specs.Kinds.{shares};
 ghost use Rattle.rules.specs.Settling.{firstMove, told, settledSide};
 ghost use Rattle.rules.specs.Working.{floorOf, lastLine, remainderOf, withRemainder, refillFate, buying};
 ghost use Rattle.orders.specs.Matching.{matchOf, finished, Ready, MayRest, Matches};
+ghost use Rattle.orders.specs.Walking.{metWith};
 ghost use Rattle.orders.specs.Refills.{MayRefill};
 
 // What a match leaves: a refusal or 0, how many orders each side holds, and the length of the lines.
@@ -74,7 +76,7 @@ fn floor_of(carried: Carried) -> Shares
 }
 
 // What rests of an order: it shows its Max Floor, or what is left if that is less.
-fn remainder_of(number: Number, o: Order, left: Shares, price: Cents) -> Resting
+fn remainder_of(number: Number, o: Order, left: Shares, price: HalfCents) -> Resting
     ensures { λ r. ⌜ r ≡ remainderOf number o (left .0) price ⌝ }
 {
     let displayed = instructions::has(o.word, rules::DISPLAYED);
@@ -188,11 +190,13 @@ pub(crate) fn match_order(
     out: &mut [u8],
 ) -> Matched
     requires { ⌜ Holds n (now x) (now own) × Holds m (now y) (now opposite)
-        × Ready o number away (side n (now x) (now own)) (side m (now y) (now opposite)) × (leastRoom ≤ length (now out)) ⌝ }
+        × Ready o number (metWith away (side n (now x) (now own)) (side m (now y) (now opposite))) × (leastRoom ≤ length (now out)) ⌝ }
     ensures { λ r. ⌜ Matches r (now (x .exit)) (now (own .exit)) (now (y .exit)) (now (opposite .exit)) (now (out .exit)) (now (out .entry))
-        (matchOf o number away (side n (now (x .entry)) (now (own .entry))) (side m (now (y .entry)) (now (opposite .entry)))) ⌝ }
+        (matchOf o number (metWith away (side n (now (x .entry)) (now (own .entry))) (side m (now (y .entry)) (now (opposite .entry))))) ⌝ }
 {
-    let w = work::walk_of(o, away, y, opposite, m, took);
+    let locked = pricing::locked_price(x, own, n);
+    let bound = pricing::bound_under(o, away, locked);
+    let w = work::walk_of(o, bound, y, opposite, m, took);
     let count = w.count;
     let left = w.left;
     let end = work::ending_of(o, away, y, opposite, m, left);
@@ -205,7 +209,17 @@ pub(crate) fn match_order(
             length: 0,
         };
     }
-    let length = reports::report(y, opposite, m, took, count, number, out);
+    let length = reports::report(
+        y,
+        opposite,
+        m,
+        took,
+        count,
+        number,
+        o.side == 0,
+        locked,
+        out,
+    );
     let stay = fills::take_off(y, opposite, m, w.at, took, count);
     let reached = stay - (m - w.at);
     let f = finish(

@@ -1,24 +1,29 @@
 // Event lines of a side, one after the other into the rest of the output: of the takings of a walk, and of orders that are cancelled.
+use crate::pricing;
 use crate::walk;
 use crate::walk::Takings;
 use event_lines::writer;
+use kinds::HalfCents;
 use kinds::Number;
 use side::rows;
 use side::rows::Index;
 use side::rows::Rows;
 ghost use mathlib.Core.List.{map};
 ghost use mathlib.Core.Path.{_≡_};
-ghost use Prim.Native.Nat.{_*_, _≤_};
+ghost use Prim.Native.Nat.{_*_, _≤_, _<_};
 ghost use lib.ListN.{length};
 ghost use Rattle.basics.specs.Bytes.{onto};
 ghost use Rattle.basics.specs.Lists.{All};
+ghost use Rattle.kinds.specs.Kinds.{largest};
 ghost use Rattle.side.specs.Shifts.{Countable};
 ghost use Rattle.side.specs.Table.{side, Holds};
 ghost use Rattle.rules.specs.EventLines.{eventLines};
 ghost use Rattle.orders.specs.Walk.{mostTakings, isBelow, takingsIn};
+ghost use Rattle.orders.specs.Locks.{executesAt};
 ghost use Rattle.orders.specs.Reports.{executionOf, cancelledFor};
 
-// Line 11 for each taking, in the order of the walk; the length of the lines. The side is still as the walk found it.
+// Line 11 for each taking, in the order of the walk, at the price of its execution; the length of the lines. The side is still as the walk
+// found it.
 pub(crate) fn report(
     x: &Index,
     t: &Rows,
@@ -26,12 +31,15 @@ pub(crate) fn report(
     took: &Takings,
     count: usize,
     number: Number,
+    buying: bool,
+    locked: HalfCents,
     out: &mut [u8],
 ) -> usize
     requires { ⌜ Holds n (now x) (now t) × (count ≤ mostTakings) × All (isBelow n) (takingsIn count (now took))
-        × (35 * count ≤ length (now out)) ⌝ }
+        × (35 * count ≤ length (now out)) × (locked .0 < largest) ⌝ }
     ensures { λ r. ⌜ r ≡ 35 * count ⌝ }
-    ensures { λ _. ⌜ now (out .exit) ≡ onto (eventLines (map (executionOf number (side n (now (x .entry)) (now (t .entry))))
+    ensures { λ _. ⌜ now (out .exit) ≡ onto (eventLines (map
+        (executionOf number (executesAt buying locked) (side n (now (x .entry)) (now (t .entry))))
         (takingsIn count (now (took .entry))))) (now (out .entry)) ⌝ }
 {
     walk::whole(took);
@@ -40,7 +48,8 @@ pub(crate) fn report(
     while i < count {
         let k = walk::taking_at(took, i);
         let resting = rows::at(x, t, n, k.place);
-        len += writer::write_executed(&mut out[len..], number, resting.number, k.price, k.shares);
+        let price = pricing::execution_price(buying, locked, k.price);
+        len += writer::write_executed(&mut out[len..], number, resting.number, price, k.shares);
         i += 1;
     }
     len

@@ -3,7 +3,7 @@ use crate::cursor;
 use crate::cursor::Cursor;
 use crate::cursor::Following;
 use crate::cursor::Part;
-use kinds::Cents;
+use kinds::HalfCents;
 use kinds::Shares;
 use side::prices;
 use side::rows::Index;
@@ -23,10 +23,10 @@ pub const TAKINGS: usize = 2 * PLACES;
 
 pub type Takings = [[u32; 3]; TAKINGS];
 
-// What a walk took from a part of the order at a rank, and at what price.
+// What a walk took from a part of the order at a rank, and the price at which that order rests.
 pub struct Taking {
     pub place: usize,
-    pub price: Cents,
+    pub price: HalfCents,
     pub shares: Shares,
 }
 
@@ -75,7 +75,7 @@ pub(crate) fn taking_at(took: &Takings, i: usize) -> Taking
     let r = took[i];
     Taking {
         place: place_of(r[0]),
-        price: Cents(r[1]),
+        price: HalfCents(r[1]),
         shares: Shares(r[2]),
     }
 }
@@ -120,7 +120,7 @@ pub(crate) fn walk(
     t: &Rows,
     n: usize,
     buying: bool,
-    bound: Cents,
+    bound: HalfCents,
     want: Shares,
     took: &mut Takings,
 ) -> Walked
@@ -132,7 +132,7 @@ pub(crate) fn walk(
     let mut c = Cursor {
         at: 0,
         waits: 0,
-        level: Cents(0),
+        level: HalfCents(0),
     };
     let mut count = 0;
     let mut left = want;

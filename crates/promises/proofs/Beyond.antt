@@ -7,7 +7,8 @@ use mathlib.Core.Logic.{_≢_}
 use mathlib.Core.Path.{_≡_}
 use lib.ListN.{length}
 use Rattle.basics.specs.Lists.{All, OneOf}
-use Rattle.kinds.specs.declared.Cents.{Cents}
+use Rattle.kinds.specs.Kinds.{inHalfCents}
+use Rattle.kinds.specs.declared.HalfCents.{HalfCents}
 use Rattle.kinds.specs.declared.Number.{Number}
 use Rattle.kinds.specs.declared.Shares.{Shares}
 use Rattle.rules.specs.declared.Body.the-variants as body
@@ -22,7 +23,7 @@ use Rattle.rules.specs.Day.{printed, bookAfter, printedOf}
 use Rattle.rules.specs.Instructions.{has, postOnly}
 use Rattle.rules.specs.Refusals.{leastRoom}
 use Rattle.rules.specs.Step.{answerTo, step}
-use Rattle.demands.specs.Beyond.{NoExecution, standsAt, numbersEntered, executedByAll, Pairs}
+use Rattle.demands.specs.Beyond.{NoExecution, WhereTold, numbersEntered, executedByAll, Pairs}
 use Rattle.demands.specs.Once.{acts, byLine}
 use Rattle.demands.specs.Run.{Enters}
 use Rattle.demands.specs.ShareOut.{Fair}
@@ -52,12 +53,14 @@ pub settled-after-the-close : (lines : List (List ℕ)) (stood : Book) (line : L
 settled-after-the-close = beyond.closed-settles
 
 -- in every execution that an order writes it is the incoming one; the price is that at which the resting order was last told to stand (`12`
--- or `14`), within the order's limit and, unless it is an ISO, within the away quote then held
+-- or `14`), or under a lock half a cent from it (02, W6), and it is within the order's limit and, unless it is an ISO, within the away quote
+-- then held
 pub executions-where-told : (before : List (List ℕ)) (line : List ℕ) (c : Command) (o : Order)
     → acts (bookAfter fresh before) line ≡ true → commandIn line ≡ reading.Is c → c .body ≡ body.Order o
-    → (incoming resting : Number) (price : Cents) (shares : Shares)
+    → (incoming resting : Number) (price : HalfCents) (shares : Shares)
     → OneOf (Executed incoming resting price shares) (eventsIn (printed (answerTo (bookAfter fresh before) line)))
-    → (incoming ≡ c .number) × (price ≡ standsAt resting (eventsIn (printedOf fresh before))) × Fair o (bookAfter fresh before .held .away) price
+    → (incoming ≡ c .number) × WhereTold o (bookAfter fresh before) (eventsIn (printedOf fresh before)) resting price
+    × Fair o (bookAfter fresh before .held .away) price
 executions-where-told = standing.executions-where-told
 
 -- each `11` pairs one buy with one sell, so shares bought are shares sold
@@ -72,8 +75,8 @@ bought-is-sold = traded.bought-is-sold
 -- a resting price is never beyond its order's limit
 pub rests-within-its-limit : (lines : List (List ℕ)) (stood : Book) (line : List ℕ) (c : Command) (o : Order) → Enters byLine fresh lines stood line c o
     → (h : Resting) → h .number ≡ c .number
-    → (OneOf h (bookAfter fresh lines .buys) → (o .side ≡ 0) × (h .price .0 ≤ o .price .0))
-    × (OneOf h (bookAfter fresh lines .sells) → (o .side ≡ 1) × (o .price .0 ≤ h .price .0))
+    → (OneOf h (bookAfter fresh lines .buys) → (o .side ≡ 0) × (h .price .0 ≤ inHalfCents (o .price) .0))
+    × (OneOf h (bookAfter fresh lines .sells) → (o .side ≡ 1) × (inHalfCents (o .price) .0 ≤ h .price .0))
 rests-within-its-limit = limits.rests-within-limit
 
 -- ── One side lent as a table (01, The book) ──

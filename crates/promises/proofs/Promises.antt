@@ -2,58 +2,61 @@
 -- believe these a reader needs the definitions that they name: 01 itself in `rules/specs`, the customer's words in `demands/specs`; for the
 -- tally `tally/specs/Tally`, for the program `day/specs/Turns` with `Feed` and `Pieces` beside it and `command_lines/specs/Pieces`. What else holds of a day, and
 -- of the lent table, stands in `Beyond` beside this file, and what the code itself is proved to do in `Entries`. Assumes nothing.
-use Prim.Native.Nat.{ℕ, _+_, _≤_, _<_}
+use Prim.Native.Nat.{ℕ, _+_, _%_, _≤_, _<_}
 use mathlib.Core.Bool.{Bool, true, false, not}
 use mathlib.Core.List.{List, [], _∷_, _++_, map}
 use mathlib.Core.Logic.{_⊎_, _≢_}
 use mathlib.Core.Path.{_≡_, refl}
-use lib.ListN.{length, take}
-use Rattle.basics.specs.Bytes.{onto}
+use lib.ListN.{length}
 use Rattle.basics.specs.Lists.{distinct, All, OneOf}
-use Rattle.kinds.specs.declared.Cents.{Cents}
+use Rattle.kinds.specs.Kinds.{inHalfCents}
+use Rattle.kinds.specs.declared.HalfCents.{HalfCents}
 use Rattle.kinds.specs.declared.Number.{Number}
 use Rattle.kinds.specs.declared.Shares.{Shares}
 use Rattle.rules.specs.declared.Away.{Away}
 use Rattle.rules.specs.declared.Body.the-variants as body
 use Rattle.rules.specs.declared.Command.{Command}
 use Rattle.rules.specs.declared.Event.{Event}
-use Rattle.rules.specs.declared.Event.the-variants.{Executed}
+use Rattle.rules.specs.declared.Ending.the-variants.{Rests}
+use Rattle.rules.specs.declared.Event.the-variants.{Executed, Rested, Cancelled}
 use Rattle.rules.specs.declared.EventReading.the-variants as event
 use Rattle.rules.specs.declared.Order.{Order}
 use Rattle.rules.specs.declared.Reading.the-variants as reading
 use Rattle.rules.specs.declared.Resting.{Resting}
-use Rattle.rules.specs.Book.{Book, BookRecord, placesASide, fresh, inRankOrder, sound, bookIn, recordOf, recordSound}
+use Rattle.rules.specs.Book.{Book, BookRecord, placesASide, fresh, inRankOrder, apart, sound, bookIn, recordOf, recordSound}
 use Rattle.rules.specs.CommandLines.{commandIn, lineOf, Fits}
 use Rattle.rules.specs.Commands.{does}
 use Rattle.rules.specs.Day.{printed, bookAfter, printedOf, output}
 use Rattle.rules.specs.EventLines.{FitsEvent, eventLine, eventLines, refusalLine}
 use Rattle.rules.specs.EventReading.{eventIn}
-use Rattle.rules.specs.Examples.{DeskExamples, QuoteExamples, ReserveExamples}
+use Rattle.rules.specs.Examples.{DeskExamples, QuoteExamples, ReserveExamples, LockExamples}
 use Rattle.rules.specs.Holdings.{holdings, InWalkOrder, ordersOf}
-use Rattle.rules.specs.Instructions.{has, postOnly}
+use Rattle.rules.specs.Instructions.{has, ioc, fok, iso, market, postOnly}
 use Rattle.rules.specs.Refusals.{leastRoom}
 use Rattle.rules.specs.Step.{answerTo, step, stepOn}
-use Rattle.rules.specs.Working.{buying}
-use Rattle.rules.proofs.Examples.{desk-examples, quote-examples, reserve-examples}
+use Rattle.rules.specs.Working.{buying, seeks}
+use Rattle.rules.proofs.Examples.{desk-examples, quote-examples, reserve-examples, lock-examples}
 use Rattle.rules.proofs.LawsEventReading.{eventIn-eventLine, eventIn-is}
 use Rattle.rules.proofs.LawsLines.{commandIn-lineOf, commandIn-is, lineOf-once}
 use Rattle.rules.proofs.LawsHoldings.{holdings-shown, holdings-reserves}
 use Rattle.rules.proofs.LawsWalkOrder.{holdings-walk}
 use Rattle.soundness.proofs.LawsKept.{fresh-sound, after-sound}
 use Rattle.demands.specs.Beyond.{oneTo, repeated}
-use Rattle.demands.specs.ExactlyWhen.{Applies, NoLower}
+use Rattle.demands.specs.ExactlyWhen.{own, Applies, NoLower}
 use Rattle.demands.specs.Executes.{executionsIn, Executes}
+use Rattle.demands.specs.Locks.{ExecutesWith, MeetsOrPasses, PostOnlyMeets, SaysOfPostOnly, StandApart, RestsAtWholeCents}
 use Rattle.demands.specs.Once.{EventLines, Refused, endOf, eventLinesOf, actingNumbers, struckOut, noneRefused, acts, byLine, readingOf, lineAsked, Call, returned, byCall, linesWithRoom}
 use Rattle.demands.specs.Quoted.{Crosses, Quoted, WritesBoth}
 use Rattle.demands.specs.Refilled.{Refills}
 use Rattle.demands.specs.Room.{worstLines, fullOfReserves, nextLine}
 use Rattle.demands.specs.Run.{eventsOf, Enters}
-use Rattle.demands.specs.ShareOut.{opposite}
+use Rattle.demands.specs.ShareOut.{opposite, Locked, PriceHere, Fair}
 use Rattle.demands.specs.Told.{eventsIn, executedIn, givenIn, cancelledIn, restingOf}
 use Rattle.demands.specs.Written.{OrderWrites, CancelWrites, closeLine, IsOrder}
 use Rattle.demands.proofs.LawsBeyond as beyond
 use Rattle.demands.proofs.LawsCalls as calling
 use Rattle.demands.proofs.LawsFills as fills
+use Rattle.demands.proofs.LawsLocks as locks
 use Rattle.demands.proofs.LawsOnce as once
 use Rattle.demands.proofs.LawsQuoted as quoted
 use Rattle.demands.proofs.LawsRefilled as refilled
@@ -62,10 +65,7 @@ use Rattle.demands.proofs.LawsRun as run
 use Rattle.demands.proofs.LawsWorst as worst
 use Rattle.demands.proofs.LawsWritten as written
 use Rattle.command_lines.specs.Pieces.{allOf}
-use Rattle.day.specs.Turns.{Runs, Ran, Stops, Begins}
 use Rattle.day.proofs.night.LawsTurns as turns
-use Rattle.side.specs.Table.{Shows}
-use Rattle.side.specs.Tables.{bookOn, headOf}
 use Rattle.tally.specs.declared.Stop.the-variants.{Going}
 use Rattle.tally.specs.Tally.{tallyOf, tallyOfPieces}
 use Rattle.tally.proofs.LawsAgree.{tally-agrees}
@@ -175,14 +175,14 @@ a-call-does-what-01-says = calling.call-does
 -- That `does` is 01 is for its reader to see. What follows from it, in words of its own:
 
 -- an order writes its executions, one at most of each opposite holding, a shown part or a reserve, in the order of the walk, each at the
--- price of its order; then at most one `12`, which tells how it rests, or `13`; and then a `14` of each refill that is due, in former rank
--- order (02, W4). `12` and `13` count both parts of an order, `14` the shown one
+-- price of its order, or under a lock half a cent from it (02, W6); then at most one `12`, which tells how it rests, or `13`; and then a `14`
+-- of each refill that is due, in former rank order (02, W4). `12` and `13` count both parts of an order, `14` the shown one
 pub an-order-writes : (b : Book) (line : List ℕ) (c : Command) (o : Order) → sound b ≡ true → acts b line ≡ true → commandIn line ≡ reading.Is c
     → c .body ≡ body.Order o → OrderWrites (c .number) o b (answerTo b line .book) (eventsIn (printed (answerTo b line)))
 an-order-writes = written.order-writes
 
 -- and nothing but an order writes an execution
-pub only-orders-execute : (b : Book) (line : List ℕ) (c : Command) (incoming resting : Number) (price : Cents) (shares : Shares) → sound b ≡ true
+pub only-orders-execute : (b : Book) (line : List ℕ) (c : Command) (incoming resting : Number) (price : HalfCents) (shares : Shares) → sound b ≡ true
     → acts b line ≡ true → commandIn line ≡ reading.Is c
     → OneOf (Executed incoming resting price shares) (eventsIn (printed (answerTo b line))) → IsOrder (c .body)
 only-orders-execute = written.only-orders-execute
@@ -219,8 +219,8 @@ pub only-a-close-closes : (b : Book) (line : List ℕ) (c : Command) → acts b 
     → answerTo b line .book .held .closed ≡ false
 only-a-close-closes = written.open-unless-closed
 
--- P1 to P12, "a single table with a single proved claim", a table of a moved quote (02, W2) and one of a reserve (02, W4), the
--- sources' own examples among them
+-- P1 to P12, "a single table with a single proved claim", a table of a moved quote (02, W2), one of a reserve (02, W4) and one of a lock
+-- (02, W6), the sources' own examples among them; prices there are cents, for which the lines have twice as many half cents
 pub examples-from-the-desk : DeskExamples
 examples-from-the-desk = desk-examples
 
@@ -229,6 +229,9 @@ examples-of-a-moved-quote = quote-examples
 
 pub examples-of-a-reserve : ReserveExamples
 examples-of-a-reserve = reserve-examples
+
+pub examples-of-a-lock : LockExamples
+examples-of-a-lock = lock-examples
 
 -- every call keeps a sound record sound, so the record of a day is always sound, and so is the book of a day of lines
 pub sound-after-a-call : (r : BookRecord) (c : Call) → recordSound r ≡ true → recordSound (returned r c .book) ≡ true
@@ -258,7 +261,8 @@ no-shared-line = lineOf-once
 -- if no lawful share-out totals its size, and then executes nothing. Every other such order executes the greatest lawful total, and
 -- no resting order gives a share while a better-ranked one that could lawfully give keeps one.": said of the lines that the order
 -- itself prints, read back from their bytes; with W4 a resting order with reserve counts as two, its shown part and its reserve, "each as an
--- order of its own at its rank in the walk"
+-- order of its own at its rank in the walk"; with W6 "that order's price" is the one given there (`PriceHere`), so that "a hidden order barred
+-- here isn't one that could give"
 pub executes-the-greatest : (lines : List (List ℕ)) (stood : Book) (line : List ℕ) (c : Command) (o : Order)
     → Enters byLine fresh lines stood line c o → has (o .word) postOnly ≡ false → Executes stood c o (eventsIn (printed (answerTo stood line)))
 executes-the-greatest = run.run-executes
@@ -416,3 +420,76 @@ the-most-is-printed = worst.worst-reached
 -- so the 8,192 bytes of W4 would not do, and 32,768 do
 pub the-room-is-needed : (worstLines ≡ 17947) × (8192 < worstLines) × (worstLines ≤ leastRoom)
 the-room-is-needed = (room.worst-is, room.worst-needs, room.worst-fits)
+
+-- ── W6: half cents, and the Post Only that meets a hidden order ──
+
+-- "While that lock stands, the hidden order doesn't execute at that price.": of every execution that an accepted order prints on a sound
+-- book, where on that order's own side one is displayed at the price of the hidden one (`Locked`) ..
+pub never-at-a-locked-price : {b : Book} {line : List ℕ} {o : Order} {h : Resting} {price : HalfCents} → ExecutesWith b line o h price
+    → Locked (own o b) h → price .0 ≢ h .price .0
+never-at-a-locked-price = locks.not-at-a-locked-price
+
+-- .. but "half a cent under that price; a buy, the mirror"
+pub half-a-cent-under-a-lock : {b : Book} {line : List ℕ} {o : Order} {h : Resting} {price : HalfCents} → ExecutesWith b line o h price
+    → Locked (own o b) h → (o .side ≡ 0 → price .0 ≡ h .price .0 + 1) × (o .side ≡ 1 → price .0 + 1 ≡ h .price .0)
+half-a-cent-under-a-lock = locks.half-a-cent
+
+-- so an execution price is whole cents, an even number of half cents, exactly where no lock stands
+pub whole-cents-without-a-lock : {b : Book} {line : List ℕ} {o : Order} {h : Resting} {price : HalfCents} → ExecutesWith b line o h price
+    → (price .0 % 2 ≡ 0 → Locked (own o b) h → ⊥) × ((Locked (own o b) h → ⊥) → price .0 % 2 ≡ 0)
+whole-cents-without-a-lock = locks.whole-without-a-lock
+
+-- "Incoming orders on the displayed order's side, limited at the locked price, rest or cancel.": none of them executes against the hidden
+-- order ..
+pub none-limited-at-the-lock-executes : {b : Book} {line : List ℕ} {o : Order} {h : Resting} {price : HalfCents} → ExecutesWith b line o h price
+    → Locked (own o b) h → has (o .word) market ≡ false → inHalfCents (o .price) .0 ≢ h .price .0
+none-limited-at-the-lock-executes = locks.not-limited-at-the-lock
+
+-- .. and "a hidden order barred here isn't one that could give": no price given here is fair for such an order
+pub a-barred-order-could-not-give : {o : Order} {away : Away} {own : List Resting} {h : Resting} {price : HalfCents} → Locked own h
+    → has (o .word) market ≡ false → inHalfCents (o .price) .0 ≡ h .price .0 → PriceHere o own h price → Fair o away price → ⊥
+a-barred-order-could-not-give = locks.barred
+
+-- "The away test uses the true execution price.": no order but an ISO buys above the away offer or sells below the away bid, at the price
+-- that its line tells
+pub never-through-the-away-quote : {b : Book} {line : List ℕ} {o : Order} {h : Resting} {price : HalfCents} → ExecutesWith b line o h price
+    → has (o .word) iso ≡ false
+    → (o .side ≡ 0 → b .held .away .offer .0 ≢ 0 → price .0 ≤ inHalfCents (b .held .away .offer) .0)
+    × (o .side ≡ 1 → b .held .away .bid .0 ≢ 0 → inHalfCents (b .held .away .bid) .0 ≤ price .0)
+never-through-the-away-quote = locks.not-through-the-away-quote
+
+-- "Post Only is now cancelled with reason 6 only if it meets a displayed order or would pass a hidden one", at its price from step 4; and it
+-- rests only where it does so of none
+pub post-only-as-it-meets : (b : Book) (line : List ℕ) (c : Command) (o : Order) → sound b ≡ true → acts b line ≡ true
+    → commandIn line ≡ reading.Is c → c .body ≡ body.Order o → All (SaysOfPostOnly o b) (eventsIn (printed (answerTo b line)))
+post-only-as-it-meets = locks.post-only-as-it-meets
+
+-- .. and the other way round, of a Post Only order, which a lawful word makes Day: it is cancelled with reason 6 if it meets a displayed order
+-- or would pass a hidden one, and else it rests, at the price of an opposite hidden one too
+pub post-only-is-cancelled : (b : Book) (line : List ℕ) (c : Command) (o : Order) → sound b ≡ true → acts b line ≡ true
+    → commandIn line ≡ reading.Is c → c .body ≡ body.Order o → has (o .word) postOnly ≡ true → has (o .word) fok ≡ false → has (o .word) ioc ≡ false
+    → PostOnlyMeets o b → eventsIn (printed (answerTo b line)) ≡ Cancelled (c .number) (o .shares) 6 ∷ []
+post-only-is-cancelled = locks.post-only-cancelled
+
+pub post-only-rests : (b : Book) (line : List ℕ) (c : Command) (o : Order) → sound b ≡ true → acts b line ≡ true
+    → commandIn line ≡ reading.Is c → c .body ≡ body.Order o → has (o .word) postOnly ≡ true → has (o .word) fok ≡ false → has (o .word) ioc ≡ false
+    → (price : HalfCents) → seeks o (b .held .away) ≡ Rests price → ((h : Resting) → OneOf h (opposite o b) → MeetsOrPasses o price h → ⊥)
+    → eventsIn (printed (answerTo b line)) ≡ Rested (c .number) price (o .shares) ∷ []
+post-only-rests = locks.post-only-rests
+
+-- "Soundness becomes: displayed never meets displayed, nothing crosses.": the test of two sides in rank order, `apart`, holds exactly if it is
+-- so of each buy and each sell
+pub apart-exactly-when : (buys sells : List Resting) → inRankOrder true buys ≡ true → inRankOrder false sells ≡ true
+    → (apart buys sells ≡ true → (buy sell : Resting) → OneOf buy buys → OneOf sell sells → StandApart buy sell)
+    × (((buy sell : Resting) → OneOf buy buys → OneOf sell sells → StandApart buy sell) → apart buys sells ≡ true)
+apart-exactly-when = locks.apart-exactly
+
+-- and a record is sound only if each of its orders rests at 100 to 200,000 whole cents; so one that is lent with another price gets refusal 2
+-- (`refused-exactly-when`)
+pub sound-prices : (r : BookRecord) → recordSound r ≡ true → All RestsAtWholeCents (bookIn r .buys ++ bookIn r .sells)
+sound-prices = locks.record-prices
+
+-- so on every book of a day
+pub stand-apart-all-day : (lines : List (List ℕ)) (buy sell : Resting) → OneOf buy (bookAfter fresh lines .buys)
+    → OneOf sell (bookAfter fresh lines .sells) → StandApart buy sell
+stand-apart-all-day lines = locks.stand-apart (bookAfter fresh lines) (sound-all-day-by-line lines)

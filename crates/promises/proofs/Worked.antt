@@ -1,6 +1,6 @@
 -- The promises are not empty: a night that trades, is refused, is sent again, is killed and is refilled (`specs/Night`) is computed, and
--- demand 3's and W4's are read at it. Assumes nothing.
-use Prim.Native.Nat.{ℕ, _≤_, _<_}
+-- demand 3's and W4's are read at it; and so is a locked night for W6's. Assumes nothing.
+use Prim.Native.Nat.{ℕ, _%_, _≤_, _<_}
 use mathlib.Core.Bool.{true, false}
 use mathlib.Core.List.{List, [], _∷_}
 use mathlib.Core.Path.{_≡_, refl, sym, subst}
@@ -10,8 +10,10 @@ use native.Mathlib.Omega.{arith}
 use Rattle.basics.specs.Bytes.{onto}
 use Rattle.basics.specs.Lists.{every, any, distinct, total, sumOf, gathered, OneOf, first}
 use Rattle.digits.specs.Digits.{digits, nibbleOf, allDigits, numberAfter, numberIn}
-use Rattle.kinds.specs.Kinds.{number}
+use Rattle.kinds.specs.Kinds.{number, shares, halfAbove}
+use Rattle.kinds.specs.declared.HalfCents.{HalfCents}
 use Rattle.rules.specs.declared.Event.{Event}
+use Rattle.rules.specs.declared.Event.the-variants.{Executed}
 use Rattle.rules.specs.declared.Reading.the-variants as reading
 use Rattle.rules.specs.Book.{Book, fresh, ranksBefore, inRankOrder, apart, sound, sharesLeft}
 use Rattle.rules.specs.CommandLines.{written, lineOf, numbersFrom, kinds, bodyOfForm, bodyFrom, bodyIn, commandIn}
@@ -25,13 +27,14 @@ use Rattle.rules.specs.Refusals.{firstOf, restsOnFullSide, headerRefusals, body
 use Rattle.rules.specs.Settling.{insert, insertAll, staying, setAnew, told, stampedFrom, settledSide, settled, bothSettled}
 use Rattle.rules.specs.Step.{doneBy, answer, answerTo}
 use Rattle.rules.specs.Working.{walked, takings, remainder, seeks, endingWith, ending, worked, accept}
+use Rattle.demands.specs.Locks.{ExecutesWith}
 use Rattle.demands.specs.Once.{actingNumbers, struckOut, byLine, acts}
 use Rattle.demands.specs.Refilled.{Due, Stands, IsRefilled}
 use Rattle.demands.specs.Run.{Enters, now, later}
-use Rattle.demands.specs.ShareOut.{Given, given, Lawful, Fills}
+use Rattle.demands.specs.ShareOut.{Given, given, Lawful, Fills, Locked}
 use Rattle.demands.specs.Told.{eventsOn, eventsIn, isKilled, executedIn, givenIn, cancelledIn, restingOf}
-use Rattle.promises.proofs.Promises.{sound-all-day-by-line, executes-the-greatest, no-share-lost, an-order-refills}
-use Rattle.promises.specs.Night.{night, nightStruckOut, nightEvents, reservedRests}
+use Rattle.promises.proofs.Promises.{sound-all-day-by-line, executes-the-greatest, no-share-lost, an-order-refills, half-a-cent-under-a-lock, whole-cents-without-a-lock}
+use Rattle.promises.specs.Night.{night, nightStruckOut, nightEvents, reservedRests, lockedNight, lockedEvents, lockedSell, lockingBuy, sweeping, theSweeping}
 use Rattle.promises.specs.Night.{killed, greedy, resting, reserved, taking, theKilled, theGreedy, theResting, theReserved, theTaking}
 
 -- ── What the night is computed by ──
@@ -87,7 +90,7 @@ kills : isKilled (number 5) (eventsIn (printed (answerTo (bookAfter fresh (take 
 unfolding lines-read bookAfter
 kills = refl
 
-pub away-price-kills : Fills killed (bookAfter fresh (take 5 night) .held .away) (holdings (bookAfter fresh (take 5 night) .sells)) → ⊥
+pub away-price-kills : Fills killed (bookAfter fresh (take 5 night) .held .away) (bookAfter fresh (take 5 night) .buys) (holdings (bookAfter fresh (take 5 night) .sells)) → ⊥
 away-price-kills =
     executes-the-greatest night (bookAfter fresh (take 5 night)) (lineOf theKilled) theKilled killed killed-enters refl .killedOnly kills
 
@@ -101,7 +104,7 @@ unfolding lines-read bookAfter
 lives = refl
 
 pub nobody-gives-more : (gs : List Given)
-    → Lawful greedy (bookAfter fresh (take 6 night) .held .away) (holdings (bookAfter fresh (take 6 night) .sells)) gs → given gs ≤ 200
+    → Lawful greedy (bookAfter fresh (take 6 night) .held .away) (bookAfter fresh (take 6 night) .buys) (holdings (bookAfter fresh (take 6 night) .sells)) gs → given gs ≤ 200
 nobody-gives-more gs l =
     subst (λ (k : ℕ). given gs ≤ k) takes-200
     (executes-the-greatest night (bookAfter fresh (take 6 night)) (lineOf theGreedy) theGreedy greedy greedy-enters refl .greatest lives
@@ -186,3 +189,62 @@ pub keeps-150 : sharesLeft (is-refilled .order) ≡ 150
 keeps-150 =
     let kept = rw gives-150 at (is-refilled .is .inAll) in
     omega (arith, kept)
+
+-- ── W6 ──
+
+-- a sell is hidden at 10.05 and a buy displayed there: a buy limited at that price is cancelled, and a market buy executes at 10.055
+locked-night-tells : eventsIn (printedOf fresh lockedNight) ≡ lockedEvents
+unfolding lines-read bookAfter printedOf
+locked-night-tells = refl
+
+abbrev lockStands : Book
+lockStands = bookAfter fresh (take 3 lockedNight)
+
+sells-locked : lockStands .sells ≡ lockedSell ∷ []
+unfolding lines-answered bookAfter
+sells-locked = refl
+
+buys-locking : lockStands .buys ≡ lockingBuy ∷ []
+unfolding lines-answered bookAfter
+buys-locking = refl
+
+sweeping-acts : acts lockStands (lineOf theSweeping) ≡ true
+unfolding lines-answered bookAfter
+sweeping-acts = refl
+
+sweeping-reads : commandIn (lineOf theSweeping) ≡ reading.Is theSweeping
+unfolding lines-answered
+sweeping-reads = refl
+
+sweeping-tells : eventsIn (printed (answerTo lockStands (lineOf theSweeping)))
+    ≡ Executed (number 4) (number 1) (halfAbove (lockedSell .price)) (shares 60) ∷ []
+unfolding lines-read bookAfter
+sweeping-tells = refl
+
+is-locked : Locked (lockStands .buys) lockedSell
+is-locked = record {
+  hidden = refl;
+  by = lockingBuy;
+  there = subst (OneOf lockingBuy) (sym buys-locking) first;
+  shown = refl;
+  atItsPrice = refl;
+}
+
+sweeping-executes : ExecutesWith lockStands (lineOf theSweeping) sweeping lockedSell (halfAbove (lockedSell .price))
+sweeping-executes = record {
+  command = theSweeping;
+  shares = shares 60;
+  isSound = sound-all-day-by-line (take 3 lockedNight);
+  isAccepted = sweeping-acts;
+  reads = sweeping-reads;
+  enters = refl;
+  there = subst (OneOf lockedSell) (sym sells-locked) first;
+  prints = subst (OneOf (Executed (number 4) (number 1) (halfAbove (lockedSell .price)) (shares 60))) (sym sweeping-tells) first;
+}
+
+-- and at whatever price it executes against that order, the promise says which: 2,011 half cents, no whole number of cents
+pub pays-2011 : {price : HalfCents} → ExecutesWith lockStands (lineOf theSweeping) sweeping lockedSell price → price .0 ≡ 2011
+pays-2011 e = half-a-cent-under-a-lock e is-locked .0 refl
+
+pub pays-no-whole-cents : (halfAbove (lockedSell .price) .0 % 2 ≡ 0) → ⊥
+pays-no-whole-cents even = whole-cents-without-a-lock sweeping-executes .0 even is-locked

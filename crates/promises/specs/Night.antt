@@ -1,9 +1,10 @@
 -- A night worth looking at: it trades, it is refused, a line is sent again with a newer time, two Fill-or-Kills are killed, one of
--- them by the away price alone, an order with reserve gives of both its parts and is refilled, and the close cancels what is left.
+-- them by the away price alone, an order with reserve gives of both its parts and is refilled, and the close cancels what is left. And
+-- behind it a short one in which a lock stands (02, W6).
 use Prim.Native.Nat.{ℕ, _+_}
-use mathlib.Core.Bool.{true, false}
+use mathlib.Core.Bool.{Bool, true, false}
 use mathlib.Core.List.{List, [], _∷_}
-use Rattle.kinds.specs.Kinds.{cents, shares, number}
+use Rattle.kinds.specs.Kinds.{cents, inHalfCents, halfAbove, shares, number}
 use Rattle.rules.specs.declared.Body.{Body}
 use Rattle.rules.specs.declared.Body.the-variants as body
 use Rattle.rules.specs.declared.Carried.{Carried}
@@ -15,7 +16,7 @@ use Rattle.rules.specs.declared.Order.{Order}
 use Rattle.rules.specs.declared.Resting.{Resting}
 use Rattle.rules.specs.Book.{opening, stamp}
 use Rattle.rules.specs.CommandLines.{lineOf}
-use Rattle.rules.specs.Instructions.{ioc, fok, day, displayed, nonDisplayed, priceAdjust, reserve}
+use Rattle.rules.specs.Instructions.{ioc, fok, day, displayed, nonDisplayed, priceAdjust, postOnly, market, reserve}
 
 -- ── The commands ──
 
@@ -112,18 +113,18 @@ nightStruckOut =
 
 abbrev pub nightEvents : List Event
 nightEvents =
-    Rested (number 1) (cents 1002) (shares 100)
-    ∷ Rested (number 2) (cents 1001) (shares 200)
+    Rested (number 1) (inHalfCents (cents 1002)) (shares 100)
+    ∷ Rested (number 2) (inHalfCents (cents 1001)) (shares 200)
     ∷ Cancelled (number 3) (shares 400) 3
     ∷ Cancelled (number 5) (shares 300) 3
-    ∷ Executed (number 6) (number 2) (cents 1001) (shares 200)
+    ∷ Executed (number 6) (number 2) (inHalfCents (cents 1001)) (shares 200)
     ∷ Cancelled (number 6) (shares 50) 2
-    ∷ Executed (number 8) (number 1) (cents 1002) (shares 100)
-    ∷ Rested (number 8) (cents 1002) (shares 50)
-    ∷ Rested (number 9) (cents 1004) (shares 300)
-    ∷ Executed (number 10) (number 9) (cents 1004) (shares 100)
-    ∷ Executed (number 10) (number 9) (cents 1004) (shares 50)
-    ∷ Moved (number 9) (cents 1004) (shares 100)
+    ∷ Executed (number 8) (number 1) (inHalfCents (cents 1002)) (shares 100)
+    ∷ Rested (number 8) (inHalfCents (cents 1002)) (shares 50)
+    ∷ Rested (number 9) (inHalfCents (cents 1004)) (shares 300)
+    ∷ Executed (number 10) (number 9) (inHalfCents (cents 1004)) (shares 100)
+    ∷ Executed (number 10) (number 9) (inHalfCents (cents 1004)) (shares 50)
+    ∷ Moved (number 9) (inHalfCents (cents 1004)) (shares 100)
     ∷ Cancelled (number 8) (shares 50) 7
     ∷ Cancelled (number 9) (shares 150) 7
     ∷ []
@@ -134,7 +135,7 @@ nightEvents =
 abbrev pub reservedRests : Resting
 reservedRests = record {
   number = number 9;
-  price = cents 1004;
+  price = inHalfCents (cents 1004);
   shares = shares 100;
   displayed = true;
   back = false;
@@ -142,3 +143,46 @@ reservedRests = record {
   reserve = shares 200;
   floor = shares 100;
 }
+
+-- ── A locked night ──
+
+-- a sell is hidden at 10.05, a Post Only buy is displayed there; a buy limited at that price is cancelled, and a market buy pays half a
+-- cent more (02, W6)
+abbrev pub sweeping : Order
+sweeping = order 0 (ioc + displayed + priceAdjust + market) 60 0
+
+abbrev pub theSweeping : Command
+theSweeping = command 4 30 (body.Order sweeping)
+
+abbrev pub lockedNight : List (List ℕ)
+lockedNight =
+    lineOf (command 1 0 (body.Order (order 1 (day + nonDisplayed + priceAdjust) 100 1005)))
+    ∷ lineOf (command 2 10 (body.Order (order 0 (day + displayed + priceAdjust + postOnly) 50 1005)))
+    ∷ lineOf (command 3 20 (body.Order (order 0 (ioc + displayed + priceAdjust) 80 1005)))
+    ∷ lineOf theSweeping ∷ []
+
+abbrev pub lockedEvents : List Event
+lockedEvents =
+    Rested (number 1) (inHalfCents (cents 1005)) (shares 100)
+    ∷ Rested (number 2) (inHalfCents (cents 1005)) (shares 50)
+    ∷ Cancelled (number 3) (shares 80) 2
+    ∷ Executed (number 4) (number 1) (halfAbove (inHalfCents (cents 1005))) (shares 60)
+    ∷ []
+
+abbrev restsAt1005 : Bool → ℕ → ℕ → Resting
+restsAt1005 shown n count = record {
+  number = number n;
+  price = inHalfCents (cents 1005);
+  shares = shares count;
+  displayed = shown;
+  back = false;
+  stamp = stamp (number n) 0;
+  reserve = shares 0;
+  floor = shares 0;
+}
+
+abbrev pub lockedSell : Resting
+lockedSell = restsAt1005 false 1 100
+
+abbrev pub lockingBuy : Resting
+lockingBuy = restsAt1005 true 2 50

@@ -20,8 +20,8 @@ use Rattle.rules.specs.Working.{lockingPrice}
 use Rattle.rules.proofs.LawsCommands.{quote-does}
 use Rattle.rules.proofs.LawsEvents.{told-long}
 use Rattle.side.specs.Looking.{priceBound, Older}
-use Rattle.settling.proofs.LawsOlder.{older-all, away-at-most}
-use Rattle.soundness.proofs.LawsKept.{locking-ranged}
+use Rattle.settling.proofs.LawsOlder.{older-all, locking-at-most}
+use Rattle.basics.proofs.LawsChoice.{and-left, and-right}
 use Rattle.basics.proofs.LawsLists.{all-alike}
 use Rattle.side.specs.Shifts.{Countable}
 use Rattle.soundness.proofs.LawsSides.{sides-of}
@@ -66,12 +66,14 @@ pub ready : (buy : Bool) (b : Book) → sound b ≡ true → (n : Number) (k : �
     → not (awayInRange (away .bid) && awayInRange (away .offer)) ≡ false → Ready buy b n k away
 ready buy b s n k next away e =
     let sides = sides-of buy b (sound-is b s) in
-    let ranged = locking-ranged buy away (not-false (awayInRange (away .bid) && awayInRange (away .offer)) e) in
+    let ranged = not-false (awayInRange (away .bid) && awayInRange (away .offer)) e in
+    let bid = and-left (awayInRange (away .bid)) (awayInRange (away .offer)) ranged in
+    let offer = and-right (awayInRange (away .bid)) (awayInRange (away .offer)) ranged in
     record {
       ranked = sides .ownRanked;
       fits = sides .ownFits;
       lines = omega (arith, told-long (quoteFate away buy) (ownSide buy b), sides .ownFits);
-      priced = omega (arith, away-at-most (lockingPrice buy away) ranged);
+      priced = omega (arith, locking-at-most buy away bid offer);
       older = older-all (stamp n k) next (sides .ownInRange);
       countable = all-alike (λ h r. omega (arith, r .atMost)) (sides .ownInRange);
     }

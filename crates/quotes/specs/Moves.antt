@@ -5,7 +5,7 @@ use mathlib.Core.List.{List}
 use lib.Dec.{ltb}
 use lib.ListN.{length, getD}
 use Rattle.basics.specs.Choice.{if_then_else_}
-use Rattle.kinds.specs.declared.Cents.{Cents}
+use Rattle.kinds.specs.declared.HalfCents.{HalfCents}
 use Rattle.rules.specs.declared.Fate.{Fate}
 use Rattle.rules.specs.declared.Fate.the-variants.{IsCancelled, IsSet}
 use Rattle.rules.specs.declared.Resting.{Resting}
@@ -15,9 +15,9 @@ use Rattle.rules.specs.Settling.{setAt}
 use Rattle.rules.specs.Working.{beyond, absent}
 
 -- there is a Locking Price, and an order at a rank whose price is beyond it
-abbrev pub goesOn : Bool → Cents → ℕ → List Resting → Bool
+abbrev pub goesOn : Bool → HalfCents → ℕ → List Resting → Bool
 goesOn buy locking at s = ltb at (length s) && not (absent locking) && beyond buy locking (getD s at unused .price)
 
 -- what becomes of an order that would now cross
-abbrev pub fateAt : Cents → Resting → Fate
+abbrev pub fateAt : HalfCents → Resting → Fate
 fateAt locking h = if h .back then IsCancelled cancelledBack else IsSet (setAt locking h)

@@ -1,6 +1,6 @@
 // A moved quote settles a side (02, W2): the orders that would now cross it are set anew, or cancelled. One function for both sides of the
 // market.
-use kinds::Cents;
+use kinds::HalfCents;
 use kinds::Number;
 use rules::Away;
 use rules::Fate;
@@ -31,7 +31,7 @@ ghost use Rattle.settling.specs.OneByOne.{settledIn};
 // ── A moved quote ──
 
 // Whether there is an order at a rank whose price is beyond a Locking Price that is there.
-fn goes_on(x: &Index, t: &Rows, n: usize, at: usize, buying: bool, locking: Cents) -> bool
+fn goes_on(x: &Index, t: &Rows, n: usize, at: usize, buying: bool, locking: HalfCents) -> bool
     requires { ⌜ Holds n (now x) (now t) ⌝ }
     ensures { λ r. ⌜ r ≡ goesOn buying locking at (side n (now (x .entry)) (now (t .entry))) ⌝ }
 {
@@ -43,7 +43,7 @@ fn goes_on(x: &Index, t: &Rows, n: usize, at: usize, buying: bool, locking: Cent
 }
 
 // What becomes of an order that is not displayed and would now cross: it is set at the Locking Price, or with Cancel Back cancelled.
-fn fate_beyond(o: Resting, locking: Cents) -> Fate
+fn fate_beyond(o: Resting, locking: HalfCents) -> Fate
     ensures { λ r. ⌜ r ≡ fateAt locking o ⌝ }
 {
     if o.back {

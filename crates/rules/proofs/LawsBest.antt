@@ -10,7 +10,7 @@ use borrow.Author.Tests.{eqb-true, le-ltb}
 use Rattle.basics.specs.Lists.{All, none, also}
 use Rattle.basics.proofs.LawsChoice.{holds-or-not, and-left}
 use Rattle.basics.proofs.LawsLists.{all-alike}
-use Rattle.kinds.specs.declared.Cents.{Cents}
+use Rattle.kinds.specs.declared.HalfCents.{HalfCents}
 use Rattle.rules.specs.declared.Resting.{Resting}
 use Rattle.rules.specs.Book.{better, inRankOrder}
 use Rattle.rules.specs.Holdings.{Holding, shownPart, reservePart, behindItsPrice, holdings}
@@ -42,7 +42,7 @@ all-behind r p (also {x = h} {s = s} q a) =
     (λ (t : (eqb (h .of .price .0) (r .of .price .0) && not (h .isReserve)) ≡ false). rw t (also p (also q a)))
     (holds-or-not (eqb (h .of .price .0) (r .of .price .0) && not (h .isReserve)))
 
-pub same-no-better : (buy : Bool) (p q : Cents) → p .0 ≡ q .0 → better buy p q ≡ false
+pub same-no-better : (buy : Bool) (p q : HalfCents) → p .0 ≡ q .0 → better buy p q ≡ false
 same-no-better true p q e = le-ltb (q .0) (p .0) (omega (arith, e))
 same-no-better false p q e = le-ltb (p .0) (q .0) (omega (arith, e))
 

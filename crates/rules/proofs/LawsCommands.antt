@@ -11,7 +11,7 @@ use borrow.Author.Tests.{le-ltb, not-true, not-false}
 use Rattle.basics.specs.Choice.{if_then_else_}
 use Rattle.basics.specs.Lists.{gathered}
 use Rattle.basics.proofs.LawsChoice.{by-choice, and-left, and-right, and-none}
-use Rattle.kinds.specs.declared.Cents.{Cents}
+use Rattle.kinds.specs.declared.HalfCents.{HalfCents}
 use Rattle.kinds.specs.declared.Number.{Number}
 use Rattle.rules.specs.declared.Away.{Away}
 use Rattle.rules.specs.declared.Body.{Body}
@@ -26,9 +26,9 @@ use Rattle.rules.specs.Commands.{withAccepted, withAway, shut, isNumber,
 use Rattle.rules.specs.EventLines.{byCommand, cancelledBack}
 use Rattle.rules.specs.declared.Fate.{Fate}
 use Rattle.rules.specs.declared.Fate.the-variants.{Stays, IsCancelled, IsSet}
-use Rattle.rules.specs.Settling.{setAt, stampedAs, insertAll, setBy, staying, setAnew, told, stampedFrom, settledSide, firstMove, ownSide, oppositeSide, withSide, settled, bothSettled}
+use Rattle.rules.specs.Settling.{setAt, stampedAs, insertAll, setBy, staying, setAnew, told, stampedFrom, settledSide, firstMove, ownSide, withSide, settled, bothSettled}
 use Rattle.rules.specs.Holdings.{holdings, executions, after}
-use Rattle.rules.specs.Working.{buying, takings, remainder, ending, lastLine, withRemainder, worked, refillFate, lockingPrice, absent, beyond, accept}
+use Rattle.rules.specs.Working.{buying, takings, remainder, ending, lastLine, withRemainder, worked, refillFate, lockingPrice, absent, beyond, accept, metBy, executionPrice}
 
 -- ── The fates that it gives ──
 
@@ -87,12 +87,18 @@ module _ (buy : Bool) (away : Away) (h : Resting) (crosses : wouldNowCross buy a
       let both = and-left (not (h .displayed) && not (absent locking)) (beyond buy locking (h .price)) crosses in
       not-true (absent locking) (and-right (not (h .displayed)) (not (absent locking)) both)
 
+  pub crosses-hidden : h .displayed ≡ false
+  crosses-hidden =
+      let locking = lockingPrice buy away in
+      let both = and-left (not (h .displayed) && not (absent locking)) (beyond buy locking (h .price)) crosses in
+      not-true (h .displayed) (and-left (not (h .displayed)) (not (absent locking)) both)
+
   pub crosses-beyond : beyond buy (lockingPrice buy away) (h .price) ≡ true
   crosses-beyond =
       let locking = lockingPrice buy away in
       and-right (not (h .displayed) && not (absent locking)) (beyond buy locking (h .price)) crosses
 
-pub not-beyond-itself : (buy : Bool) (p : Cents) → beyond buy p p ≡ false
+pub not-beyond-itself : (buy : Bool) (p : HalfCents) → beyond buy p p ≡ false
 not-beyond-itself true p = le-ltb (p .0) (p .0) (omega arith)
 not-beyond-itself false p = le-ltb (p .0) (p .0) (omega arith)
 
@@ -138,24 +144,25 @@ with-opposite false h own opposite other = refl
 module _ (n : Number) (time : ℕ) (b : Book) where
   -- an order leaves its own side with what rests of it, and the opposite one with what it did not take, refilled
   pub order-does : (o : Order)
-      → let opposite = oppositeSide (buying o) b in
-      let ts = takings o (b .held .away) opposite in
-      let left = remainder o (b .held .away) opposite in
-      let end = ending o (b .held .away) opposite in
-      let own′ = withRemainder n o left end (ownSide (buying o) b) in
+      → let m = metBy o b in
+      let opposite = m .opposite in
+      let ts = takings o m in
+      let left = remainder o m in
+      let end = ending o m in
+      let own′ = withRemainder n o left end (m .own) in
       let opposite′ = settledSide n firstMove (not (buying o)) refillFate (after opposite ts) in
       (does n time (body.Order o) b .book ≡ record {
         held = withAccepted n time (b .held);
         buys = if buying o then own′ else opposite′;
         sells = if buying o then opposite′ else own′;
       })
-      × (does n time (body.Order o) b .events ≡ (executions n (holdings opposite) ts ++ lastLine n left end) ++ told refillFate (after opposite ts))
+      × (does n time (body.Order o) b .events ≡ (executions n (executionPrice o m) (holdings opposite) ts ++ lastLine n left end) ++ told refillFate (after opposite ts))
   unfolding does carriedOut accept worked settled
   order-does o =
       let held = withAccepted n time (b .held) in
-      let opposite = oppositeSide (buying o) b in
-      let own′ = withRemainder n o (remainder o (b .held .away) opposite) (ending o (b .held .away) opposite) (ownSide (buying o) b) in
-      let left = after opposite (takings o (b .held .away) opposite) in
+      let m = metBy o b in
+      let own′ = withRemainder n o (remainder o m) (ending o m) (m .own) in
+      let left = after (m .opposite) (takings o m) in
       let is = opposite-is (buying o) held own′ left in
       (rw (is, with-opposite (buying o) held own′ left (settledSide n firstMove (not (buying o)) refillFate left)), rw is)
 

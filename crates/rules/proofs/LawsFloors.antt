@@ -8,7 +8,7 @@ use lib.Dec.{eqb, leb}
 use native.Mathlib.Omega.{arith}
 use borrow.Author.Tests.{eq-eqb, eqb-true, eqb-false, le-leb, leb-true}
 use Rattle.basics.proofs.LawsChoice.{holds-or-not, by-choice, and-left, and-right}
-use Rattle.kinds.specs.declared.Cents.{Cents}
+use Rattle.kinds.specs.declared.HalfCents.{HalfCents}
 use Rattle.kinds.specs.Kinds.{sharesInRange}
 use Rattle.rules.specs.declared.Resting.{Resting}
 use Rattle.rules.specs.declared.Stamp.{Stamp}
@@ -56,7 +56,7 @@ module _ (h : Resting) (floored : floorInRange h ≡ true) where
       )
 
   -- both parts are lowered
-  pub lowered-floored : (price : Cents) (anew : Stamp) (shown reserve : ℕ) → shown ≤ h .shares .0 → reserve ≤ h .reserve .0
+  pub lowered-floored : (price : HalfCents) (anew : Stamp) (shown reserve : ℕ) → shown ≤ h .shares .0 → reserve ≤ h .reserve .0
       → floorInRange (amended price anew shown reserve h) ≡ true
   lowered-floored price anew shown reserve l m =
       ⊎-elim

@@ -10,11 +10,10 @@ use native.Mathlib.Omega.{arith}
 use borrow.Author.Tests.{not-true}
 use Rattle.basics.specs.Lists.{All, none, also}
 use Rattle.basics.proofs.LawsChoice.{holds-or-not, lt-or-le, and-right}
-use Rattle.rules.specs.declared.Away.{Away}
 use Rattle.rules.specs.declared.Order.{Order}
 use Rattle.rules.specs.declared.Resting.{Resting}
 use Rattle.rules.specs.Holdings.{Holding, reservePart, size, behindItsPrice, holdings, nothing, walk, smaller, takenOf}
-use Rattle.rules.specs.Working.{mayTouch, takings}
+use Rattle.rules.specs.Working.{mayTouch, takings, Met, executionPrice}
 use Rattle.rules.proofs.LawsHoldings.{Parts}
 use Rattle.rules.proofs.LawsTakings.{takings-are}
 
@@ -131,7 +130,7 @@ in-turn-parts (o ∷ s) (next c w) =
     let out = taken-out (behind-its-price o (holdings s)) w in
     rw (out .ofShown, out .ofReserves) (Parts.also (⊎-elim (λ e. inl e) (λ i. inr (out .givenIdle i)) c) (in-turn-parts s (out .turn)))
 
-pub takings-in-turn : (o : Order) (away : Away) (s : List Resting) → InTurn (holdings s) (takings o away s)
-takings-in-turn o away s =
-    takings-are (InTurn (holdings s)) o away s (nothing-in-turn (holdings s))
-    (walk-in-turn (λ (h : Holding). mayTouch o away (h .of .price)) (o .shares .0) (holdings s))
+pub takings-in-turn : (o : Order) (m : Met) → InTurn (holdings (m .opposite)) (takings o m)
+takings-in-turn o m =
+    takings-are (InTurn (holdings (m .opposite))) o m (nothing-in-turn (holdings (m .opposite)))
+    (walk-in-turn (λ (h : Holding). mayTouch o (m .away) (executionPrice o m (h .of))) (o .shares .0) (holdings (m .opposite)))

@@ -11,7 +11,7 @@ use borrow.Author.Tests.{eq-eqb, ne-eqb, eqb-true, eqb-false, lt-ltb, le-ltb, lt
 use Rattle.basics.specs.Choice.{if_then_else_}
 use Rattle.basics.specs.Lists.{All, none, also}
 use Rattle.basics.proofs.LawsChoice.{holds-or-not, lt-or-le, and-left, and-right}
-use Rattle.kinds.specs.declared.Cents.{Cents}
+use Rattle.kinds.specs.declared.HalfCents.{HalfCents}
 use Rattle.kinds.specs.declared.Number.{Number}
 use Rattle.rules.specs.declared.Resting.{Resting}
 use Rattle.rules.specs.declared.Stamp.{Stamp}
@@ -164,7 +164,7 @@ ranks-transitive buy x y z a b =
 
 -- ── Prices ──
 
-pub better-transitive : (buy : Bool) (p q r : Cents) → better buy p q ≡ true → better buy q r ≡ true → better buy p r ≡ true
+pub better-transitive : (buy : Bool) (p q r : HalfCents) → better buy p q ≡ true → better buy q r ≡ true → better buy p r ≡ true
 better-transitive buy p q r a b = ahead-transitive buy (p .0) (q .0) (r .0) a b
 
 -- ── A side in rank order ──
@@ -209,6 +209,6 @@ rank-price buy x y r =
 -- ── What a price reaches ──
 
 -- a price reaches another exactly if that is not beyond it
-pub reaches-is : (buy : Bool) (price other : Cents) → reaches buy price other ≡ not (beyond buy price other)
+pub reaches-is : (buy : Bool) (price other : HalfCents) → reaches buy price other ≡ not (beyond buy price other)
 reaches-is true price other = at-most (other .0) (price .0)
 reaches-is false price other = at-most (price .0) (other .0)

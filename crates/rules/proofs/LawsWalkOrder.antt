@@ -13,8 +13,7 @@ use Rattle.basics.specs.Choice.{if_then_else_}
 use Rattle.basics.specs.Lists.{All, none, also, OneOf, first, later}
 use Rattle.basics.proofs.LawsChoice.{holds-or-not, by-choice, and-left, and-right, and-none}
 use Rattle.basics.proofs.LawsLists.{all-alike, each-there}
-use Rattle.kinds.specs.declared.Cents.{Cents}
-use Rattle.rules.specs.declared.Away.{Away}
+use Rattle.kinds.specs.declared.HalfCents.{HalfCents}
 use Rattle.rules.specs.declared.Fate.{Fate}
 use Rattle.rules.specs.declared.Fate.the-variants.{Stays, IsCancelled, IsSet}
 use Rattle.rules.specs.declared.Order.{Order}
@@ -22,7 +21,7 @@ use Rattle.rules.specs.declared.Resting.{Resting}
 use Rattle.rules.specs.Book.{better, firstAtOnePrice, ranksBefore, inRankOrder, sharesLeft}
 use Rattle.rules.specs.Holdings.{Holding, shownPart, reservePart, behindItsPrice, holdings, walksBefore, BeforeAll, InWalkOrder, nobody, somebody, takenOf, reducedBy, keeping, after}
 use Rattle.rules.specs.Settling.{refilled}
-use Rattle.rules.specs.Working.{takings, refillFate}
+use Rattle.rules.specs.Working.{takings, refillFate, Met}
 use Rattle.rules.proofs.LawsBest.{same-no-better, all-behind, all-holdings}
 use Rattle.rules.proofs.LawsHoldings.{Parts, parts-alike, keeping-all}
 use Rattle.rules.proofs.LawsInTurn.{takings-in-turn, in-turn-parts}
@@ -66,7 +65,7 @@ walks-not-itself buy x =
     same-part false = never-itself-at-one-price (x .of .displayed) (x .of .stamp)
 
 -- of two prices at most one is the better
-better-one-way : (buy : Bool) (p q : Cents) → better buy p q ≡ true → better buy q p ≡ false
+better-one-way : (buy : Bool) (p q : HalfCents) → better buy p q ≡ true → better buy q p ≡ false
 better-one-way true p q b = let l : q .0 < p .0 = ltb-true (q .0) (p .0) b in le-ltb (p .0) (q .0) (omega arith)
 better-one-way false p q b = let l : p .0 < q .0 = ltb-true (p .0) (q .0) b in le-ltb (q .0) (p .0) (omega arith)
 
@@ -102,12 +101,12 @@ module _ (buy : Bool) (x y : Resting) (r : ranksBefore buy x y ≡ true) where
 abbrev goesBehind : Resting → Holding → Bool
 goesBehind o h = eqb (h .of .price .0) (o .price .0) && not (h .isReserve)
 
-data Met (buy : Bool) (o : Resting) (h : Holding) : Type 0 where
-  isBehind : goesBehind o h ≡ true → Met buy o h
-  isBefore : goesBehind o h ≡ false → walksBefore buy (reservePart o) h ≡ true → Met buy o h
+data Faces (buy : Bool) (o : Resting) (h : Holding) : Type 0 where
+  isBehind : goesBehind o h ≡ true → Faces buy o h
+  isBefore : goesBehind o h ≡ false → walksBefore buy (reservePart o) h ≡ true → Faces buy o h
 
-met-shown : (buy : Bool) (o y : Resting) → ranksBefore buy o y ≡ true → Met buy o (shownPart y)
-met-shown buy o y r =
+faces-shown : (buy : Bool) (o y : Resting) → ranksBefore buy o y ≡ true → Faces buy o (shownPart y)
+faces-shown buy o y r =
     ⊎-elim
     (λ (t : eqb (y .price .0) (o .price .0) ≡ true). isBehind (rw t refl))
     (λ (t : eqb (y .price .0) (o .price .0) ≡ false).
@@ -116,8 +115,8 @@ met-shown buy o y r =
     absurd (eqb-false (y .price .0) (o .price .0) t (sym (eqb-true (o .price .0) (y .price .0) e))))))
     (holds-or-not (eqb (y .price .0) (o .price .0)))
 
-met-reserve : (buy : Bool) (o y : Resting) → ranksBefore buy o y ≡ true → Met buy o (reservePart y)
-met-reserve buy o y r = isBefore (and-none (eqb (y .price .0) (o .price .0))) (same-part-first buy o y r true)
+faces-reserve : (buy : Bool) (o y : Resting) → ranksBefore buy o y ≡ true → Faces buy o (reservePart y)
+faces-reserve buy o y r = isBefore (and-none (eqb (y .price .0) (o .price .0))) (same-part-first buy o y r true)
 
 -- a shown part at its price walks before a reserve
 shown-first : (buy : Bool) (o : Resting) (h : Holding) → goesBehind o h ≡ true → walksBefore buy h (reservePart o) ≡ true
@@ -126,7 +125,7 @@ shown-first buy o h t =
     let shown = not-true (h .isReserve) (and-right (eqb (h .of .price .0) (o .price .0)) (not (h .isReserve)) t) in
     rw (one, shown) refl
 
-behind-walks : (buy : Bool) (o : Resting) {hs : List Holding} → All (Met buy o) hs → InWalkOrder buy hs
+behind-walks : (buy : Bool) (o : Resting) {hs : List Holding} → All (Faces buy o) hs → InWalkOrder buy hs
     → InWalkOrder buy (behindItsPrice (reservePart o) hs)
 unfolding behindItsPrice
 behind-walks buy o none nobody = somebody none nobody
@@ -145,7 +144,7 @@ holdings-walk buy (o ∷ s) r =
     let others : BeforeAll buy (shownPart o) (holdings s) =
     all-holdings (all-alike (λ y b. same-part-first buy o y b false) ranked) (all-alike (λ y b. other-part buy o y b true (λ e. refl)) ranked) in
     somebody (all-behind (reservePart o) own others)
-    (behind-walks buy o (all-holdings (all-alike (met-shown buy o) ranked) (all-alike (met-reserve buy o) ranked)) (holdings-walk buy s (ranked-rest buy o s r)))
+    (behind-walks buy o (all-holdings (all-alike (faces-shown buy o) ranked) (all-alike (faces-reserve buy o) ranked)) (holdings-walk buy s (ranked-rest buy o s r)))
 
 -- each is a part of one of the side
 pub holdings-there : (s : List Resting) → All (λ (h : Holding). OneOf (h .of) s) (holdings s)
@@ -198,8 +197,11 @@ keeping-has (Parts.also {o = x} {t = t} {r = r} c a) (later p) =
     }
 
 -- so of the side that an order meets: what it takes of each, and who is left
-module _ (o : Order) (away : Away) (s : List Resting) where
-  pub takings-give : Parts Gives s (takenOf false (holdings s) (takings o away s)) (takenOf true (holdings s) (takings o away s))
+module _ (o : Order) (m : Met) where
+  abbrev met : List Resting
+  met = m .opposite
+
+  pub takings-give : Parts Gives met (takenOf false (holdings met) (takings o m)) (takenOf true (holdings met) (takings o m))
   takings-give =
       parts-alike
       (λ h t r c. record {
@@ -207,10 +209,10 @@ module _ (o : Order) (away : Away) (s : List Resting) where
         reserve = c .0 .1;
         shownFirst = λ l. ⊎-elim (λ (e : t ≡ h .shares .0). let z : ⊥ = omega (arith, l) in absurd z) (λ (e : r ≡ 0). e) (c .1);
       })
-      (parts-both (parts-within o away s) (in-turn-parts s (takings-in-turn o away s)))
+      (parts-both (parts-within o m) (in-turn-parts met (takings-in-turn o m)))
 
   pub after-are : {P : Resting → Type 0}
-      → ((h : Resting) (t r : ℕ) → OneOf h s → Gives h t r → sharesLeft (reducedBy t r h) ≢ 0 → P (reducedBy t r h)) → All P (after s (takings o away s))
+      → ((h : Resting) (t r : ℕ) → OneOf h met → Gives h t r → sharesLeft (reducedBy t r h) ≢ 0 → P (reducedBy t r h)) → All P (after met (takings o m))
   unfolding after
   after-are f = keeping-all (parts-alike (λ h t r c n. f h t r (c .0) (c .1) n) (parts-there takings-give))
 

@@ -7,6 +7,7 @@ use mathlib.Core.Path.{_≡_}
 use lib.Dec.{eqb}
 use Rattle.basics.specs.Choice.{if_then_else_}
 use Rattle.basics.specs.Lists.{All}
+use Rattle.kinds.specs.declared.HalfCents.{HalfCents}
 use Rattle.kinds.specs.declared.Number.{Number}
 use Rattle.kinds.specs.Kinds.{shares}
 use Rattle.rules.specs.declared.Event.{Event}
@@ -87,13 +88,13 @@ smaller left h = min left (size h)
 
 -- ── After the walk ──
 
--- "Each execution is at the resting order's price": a line for each holding that gives, never one for two
-unfoldable pub executions : Number → List Holding → List ℕ → List Event
-executions n [] ts = []
-executions n (h ∷ s) [] = []
-executions n (h ∷ s) (t ∷ ts) =
-    if eqb t 0 then executions n s ts
-    else Executed n (h .of .number) (h .of .price) (shares t) ∷ executions n s ts
+-- a line for each holding that gives, never one for two, at the price that its order has for this walk
+unfoldable pub executions : Number → (Resting → HalfCents) → List Holding → List ℕ → List Event
+executions n price [] ts = []
+executions n price (h ∷ s) [] = []
+executions n price (h ∷ s) (t ∷ ts) =
+    if eqb t 0 then executions n price s ts
+    else Executed n (h .of .number) (price (h .of)) (shares t) ∷ executions n price s ts
 
 -- what was taken of the shown parts, or of the reserves, order by order
 unfoldable pub takenOf : Bool → List Holding → List ℕ → List ℕ

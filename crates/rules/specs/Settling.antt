@@ -8,7 +8,7 @@ use lib.Dec.{eqb}
 use lib.ListN.{length}
 use Rattle.basics.specs.Choice.{if_then_else_}
 use Rattle.basics.specs.Lists.{gathered}
-use Rattle.kinds.specs.declared.Cents.{Cents}
+use Rattle.kinds.specs.declared.HalfCents.{HalfCents}
 use Rattle.kinds.specs.declared.Number.{Number}
 use Rattle.kinds.specs.Kinds.{shares}
 use Rattle.rules.specs.declared.Event.{Event}
@@ -23,7 +23,7 @@ use Rattle.rules.specs.Book.{Book, stamp, ranksBefore, sharesLeft}
 -- ── A resting order ──
 
 -- a resting order with another price, stamp, shown part and reserve; all else stays
-abbrev pub amended : Cents → Stamp → ℕ → ℕ → Resting → Resting
+abbrev pub amended : HalfCents → Stamp → ℕ → ℕ → Resting → Resting
 amended price anew shown reserve h = record {
   number = h .number;
   price = price;
@@ -36,7 +36,7 @@ amended price anew shown reserve h = record {
 }
 
 -- a resting order set at a price, and one with a new stamp
-abbrev pub setAt : Cents → Resting → Resting
+abbrev pub setAt : HalfCents → Resting → Resting
 setAt price h = amended price (h .stamp) (h .shares .0) (h .reserve .0) h
 
 abbrev pub stampedAs : Stamp → Resting → Resting

@@ -7,7 +7,7 @@ use lib.Dec.{eqb}
 use lib.ListN.{length, getD, take}
 use Rattle.basics.specs.Choice.{if_then_else_}
 use Rattle.basics.specs.Lists.{times, insertAt, removeAt}
-use Rattle.kinds.specs.Kinds.{cents, shares, number}
+use Rattle.kinds.specs.Kinds.{halfCents, shares, number}
 use Rattle.rules.specs.declared.Resting.{Resting}
 use Rattle.rules.specs.Book.{placesASide, stamp}
 
@@ -33,7 +33,7 @@ rowOf o =
 abbrev pub orderOf : List ℕ → Resting
 orderOf r = record {
   number = number (getD r 0 0);
-  price = cents (getD r 1 0);
+  price = halfCents (getD r 1 0);
   shares = shares (getD r 2 0);
   displayed = eqb (getD r 4 0 % 2) 0;
   back = not (eqb (getD r 5 0) 0);

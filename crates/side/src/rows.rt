@@ -1,7 +1,7 @@
 // One side of the book in two lent tables: rows, each of which holds a resting order or is free, and an index that names the rows in use in
 // rank order, the best order's last. A row stays where it is as long as its order rests. Only `order_of`, `row_of` and `level_at`
 // know which word of a row is which field.
-use kinds::Cents;
+use kinds::HalfCents;
 use kinds::Number;
 use kinds::Shares;
 use rules::Resting;
@@ -104,7 +104,7 @@ pub type Index = [u8; INDEX];
 
 pub const UNUSED: Resting = Resting {
     number: Number(0),
-    price: Cents(0),
+    price: HalfCents(0),
     shares: Shares(0),
     displayed: false,
     back: false,
@@ -147,7 +147,7 @@ fn order_of(r: [u32; WORDS]) -> Resting
 {
     Resting {
         number: Number(r[0]),
-        price: Cents(r[1]),
+        price: HalfCents(r[1]),
         shares: Shares(r[2]),
         displayed: r[4] % 2 == 0,
         back: r[5] != 0,

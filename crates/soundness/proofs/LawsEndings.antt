@@ -5,8 +5,9 @@ use mathlib.Core.List.{List}
 use mathlib.Core.Path.{_≡_, refl}
 use lib.Dec.{eqb}
 use Rattle.basics.specs.Choice.{if_then_else_}
-use Rattle.kinds.specs.declared.Cents.{Cents}
-use Rattle.kinds.specs.Kinds.{priceInRange}
+use Rattle.basics.specs.Lists.{any}
+use Rattle.kinds.specs.declared.HalfCents.{HalfCents}
+use Rattle.kinds.specs.Kinds.{restingPriceInRange}
 use Rattle.rules.specs.declared.Away.{Away}
 use Rattle.rules.specs.declared.Ending.{Ending}
 use Rattle.rules.specs.declared.Ending.the-variants.{Filled, Rests, Cancels}
@@ -14,29 +15,29 @@ use Rattle.rules.specs.declared.Order.{Order}
 use Rattle.rules.specs.declared.Resting.{Resting}
 use Rattle.rules.specs.EventLines.{cancelledBack, noPriceInRange, postOnlyMeets}
 use Rattle.rules.specs.Instructions.{displayed, cancelBack, postOnly, iso, has}
-use Rattle.rules.specs.Working.{buying, beyond, lockingPrice, absent, adjusted, oneCentLessAggressive, seeks, equalsOrPasses, unlessPostOnlyMeets}
+use Rattle.rules.specs.Working.{buying, beyond, lockingPrice, absent, adjusted, oneCentLessAggressive, seeks, limitOf, meetsOrPasses, unlessPostOnlyMeets}
 
 -- a claim on two endings holds of the one that a test chooses
 pub chosen : (P : Ending → Type 0) (t : Bool) {e f : Ending} → P e → P f → P (if t then e else f)
 chosen P true p q = p
 chosen P false p q = q
 
-module _ (P : Ending → Type 0) (inRange : (price : Cents) → priceInRange price ≡ true → P (Rests price)) (back : P (Cancels cancelledBack))
+module _ (P : Ending → Type 0) (inRange : (price : HalfCents) → restingPriceInRange price ≡ true → P (Rests price)) (back : P (Cancels cancelledBack))
     (out : P (Cancels noPriceInRange)) (meets : P (Cancels postOnlyMeets)) where
   -- "An adjusted price outside 100 to 200,000: cancelled, reason 5."
-  adjusted-is : (o : Order) (price : Cents) → P (adjusted o price)
-  adjusted-is o price = chosen P (has (o .word) cancelBack) back (tested (priceInRange price) refl)
+  adjusted-is : (o : Order) (price : HalfCents) → P (adjusted o price)
+  adjusted-is o price = chosen P (has (o .word) cancelBack) back (tested (restingPriceInRange price) refl)
     where
-      tested : (t : Bool) → priceInRange price ≡ t → P (if t then Rests price else Cancels noPriceInRange)
+      tested : (t : Bool) → restingPriceInRange price ≡ t → P (if t then Rests price else Cancels noPriceInRange)
       tested true e = inRange price e
       tested false e = out
 
-  seeks-is : (o : Order) (away : Away) → P (Rests (o .price)) → P (seeks o away)
+  seeks-is : (o : Order) (away : Away) → P (Rests (limitOf o)) → P (seeks o away)
   unfolding seeks
   seeks-is o away limit =
       let locking = lockingPrice (buying o) away in
-      let wouldCross = beyond (buying o) locking (o .price) in
-      let wouldLock = eqb (o .price .0) (locking .0) in
+      let wouldCross = beyond (buying o) locking (limitOf o) in
+      let wouldLock = eqb (limitOf o .0) (locking .0) in
       chosen P (has (o .word) iso || absent locking) limit
       (chosen P (has (o .word) displayed && (wouldLock || wouldCross)) (adjusted-is o (oneCentLessAggressive (buying o) locking))
       (chosen P (not (has (o .word) displayed) && wouldCross) (adjusted-is o locking) limit))
@@ -44,8 +45,8 @@ module _ (P : Ending → Type 0) (inRange : (price : Cents) → priceInRange pri
   -- step 5 changes no price
   unless-is : (o : Order) (s : List Resting) (e : Ending) → P e → P (unlessPostOnlyMeets o s e)
   unless-is o s Filled p = p
-  unless-is o s (Rests price) p = chosen P (has (o .word) postOnly && equalsOrPasses (buying o) price s) meets p
+  unless-is o s (Rests price) p = chosen P (has (o .word) postOnly && any (meetsOrPasses (buying o) price) s) meets p
   unless-is o s (Cancels reason) p = p
 
-  pub sought-is : (o : Order) (away : Away) (s : List Resting) → P (Rests (o .price)) → P (unlessPostOnlyMeets o s (seeks o away))
+  pub sought-is : (o : Order) (away : Away) (s : List Resting) → P (Rests (limitOf o)) → P (unlessPostOnlyMeets o s (seeks o away))
   sought-is o away s limit = unless-is o s (seeks o away) (seeks-is o away limit)

@@ -1,21 +1,23 @@
 -- Every answer to a line keeps a sound book sound, so a day that begins with a fresh book has no unsound one. Assumes nothing.
-use Prim.Native.Nat.{ℕ, zero, suc, _+_, _-_, _≤_, _<_}
-use mathlib.Core.Bool.{Bool, true, false, _&&_}
+use Prim.Native.Nat.{ℕ, zero, suc, _+_, _-_, _*_, _≤_, _<_}
+use mathlib.Core.Bool.{Bool, true, false, _&&_, true≢false}
 use mathlib.Core.List.{List, [], _∷_, _++_}
 use mathlib.Core.Logic.{⊎-elim}
-use mathlib.Core.Path.{_≡_, refl, subst}
+use mathlib.Core.Path.{_≡_, refl, sym, _∙_, subst}
 use lib.Dec.{eqb, leb}
 use lib.ListN.{length, replicate, length-append, length-replicate}
 use lib.Seq.{take-append-seam, drop-append-seam}
 use native.Mathlib.Omega.{arith}
-use borrow.Author.Tests.{le-leb, eq-eqb, eqb-true}
+use borrow.Author.Tests.{le-leb, leb-true, ltb-true, eq-eqb, eqb-true}
 use Rattle.basics.specs.Choice.{if_then_else_}
 use Rattle.basics.specs.Lists.{every, distinct}
 use Rattle.basics.proofs.LawsChoice.{holds-or-not, and-left, and-right}
 use Rattle.basics.proofs.LawsLists.{all-alike}
 use Rattle.kinds.specs.declared.Cents.{Cents}
 use Rattle.kinds.specs.declared.Number.{Number}
-use Rattle.kinds.specs.Kinds.{priceInRange}
+use Rattle.kinds.specs.declared.HalfCents.{HalfCents}
+use Rattle.kinds.specs.Kinds.{halvesACent, inHalfCents, restingPriceInRange}
+use Rattle.kinds.proofs.LawsRanges.{price-rests}
 use Rattle.rules.specs.declared.Away.{Away}
 use Rattle.rules.specs.declared.Body.{Body}
 use Rattle.rules.specs.declared.Body.the-variants as body
@@ -31,14 +33,13 @@ use Rattle.rules.specs.CommandLines.{commandIn}
 use Rattle.rules.specs.Commands.{withAccepted, withAway, shut, cancel, quote, carriedOut, does}
 use Rattle.rules.specs.Day.{bookAfter}
 use Rattle.rules.specs.Refusals.{leastRoom, firstOf, restsOnFullSide, bodyRefusals, lineRefusals, refusals}
-use Rattle.rules.specs.Settling.{settledSide, oppositeSide, firstMove, settled, bothSettled}
+use Rattle.rules.specs.Settling.{settledSide, firstMove, settled, bothSettled}
 use Rattle.rules.specs.Step.{doneBy, answer, answerTo, step, stepOn}
-use Rattle.rules.specs.Working.{lockingPrice, absent, buying, ending}
-use Rattle.rules.proofs.LawsCommands.{fateBy, IfSet, if-set, set-same, crosses-present, crosses-beyond, order-does, close-does}
+use Rattle.rules.specs.Working.{lockingPrice, absent, beyond, reaches, buying, metBy, ending}
+use Rattle.rules.proofs.LawsCommands.{fateBy, IfSet, if-set, set-same, crosses-present, crosses-hidden, crosses-beyond, order-does, close-does}
 use Rattle.rules.proofs.LawsRefusals.{fit-facts}
 use Rattle.soundness.proofs.LawsAccepted.{accepted, AcceptedOrder, accepted-order, accepted-quote}
 use Rattle.soundness.proofs.LawsOrder.{accept-sides}
-use Rattle.rules.proofs.LawsRank.{better-transitive}
 use Rattle.soundness.proofs.LawsSettled.{SetSound, LeftSound, SoundFates, sides-settled}
 use Rattle.soundness.proofs.LawsSides.{shownIn, Sides, sides-flip, sides-none, sides-of, buys-sound, sides-sound, later-stamp, sides-later}
 use Rattle.soundness.proofs.LawsSound.{Sound, sound-is, is-sound}
@@ -46,12 +47,26 @@ use Rattle.soundness.proofs.LawsSound.{Sound, sound-is, is-sound}
 -- ── The prices of those that are set anew ──
 
 -- both away prices of an accepted quote are in range, and the Locking Price is, where it is there
-pub locking-ranged : (buy : Bool) (away : Away) → (awayInRange (away .bid) && awayInRange (away .offer)) ≡ true → awayInRange (lockingPrice buy away) ≡ true
+pub locking-ranged : (buy : Bool) (away : Away) → (awayInRange (away .bid) && awayInRange (away .offer)) ≡ true
+    → awayInRange (if buy then away .offer else away .bid) ≡ true
 locking-ranged true away a = and-right (awayInRange (away .bid)) (awayInRange (away .offer)) a
 locking-ranged false away a = and-left (awayInRange (away .bid)) (awayInRange (away .offer)) a
 
-present-ranged : (p : Cents) → awayInRange p ≡ true → absent p ≡ false → priceInRange p ≡ true
-present-ranged p a e = rw e at a
+present-ranged : (p : Cents) → awayInRange p ≡ true → absent (inHalfCents p) ≡ false → restingPriceInRange (inHalfCents p) ≡ true
+present-ranged p a e =
+    ⊎-elim
+    (λ (t : eqb (p .0) 0 ≡ true).
+    let z : halvesACent * p .0 ≡ 0 = omega (arith, eqb-true (p .0) 0 t) in
+    absurd (true≢false (sym (eq-eqb (halvesACent * p .0) 0 z) ∙ e)))
+    (λ (t : eqb (p .0) 0 ≡ false). price-rests p (rw t at a))
+    (holds-or-not (eqb (p .0) 0))
+
+-- a price that is reached is reached from further away
+reaches-further : (buy : Bool) (q near far : HalfCents) → reaches buy q near ≡ true → beyond buy far near ≡ true → reaches buy q far ≡ true
+reaches-further true q near far a b =
+    let l : near .0 ≤ q .0 = leb-true (near .0) (q .0) a in let k : far .0 < near .0 = ltb-true (far .0) (near .0) b in le-leb (far .0) (q .0) (omega (arith, l, k))
+reaches-further false q near far a b =
+    let l : q .0 ≤ near .0 = leb-true (q .0) (near .0) a in let k : near .0 < far .0 = ltb-true (near .0) (far .0) b in le-leb (q .0) (far .0) (omega (arith, l, k))
 
 -- so is that of whoever is set at it, which is still apart from the opposite side, for it is less aggressive than before; all else stays
 sound-fates : (b : Book) (c : Body) → firstOf (bodyRefusals b c) ≡ 0 → (last : Number) (buy : Bool) → SoundFates shownIn last buy (fateBy c buy)
@@ -61,8 +76,12 @@ sound-fates b c accepted last buy opposite h r apart =
     (λ away is t.
     let ranged = accepted-quote b away (subst (λ (x : Body). firstOf (bodyRefusals b x) ≡ 0) is accepted) in
     record {
-      priced = present-ranged (lockingPrice buy away) (locking-ranged buy away ranged) (crosses-present buy away h t);
-      isApart = all-alike (λ o p. better-transitive buy (o .price) (h .price) (lockingPrice buy away) p (crosses-beyond buy away h t)) apart;
+      priced = present-ranged (if buy then away .offer else away .bid) (locking-ranged buy away ranged) (crosses-present buy away h t);
+      isApart =
+          all-alike
+          (λ o p. rw (crosses-hidden buy away h t)
+          (reaches-further buy (o .price) (h .price) (lockingPrice buy away) (rw (crosses-hidden buy away h t) at p) (crosses-beyond buy away h t)))
+          apart;
       shows = r .holding;
       floored = r .floored;
     }))
@@ -81,8 +100,8 @@ module _ (b : Book) (s : Sound b) (n : Number) (time : ℕ) (next : n .0 ≡ b .
   accept-sound o a =
       rw (order-does n time b o .0)
       (sides-sound (withAccepted n time (b .held)) opened inTime (s .bid) (s .offer) isOpen (buying o)
-      (accept-sides n o (b .held .away) (sides-of (buying o) b s) next (a .isLawful) (a .carries) (a .inRange) (a .room) firstMove
-      (ending o (b .held .away) (oppositeSide (buying o) b)) refl))
+      (accept-sides n o (metBy o b) (sides-of (buying o) b s) next (a .isLawful) (a .carries) (a .inRange) (a .room) firstMove
+      (ending o (metBy o b)) refl))
 
   -- both sides, settled by the fates of a command
   both-sides : (c : Body) → firstOf (bodyRefusals b c) ≡ 0 → (k : ℕ)

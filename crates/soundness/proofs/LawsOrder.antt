@@ -2,7 +2,6 @@
 -- is a resting order in range on its own. Assumes nothing.
 use Prim.Native.Nat.{ℕ, _+_, _-_, _^_, _≤_}
 use mathlib.Core.Bool.{Bool, true, false, not, _&&_, _||_, Bool·beq, true≢false}
-use mathlib.Core.List.{List}
 use mathlib.Core.Path.{_≡_, refl, sym, ap, _∙_}
 use lib.Dec.{eqb, leb, ltb}
 use lib.ListN.{length}
@@ -10,26 +9,25 @@ use native.Mathlib.Omega.{arith}
 use borrow.Author.Tests.{eqb-false, leb-false, leb-true}
 use Rattle.basics.specs.Lists.{total}
 use Rattle.basics.proofs.LawsChoice.{by-choice, and-left, and-right}
-use Rattle.kinds.specs.declared.Cents.{Cents}
+use Rattle.kinds.specs.declared.HalfCents.{HalfCents}
 use Rattle.kinds.specs.declared.Number.{Number}
 use Rattle.kinds.specs.declared.Shares.{Shares}
-use Rattle.kinds.specs.Kinds.{shares, priceInRange, sharesInRange}
-use Rattle.kinds.proofs.LawsRanges.{shares-most, shares-ranged}
-use Rattle.rules.specs.declared.Away.{Away}
+use Rattle.kinds.specs.Kinds.{shares, inHalfCents, restingPriceInRange, sharesInRange}
+use Rattle.kinds.proofs.LawsRanges.{shares-most, shares-ranged, price-rests}
 use Rattle.rules.specs.declared.Carried.{Carried}
 use Rattle.rules.specs.declared.Carried.the-variants.{Nothing, MaxFloor}
 use Rattle.rules.specs.declared.Ending.{Ending}
 use Rattle.rules.specs.declared.Ending.the-variants.{Filled, Rests, Cancels}
 use Rattle.rules.specs.declared.Order.{Order}
-use Rattle.rules.specs.declared.Resting.{Resting}
 use Rattle.rules.specs.Book.{placesASide, stamp, sharesLeft}
 use Rattle.rules.specs.Holdings.{after}
 use Rattle.rules.specs.Instructions.{ioc, fok, day, displayed, nonDisplayed, priceAdjust, cancelBack, postOnly, iso, market, reserve, has, oneOf, needs, lawful}
 use Rattle.rules.specs.Refusals.{isRest, carriesFloor, orderPriceInRange, carriedInRange, orderInRange}
 use Rattle.rules.specs.Settling.{settledSide}
-use Rattle.rules.specs.Working.{buying, takings, remainder, seeks, unlessPostOnlyMeets, ending, floorOf, remainderOf, withRemainder, refillFate}
+use Rattle.rules.specs.Working.{buying, takings, remainder, seeks, unlessPostOnlyMeets, ending, floorOf, remainderOf, withRemainder, refillFate, Met}
 use Rattle.rules.proofs.LawsFloors.{shown-at-most, shown-some, shown-floored, refilled-floored, refill-same}
 use Rattle.soundness.proofs.LawsEndings.{sought-is}
+use Rattle.soundness.proofs.LawsApart.{apart-flip}
 use Rattle.soundness.proofs.LawsRests.{RestsBy, rests-by, rests-apart}
 use Rattle.soundness.proofs.LawsSettled.{LeftSound, SoundFates, sides-settled}
 use Rattle.soundness.proofs.LawsSides.{shownIn, InRange, SidesBy, Sides, all-holding, later-stamp, sides-flip, sides-back, sides-thinned, sides-later, sides-added}
@@ -40,7 +38,7 @@ use Rattle.soundness.proofs.LawsThinned.{thinned-after}
 -- an ending that rests at no price out of range
 restsInRange : Ending → Bool
 restsInRange Filled = true
-restsInRange (Rests price) = priceInRange price
+restsInRange (Rests price) = restingPriceInRange price
 restsInRange (Cancels reason) = true
 
 -- ── A market order never rests ──
@@ -100,15 +98,15 @@ refill-sound last buy opposite h r apart =
 
 -- ── An accepted order ──
 
-module _ (n : Number) (o : Order) (away : Away) {last : Number} {own opposite : List Resting} (sides : Sides (buying o) last own opposite) (next : n .0 ≡ last .0 + 1)
+module _ (n : Number) (o : Order) (m : Met) {last : Number} (sides : Sides (buying o) last (m .own) (m .opposite)) (next : n .0 ≡ last .0 + 1)
     (isLawful : lawful (o .word) ≡ true) (carries : Bool·beq (has (o .word) reserve) (carriesFloor (o .carried)) ≡ true) (inRange : orderInRange o ≡ true)
-    (room : (isRest (ending o away opposite) && leb placesASide (length own)) ≡ false) where
+    (room : (isRest (ending o m) && leb placesASide (length (m .own))) ≡ false) where
   -- the opposite side without what is taken
-  taken : SidesBy shownIn sharesLeft (buying o) last own (after opposite (takings o away opposite))
-  taken = sides-thinned sides (thinned-after (takings o away opposite) (all-holding last (sides .oppositeInRange)))
+  taken : SidesBy shownIn sharesLeft (buying o) last (m .own) (after (m .opposite) (takings o m))
+  taken = sides-thinned sides (thinned-after (takings o m) (all-holding last (sides .oppositeInRange)))
 
-  remainder-in-range : (price : Cents) → RestsBy o away opposite price → has (o .word) market ≡ false
-      → InRange n (remainderOf n o (remainder o away opposite) price)
+  remainder-in-range : (price : HalfCents) → RestsBy o m price → has (o .word) market ≡ false
+      → InRange n (remainderOf n o (remainder o m) price)
   unfolding remainder restsInRange
   remainder-in-range price by limited =
       let sized = leb (o .side) 1 && sharesInRange (o .shares) in
@@ -117,10 +115,10 @@ module _ (n : Number) (o : Order) (away : Away) {last : Number} {own opposite : 
       let size = and-right (leb (o .side) 1) (sharesInRange (o .shares)) (and-left sized (orderPriceInRange o) fields) in
       let most = shares-most (o .shares) size in
       let limit : orderPriceInRange o ≡ true = and-right sized (orderPriceInRange o) fields in
-      let priced : priceInRange (o .price) ≡ true = rw limited at limit in
-      let found : restsInRange (unlessPostOnlyMeets o opposite (seeks o away)) ≡ true =
-      sought-is (λ (e : Ending). restsInRange e ≡ true) (λ p e. e) refl refl refl o away opposite priced in
-      let left = o .shares .0 - total (takings o away opposite) in
+      let priced : restingPriceInRange (inHalfCents (o .price)) ≡ true = price-rests (o .price) (rw limited at limit) in
+      let found : restsInRange (unlessPostOnlyMeets o (m .opposite) (seeks o (m .away))) ≡ true =
+      sought-is (λ (e : Ending). restsInRange e ≡ true) (λ p e. e) refl refl refl o (m .away) (m .opposite) priced in
+      let left = o .shares .0 - total (takings o m) in
       let some : 1 ≤ left = omega (arith, by .left) in
       let floor = floorOf (o .carried) in
       record {
@@ -137,22 +135,23 @@ module _ (n : Number) (o : Order) (away : Away) {last : Number} {own opposite : 
       }
 
   -- its own side with what rests of it
-  worked-sides : (e : Ending) → ending o away opposite ≡ e
-      → SidesBy shownIn sharesLeft (buying o) n (withRemainder n o (remainder o away opposite) e own) (after opposite (takings o away opposite))
+  worked-sides : (e : Ending) → ending o m ≡ e
+      → SidesBy shownIn sharesLeft (buying o) n (withRemainder n o (remainder o m) e (m .own)) (after (m .opposite) (takings o m))
   worked-sides Filled q = sides-later taken (omega (arith, next))
   worked-sides (Cancels reason) q = sides-later taken (omega (arith, next))
   worked-sides (Rests price) q =
-      let by = rests-by o away opposite price q in
+      let by = rests-by o m price q in
       let limited = neither-market (has (o .word) market) (has (o .word) ioc) (has (o .word) fok) (last-needs (o .word) isLawful .0) (by .no-cancel) (by .no-kill) in
-      let places : leb placesASide (length own) ≡ false = rw q at room in
-      sides-added taken (remainderOf n o (remainder o away opposite) price)
-      (omega (arith, next)) (remainder-in-range price by limited) (leb-false placesASide (length own) places)
-      (rests-apart o away price limited (all-holding last (sides .oppositeInRange)) (sides .oppositeRanked) by)
+      let places : leb placesASide (length (m .own)) ≡ false = rw q at room in
+      sides-added taken (remainderOf n o (remainder o m) price)
+      (omega (arith, next)) (remainder-in-range price by limited) (leb-false placesASide (length (m .own)) places)
+      (rests-apart o m price (has (o .word) displayed) limited (all-holding last (sides .oppositeInRange)) (sides .oppositeRanked) by
+      (apart-flip (buying o) (m .own) (after (m .opposite) (takings o m)) (taken .isApart)))
 
   -- the opposite side refilled, with stamps that are later than all on it
-  pub accept-sides : (k : ℕ) (e : Ending) → ending o away opposite ≡ e
-      → Sides (buying o) n (withRemainder n o (remainder o away opposite) e own)
-      (settledSide n k (not (buying o)) refillFate (after opposite (takings o away opposite)))
+  pub accept-sides : (k : ℕ) (e : Ending) → ending o m ≡ e
+      → Sides (buying o) n (withRemainder n o (remainder o m) e (m .own))
+      (settledSide n k (not (buying o)) refillFate (after (m .opposite) (takings o m)))
   accept-sides k e q =
       sides-back (buying o)
       (sides-settled n k refillFate refill-same (refill-sound n (not (buying o))) (later-stamp (stamp n k) (omega (arith, next)) (taken .oppositeInRange))

@@ -10,7 +10,7 @@ use native.Mathlib.Omega.{arith}
 use borrow.Author.Tests.{leb-true, eqb-true, not-true}
 use Rattle.basics.specs.Lists.{every}
 use Rattle.basics.proofs.LawsChoice.{and-left, and-right}
-use Rattle.kinds.specs.Kinds.{cents, shares, number}
+use Rattle.kinds.specs.Kinds.{halfCents, shares, number}
 use Rattle.rules.specs.declared.Resting.{Resting}
 use Rattle.rules.specs.Book.{BookRecord, Places, placesASide, stamp, unused, isUnused, ordersIn, placesOf, placesSound, bookIn, recordOf, sound, recordSound}
 
@@ -46,7 +46,7 @@ unused-is o e =
     made : {n p s c k r f : ℕ} {d b : Bool} → n ≡ 0 → p ≡ 0 → s ≡ 0 → d ≡ false → b ≡ false → c ≡ 0 → k ≡ 0 → r ≡ 0 → f ≡ 0
         → record {
           number = number n;
-          price = cents p;
+          price = halfCents p;
           shares = shares s;
           displayed = d;
           back = b;

@@ -11,7 +11,7 @@ use Rattle.basics.specs.Choice.{if_then_else_}
 use Rattle.basics.specs.Lists.{sumOf, gathered, All, none, also, OneOf, first, later}
 use Rattle.basics.proofs.LawsLists.{all-alike, one-of-all, each-there, sumOf-append, gathered-all, gathered-has}
 use Rattle.kinds.specs.declared.Number.{Number}
-use Rattle.kinds.specs.Kinds.{priceInRange}
+use Rattle.kinds.specs.Kinds.{restingPriceInRange}
 use Rattle.rules.specs.declared.Resting.{Resting}
 use Rattle.rules.specs.declared.Stamp.{Stamp}
 use Rattle.rules.specs.Book.{stamp, earlier, inRankOrder, floorInRange}
@@ -19,7 +19,7 @@ use Rattle.rules.specs.declared.Fate.{Fate}
 use Rattle.rules.specs.declared.Fate.the-variants.{Stays, IsCancelled, IsSet}
 use Rattle.rules.specs.Settling.{keptBy, setBy, stampedAs, insert, insertAll, staying, setAnew, stampedFrom, settledSide}
 use Rattle.rules.proofs.LawsCommands.{IfSet, SameOrder}
-use Rattle.soundness.proofs.LawsApart.{Beyond}
+use Rattle.soundness.proofs.LawsApart.{Clear}
 use Rattle.soundness.proofs.LawsInsert.{added-insert, added-sum, added-all, added-new, added-old, ranked-insert}
 use Rattle.soundness.proofs.LawsNumbers.{oneIf, fewer-distinct}
 use Rattle.rules.proofs.LawsRank.{earlier-place, earlier-transitive, ranked-first, ranked-rest, ranked-more}
@@ -200,8 +200,8 @@ module _ (n : Number) (buy : Bool) (fate : Resting → Fate) where
 -- what is left of an order by its fate keeps its side sound: it shows a share; and whoever is set anew has a price in range, apart from the
 -- opposite side, and a Max Floor in range
 pub record SetSound (buy : Bool) (opposite : List Resting) (new : Resting) : Type 0 where
-  pub priced : priceInRange (new .price) ≡ true
-  pub isApart : Beyond buy (new .price) opposite
+  pub priced : restingPriceInRange (new .price) ≡ true
+  pub isApart : Clear buy (new .displayed) (new .price) opposite
   pub shows : 1 ≤ new .shares .0
   pub floored : floorInRange new ≡ true
 
@@ -213,7 +213,7 @@ LeftSound buy opposite h (IsSet new) = SetSound buy opposite new
 -- a fate keeps every side sound whose orders have a share each, as it is counted
 abbrev pub SoundFates : (Resting → ℕ) → Number → Bool → (Resting → Fate) → Type 0
 SoundFates count last buy fate =
-    (opposite : List Resting) (h : Resting) → Ranged count last h → Beyond buy (h .price) opposite → LeftSound buy opposite h (fate h)
+    (opposite : List Resting) (h : Resting) → Ranged count last h → Clear buy (h .displayed) (h .price) opposite → LeftSound buy opposite h (fate h)
 
 -- a side that command n settles, whose stamps are all earlier, from place k on
 pub sides-settled : {mine theirs : Resting → ℕ} {buy : Bool} {own opposite : List Resting} (n : Number) (k : ℕ) (fate : Resting → Fate)
@@ -230,7 +230,7 @@ sides-settled {mine = mine} {buy = buy} {own = own} {opposite = opposite} n k fa
       oppositeInRange = sides .oppositeInRange;
       once = fewer-distinct (bothSides buy own opposite) (bothSides buy after opposite) fewer (sides .once);
       isApart =
-          settled-are {P = λ (h : Resting). Beyond buy (h .price) opposite} fate n k buy own
+          settled-are {P = λ (h : Resting). Clear buy (h .displayed) (h .price) opposite} fate n k buy own
           (λ h p e. one-of-all (sides .isApart) p) (λ h new p e. left p e .isApart);
     }
   where

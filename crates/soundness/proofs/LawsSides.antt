@@ -13,7 +13,7 @@ use Rattle.basics.specs.Choice.{if_then_else_}
 use Rattle.basics.specs.Lists.{every, any, distinct, sumOf, All, none, also}
 use Rattle.basics.proofs.LawsChoice.{and-left, and-right}
 use Rattle.kinds.specs.declared.Number.{Number}
-use Rattle.kinds.specs.Kinds.{mostShares, shares, priceInRange, sharesInRange}
+use Rattle.kinds.specs.Kinds.{mostShares, shares, restingPriceInRange, sharesInRange}
 use Rattle.kinds.proofs.LawsRanges.{shares-most, shares-ranged}
 use Rattle.rules.specs.declared.Held.{Held}
 use Rattle.rules.specs.declared.Resting.{Resting}
@@ -21,7 +21,7 @@ use Rattle.rules.specs.declared.Stamp.{Stamp}
 use Rattle.rules.specs.Book.{sharesLeft, numbers, Book, placesASide, opening, closing, earlier, inRankOrder, stampInRange, floorInRange, restingInRange, awayInRange}
 use Rattle.rules.specs.Settling.{ownSide, oppositeSide, insert}
 use Rattle.rules.proofs.LawsFloors.{lowered-floored}
-use Rattle.soundness.proofs.LawsApart.{Beyond, Apart, apart-all, apart-best, apart-flip}
+use Rattle.soundness.proofs.LawsApart.{Clear, Apart, apart-all, apart-best, apart-flip}
 use Rattle.soundness.proofs.LawsInsert.{Added, added-insert, added-before, added-behind, added-length, added-all, added-distinct, ranked-insert}
 use Rattle.soundness.proofs.LawsNumbers.{oneIf, fewer-distinct}
 use Rattle.rules.proofs.LawsRank.{earlier-command}
@@ -34,7 +34,7 @@ use Rattle.soundness.proofs.LawsThinned.{withParts, Thinned, Standing, 
 pub record Ranged (count : Resting → ℕ) (last : Number) (h : Resting) : Type 0 where
   pub fromOne : 1 ≤ h .number .0
   pub upToLast : h .number .0 ≤ last .0
-  pub priced : priceInRange (h .price) ≡ true
+  pub priced : restingPriceInRange (h .price) ≡ true
   pub holding : 1 ≤ count h
   pub atMost : sharesLeft h ≤ mostShares
   pub stampedFrom : h .number .0 ≤ h .stamp .command .0
@@ -51,19 +51,19 @@ InRange last h = Ranged shownIn last h
 range-is : (last : Number) (h : Resting) → restingInRange last h ≡ true → InRange last h
 range-is last h e =
     let numbered = leb 1 (h .number .0) && leb (h .number .0) (last .0) in
-    let stamped = numbered && priceInRange (h .price) && stampInRange last h in
+    let stamped = numbered && restingPriceInRange (h .price) && stampInRange last h in
     let shown = stamped && leb 1 (h .shares .0) in
     let counted = shown && sharesInRange (shares (sharesLeft h)) in
     let byCounted = and-left counted (floorInRange h) e in
     let byShown = and-left shown (sharesInRange (shares (sharesLeft h))) byCounted in
     let byStamped = and-left stamped (leb 1 (h .shares .0)) byShown in
-    let t = and-right (numbered && priceInRange (h .price)) (stampInRange last h) byStamped in
-    let f = and-left (numbered && priceInRange (h .price)) (stampInRange last h) byStamped in
-    let n = and-left numbered (priceInRange (h .price)) f in
+    let t = and-right (numbered && restingPriceInRange (h .price)) (stampInRange last h) byStamped in
+    let f = and-left (numbered && restingPriceInRange (h .price)) (stampInRange last h) byStamped in
+    let n = and-left numbered (restingPriceInRange (h .price)) f in
     record {
       fromOne = leb-true 1 (h .number .0) (and-left (leb 1 (h .number .0)) (leb (h .number .0) (last .0)) n);
       upToLast = leb-true (h .number .0) (last .0) (and-right (leb 1 (h .number .0)) (leb (h .number .0) (last .0)) n);
-      priced = and-right numbered (priceInRange (h .price)) f;
+      priced = and-right numbered (restingPriceInRange (h .price)) f;
       holding = leb-true 1 (h .shares .0) (and-right stamped (leb 1 (h .shares .0)) byShown);
       atMost = shares-most (shares (sharesLeft h)) (and-right shown (sharesInRange (shares (sharesLeft h))) byCounted);
       stampedFrom = leb-true (h .number .0) (h .stamp .command .0) (and-left (leb (h .number .0) (h .stamp .command .0)) (leb (h .stamp .command .0) (last .0)) t);
@@ -287,7 +287,7 @@ module _ {mine theirs : Resting → ℕ} {buy : Bool} {last : Number} {own oppos
   }
 
   -- a new order rests: the next number, on a side that has room, apart from the opposite side
-  pub sides-added : (x : Resting) → last .0 < x .number .0 → Ranged mine (x .number) x → length own < placesASide → Beyond buy (x .price) opposite
+  pub sides-added : (x : Resting) → last .0 < x .number .0 → Ranged mine (x .number) x → length own < placesASide → Clear buy (x .displayed) (x .price) opposite
       → SidesBy mine theirs buy (x .number) (insert buy x own) opposite
   sides-added x above range room apart =
       let added = added-insert buy x own in

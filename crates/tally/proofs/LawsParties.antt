@@ -11,6 +11,7 @@ use borrow.Author.Tests.{ne-eqb, eqb-true}
 use Rattle.basics.specs.Lists.{sumOf, All, none, also}
 use Rattle.basics.proofs.LawsChoice.{holds-or-not}
 use Rattle.basics.proofs.LawsLists.{all-alike, all-both, one-of-all}
+use Rattle.kinds.specs.declared.HalfCents.{HalfCents}
 use Rattle.kinds.specs.declared.Number.{Number}
 use Rattle.rules.specs.declared.Body.{Body}
 use Rattle.rules.specs.declared.Body.the-variants as body
@@ -26,7 +27,7 @@ use Rattle.rules.specs.Commands.{does}
 use Rattle.rules.specs.Holdings.{Holding, executions, after}
 use Rattle.rules.specs.Settling.{oppositeSide}
 use Rattle.rules.specs.Step.{doneBy, answer, answerTo}
-use Rattle.rules.specs.Working.{buying, takings, remainder, ending}
+use Rattle.rules.specs.Working.{buying, metBy, executionPrice, takings, remainder, ending}
 use Rattle.rules.proofs.LawsCommands.{order-does, does-tells}
 use Rattle.rules.proofs.LawsWalkOrder.{holdings-there}
 use Rattle.soundness.proofs.LawsSides.{sides-of}
@@ -65,14 +66,15 @@ same-sums n (also {x = e} two a) = rw (same-shares n e two, same-sums n a) refl
 
 -- ── The events of a line ──
 
-executions-two : (m : Number) {s : List Holding} (ts : List ℕ) → All (λ (h : Holding). m .0 ≢ h .of .number .0) s → All TwoParties (executions m s ts)
+executions-two : (m : Number) (price : Resting → HalfCents) {s : List Holding} (ts : List ℕ) → All (λ (h : Holding). m .0 ≢ h .of .number .0) s
+    → All TwoParties (executions m price s ts)
 unfolding executions
-executions-two m ts none = none
-executions-two m [] (also d a) = none
-executions-two m (t ∷ ts) (also d a) =
+executions-two m price ts none = none
+executions-two m price [] (also d a) = none
+executions-two m price (t ∷ ts) (also d a) =
     ⊎-elim
-    (λ (z : eqb t 0 ≡ true). rw z (executions-two m ts a))
-    (λ (z : eqb t 0 ≡ false). rw z (also d (executions-two m ts a)))
+    (λ (z : eqb t 0 ≡ true). rw z (executions-two m price ts a))
+    (λ (z : eqb t 0 ≡ false). rw z (also d (executions-two m price ts a)))
     (holds-or-not (eqb t 0))
 
 -- the number of an accepted command is above that of every resting order
@@ -83,15 +85,15 @@ does-two b n time s next =
     order-two : (o : Order) → All TwoParties (does n time (body.Order o) b .events)
     order-two o =
         let opposite = oppositeSide (buying o) b in
-        let away = b .held .away in
+        let met = metBy o b in
         let range = sides-of (buying o) b (sound-is b s) .oppositeInRange in
         let new : All (λ (h : Resting). n .0 ≢ h .number .0) opposite =
         all-alike (λ h r. λ (z : n .0 ≡ h .number .0). omega (arith, z, r .upToLast, next)) range in
         rw (order-does n time b o .1)
         (all-both
-        (all-both (executions-two n (takings o away opposite) (all-alike (λ h p. one-of-all new p) (holdings-there opposite)))
-        (every-last n (λ price k. tt) (λ k reason. tt) (remainder o away opposite) (ending o away opposite)))
-        (every-refill (λ m price k. tt) (after opposite (takings o away opposite))))
+        (all-both (executions-two n (executionPrice o met) (takings o met) (all-alike (λ h p. one-of-all new p) (holdings-there opposite)))
+        (every-last n (λ price k. tt) (λ k reason. tt) (remainder o met) (ending o met)))
+        (every-refill (λ m price k. tt) (after opposite (takings o met))))
 
 done-two : (b : Book) (r : Reading) → sound b ≡ true → commandNumber r ≡ b .held .last .0 + 1 → All TwoParties (doneBy r b .events)
 unfolding doneBy

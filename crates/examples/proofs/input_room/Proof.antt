@@ -9,7 +9,7 @@ counted : (n : ℕ) → n ≡ length {A = ℕ} (replicate n 0)
 counted n = sym (length-replicate n 0)
 
 returns : tie.Need-returns
-returns c = counted 1048576
+returns c = counted 2097152
 
 pub input-room-spec : {M : Type 1} → statement M
 input-room-spec = tie.close (tie.spec returns)

@@ -1,7 +1,7 @@
 -- `inspection::in_range` meets its contract. Assumes nothing.
 use mathlib.Core.Path.{_≡_}
 use borrow.Author.Needs.{needs}
-use Rattle.kinds.specs.Kinds.{shares, priceInRange, sharesInRange}
+use Rattle.kinds.specs.Kinds.{shares, restingPriceInRange, sharesInRange}
 use Rattle.rules.specs.Book.{sharesLeft, floorInRange}
 use Rattle.inspection.proofs.in_range.Statement.{statement}
 use Rattle.inspection.proofs.in_range.Tie as tie
@@ -19,7 +19,7 @@ returns : tie.Need-returns
 returns c =
     let priced = c .before .before .before .before .before .before .before in
     let o = priced .before .before .before .before .before .before .args .o in
-    let p : priced .in-range .result ≡ priceInRange (o .price) = priced .in-range .ensures in
+    let p : priced .in-range .result ≡ restingPriceInRange (o .price) = priced .in-range .ensures in
     let l : c .before .left-in-range .result ≡ sharesInRange (shares (sharesLeft o)) = c .before .left-in-range .ensures in
     let f : c .floor-in-range .result ≡ floorInRange o = c .floor-in-range .ensures in
     rw (p, l, f)

@@ -1,12 +1,12 @@
 -- Laws of the parts of a side and of a cursor over them. Assumes nothing.
-use Prim.Native.Nat.{ℕ, zero, suc, _+_, _*_, _≤_, _<_}
+use Prim.Native.Nat.{ℕ, suc, _+_, _*_, _≤_, _<_}
 use mathlib.Core.Bool.{Bool, true, false, _&&_}
-use mathlib.Core.List.{List, [], _∷_, _++_, map, append-nil}
+use mathlib.Core.List.{List, [], _∷_, _++_, append-nil}
 use mathlib.Core.Logic.{_⊎_, inl, inr, ⊎-elim}
 use mathlib.Core.Path.{_≡_, refl, sym, ap, _∙_}
 use lib.Dec.{eqb}
-use lib.ListN.{length, getD, take, drop, length-append, length-take, length-drop, length-map, drop-of-length-le}
-use lib.Seq.{take-suc, drop-cons, drop-append-le, length-take-le, getD-take}
+use lib.ListN.{length, getD, take, drop, length-append, length-take, length-drop, drop-of-length-le}
+use lib.Seq.{take-suc, drop-cons, drop-append-le, length-take-le}
 use native.Mathlib.Nat.{add-zero}
 use native.Mathlib.Numerals.{add-one}
 use native.Mathlib.Omega.{arith}
@@ -14,8 +14,8 @@ use borrow.Author.Tests.{eq-eqb, ne-eqb, eqb-true, eqb-false}
 use Rattle.basics.specs.Choice.{if_then_else_}
 use Rattle.basics.proofs.LawsChoice.{holds-or-not, lt-or-le}
 use Rattle.basics.proofs.LawsLists.{ahead-cons}
-use Rattle.kinds.specs.declared.Cents.{Cents}
-use Rattle.kinds.specs.Kinds.{cents}
+use Rattle.kinds.specs.declared.HalfCents.{HalfCents}
+use Rattle.kinds.specs.Kinds.{halfCents}
 use Rattle.rules.specs.declared.Resting.{Resting}
 use Rattle.orders.specs.declared.cursor.Part.{Part}
 use Rattle.orders.specs.declared.cursor.Cursor.{Cursor}
@@ -169,7 +169,7 @@ length-one i o =
     (λ (z : eqb (o .reserve .0) 0 ≡ false). rw z (omega arith))
     (holds-or-not (eqb (o .reserve .0) 0))
 
-length-from : (i : ℕ) (level : Cents) (w : List Part) (s : List Resting) → length (partsFrom i level w s) ≤ length w + 2 * length s
+length-from : (i : ℕ) (level : HalfCents) (w : List Part) (s : List Resting) → length (partsFrom i level w s) ≤ length w + 2 * length s
 unfolding partsFrom
 length-from i level w [] = omega arith
 length-from i level w (o ∷ s) =
@@ -183,4 +183,4 @@ length-from i level w (o ∷ s) =
 
 -- an order counts as two parts at most
 pub length-parts : (s : List Resting) → length (parts s) ≤ 2 * length s
-length-parts s = omega (arith, length-from 0 (cents 0) [] s)
+length-parts s = omega (arith, length-from 0 (halfCents 0) [] s)

@@ -1,7 +1,7 @@
 -- The parts that a cursor gives are 01's and 02's holdings but for empty reserves, which give nothing; and where each stands. Assumes nothing.
-use Prim.Native.Nat.{ℕ, zero, suc, _+_, _-_, _≤_, _<_, min}
+use Prim.Native.Nat.{ℕ, zero, suc, _+_, _-_, _<_, min}
 use mathlib.Core.Bool.{Bool, true, false, not, _&&_, Bool·beq}
-use mathlib.Core.List.{List, [], _∷_, _++_, map, append-nil, append-assoc}
+use mathlib.Core.List.{List, [], _∷_, _++_, map, append-assoc}
 use mathlib.Core.Logic.{inl, inr, ⊎-elim}
 use mathlib.Core.Path.{_≡_, refl, sym, ap, subst, _∙_}
 use lib.Dec.{eqb}
@@ -12,8 +12,8 @@ use Rattle.basics.specs.Choice.{if_then_else_}
 use Rattle.basics.specs.Lists.{total, All, none, also}
 use Rattle.basics.proofs.LawsChoice.{holds-or-not, and-left, and-right, by-choice}
 use Rattle.basics.proofs.LawsLists.{map-append}
-use Rattle.kinds.specs.declared.Cents.{Cents}
-use Rattle.kinds.specs.Kinds.{cents}
+use Rattle.kinds.specs.declared.HalfCents.{HalfCents}
+use Rattle.kinds.specs.Kinds.{halfCents}
 use Rattle.rules.specs.declared.Resting.{Resting}
 use Rattle.rules.specs.Book.{unused, better}
 use Rattle.rules.specs.Holdings.{Holding, shownPart, reservePart, size, behindItsPrice, holdings, nothing, walk}
@@ -22,7 +22,7 @@ use Rattle.rules.proofs.LawsBest.{HoldingsBest}
 use Rattle.rules.proofs.LawsTakings.{nothing-total}
 use Rattle.orders.specs.declared.cursor.Part.{Part}
 use Rattle.orders.specs.declared.walk.Taking.{Taking}
-use Rattle.orders.specs.Cursor.{shownAt, reserveAt, reserves, partsFrom, parts, Placed, placedAt, partOf, behindPlaced, placedFrom}
+use Rattle.orders.specs.Cursor.{shownAt, reserves, partsFrom, parts, Placed, placedAt, partOf, behindPlaced, placedFrom}
 use Rattle.orders.specs.Walk.{isWithin, partGives, taking, takingsFrom, takingsOf}
 use Rattle.orders.proofs.walk.LawsTaken.{taking-none, takings-nothing}
 
@@ -75,20 +75,20 @@ all-placed {P = P} i (h ∷ s) f =
 -- ── The same as a cursor goes: reserves wait until the price changes ──
 
 -- `partsFrom`, with empty reserves
-waitingFrom : ℕ → Cents → List Placed → List Resting → List Placed
+waitingFrom : ℕ → HalfCents → List Placed → List Resting → List Placed
 waitingFrom i level w [] = w
 waitingFrom i level w (h ∷ s) =
     if eqb (h .price .0) (level .0) then placedAt i (shownPart h) ∷ waitingFrom (i + 1) (h .price) (w ++ (placedAt i (reservePart h) ∷ [])) s
     else w ++ (placedAt i (shownPart h) ∷ waitingFrom (i + 1) (h .price) (placedAt i (reservePart h) ∷ []) s)
 
 -- some go behind the shown parts at a price
-behindLevel : Cents → List Placed → List Placed → List Placed
+behindLevel : HalfCents → List Placed → List Placed → List Placed
 behindLevel level w [] = w
 behindLevel level w (p ∷ s) =
     if eqb (p .holding .of .price .0) (level .0) && not (p .holding .isReserve) then p ∷ behindLevel level w s
     else w ++ (p ∷ s)
 
-behind-none : (level : Cents) (s : List Placed) → behindLevel level [] s ≡ s
+behind-none : (level : HalfCents) (s : List Placed) → behindLevel level [] s ≡ s
 unfolding behindLevel
 behind-none level [] = refl
 behind-none level (p ∷ s) =
@@ -111,7 +111,7 @@ behind-more i h w (p ∷ s) =
     (λ (t : levelled r p ≡ false). rw (t, never (eqb (h .price .0) (h .price .0))) (sym (append-assoc w (r ∷ []) (p ∷ s))))
     (holds-or-not (levelled r p))
 
-placed-waiting : (i : ℕ) (level : Cents) (w : List Placed) (s : List Resting) → behindLevel level w (placedFrom i s) ≡ waitingFrom i level w s
+placed-waiting : (i : ℕ) (level : HalfCents) (w : List Placed) (s : List Resting) → behindLevel level w (placedFrom i s) ≡ waitingFrom i level w s
 unfolding behindLevel placedFrom waitingFrom
 placed-waiting i level w [] = refl
 placed-waiting i level w (h ∷ s) =
@@ -122,7 +122,7 @@ placed-waiting i level w (h ∷ s) =
     let e : h .price .0 ≡ level .0 = eqb-true (h .price .0) (level .0) t in
     let same : level ≡ h .price = λ k. record { 0 = sym e k } in
     rw t (ap (λ (l : List Placed). placedAt i (shownPart h) ∷ l)
-    (ap (λ (p : Cents). behindLevel p w (behindPlaced r rest)) same ∙ behind-more i h w rest ∙ placed-waiting (i + 1) (h .price) (w ++ (r ∷ [])) s)))
+    (ap (λ (p : HalfCents). behindLevel p w (behindPlaced r rest)) same ∙ behind-more i h w rest ∙ placed-waiting (i + 1) (h .price) (w ++ (r ∷ [])) s)))
     (λ (t : eqb (h .price .0) (level .0) ≡ false).
     rw t (ap (λ (l : List Placed). w ++ (placedAt i (shownPart h) ∷ l))
     (sym (behind-none (h .price) (behindPlaced r rest)) ∙ behind-more i h [] rest ∙ placed-waiting (i + 1) (h .price) (r ∷ []) s)))
@@ -161,7 +161,7 @@ one-reserve i h =
     (λ (z : eqb (h .reserve .0) 0 ≡ false). rw z)
     (holds-or-not (eqb (h .reserve .0) 0))
 
-from-waiting : (i : ℕ) (level : Cents) (w : List Placed) (s : List Resting)
+from-waiting : (i : ℕ) (level : HalfCents) (w : List Placed) (s : List Resting)
     → presentParts (waitingFrom i level w s) ≡ partsFrom i level (presentParts w) s
 unfolding waitingFrom partsFrom present
 from-waiting i level w [] = refl
@@ -181,8 +181,8 @@ from-waiting i level w (h ∷ s) =
 pub parts-present : (s : List Resting) → parts s ≡ map partOf (present (placedFrom 0 s))
 unfolding present
 parts-present s =
-    sym (from-waiting 0 (cents 0) [] s)
-    ∙ ap presentParts (sym (placed-waiting 0 (cents 0) [] s) ∙ behind-none (cents 0) (placedFrom 0 s))
+    sym (from-waiting 0 (halfCents 0) [] s)
+    ∙ ap presentParts (sym (placed-waiting 0 (halfCents 0) [] s) ∙ behind-none (halfCents 0) (placedFrom 0 s))
 
 -- ── So a walk takes the same ──
 
@@ -248,8 +248,8 @@ module _ (may : Part → Bool) where
           (holds-or-not (isEmpty p))
 
 -- where holdings stand better price first, a bound closes the walk over them
-module _ (buy : Bool) (bound : Cents) where
-  no-nearer : (b : Bool) (p q : Cents) → better (not b) q p ≡ false → not (beyond b bound p) ≡ false → not (beyond b bound q) ≡ false
+module _ (buy : Bool) (bound : HalfCents) where
+  no-nearer : (b : Bool) (p q : HalfCents) → better (not b) q p ≡ false → not (beyond b bound p) ≡ false → not (beyond b bound q) ≡ false
   no-nearer true p q l m =
       let far : bound .0 < p .0 = ltb-true (bound .0) (p .0) (not-is-false _ m) in
       ap not (lt-ltb (bound .0) (q .0) (omega (arith, ltb-false (q .0) (p .0) l, far)))
@@ -265,7 +265,7 @@ module _ (buy : Bool) (bound : Cents) where
       not-is-false true e = refl
       not-is-false false e = sym e
 
-  beyond-all : (p : Cents) → not (beyond buy bound p) ≡ false → (s : List Placed)
+  beyond-all : (p : HalfCents) → not (beyond buy bound p) ≡ false → (s : List Placed)
       → All (λ (q : Holding). better (not buy) (q .of .price) p ≡ false) (map (λ (p : Placed). p .holding) s)
       → All (λ (q : Part). isWithin buy bound q ≡ false) (map partOf s)
   beyond-all p t [] none = none

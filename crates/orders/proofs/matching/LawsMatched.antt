@@ -10,17 +10,17 @@ use native.Mathlib.Omega.{arith}
 use borrow.Author.Tests.{le-leb, lt-leb}
 use Rattle.basics.specs.Choice.{if_then_else_}
 use Rattle.basics.proofs.LawsChoice.{holds-or-not}
-use Rattle.kinds.specs.declared.Cents.{Cents}
+use Rattle.kinds.specs.declared.HalfCents.{HalfCents}
 use Rattle.kinds.specs.declared.Number.{Number}
-use Rattle.kinds.specs.Kinds.{priceInRange}
-use Rattle.kinds.proofs.LawsRanges.{price-highest}
+use Rattle.kinds.specs.Kinds.{restingPriceInRange}
+use Rattle.kinds.proofs.LawsRanges.{resting-highest}
 use Rattle.side.proofs.places.LawsPlaced.{length-insert}
 use Rattle.rules.specs.declared.Away.{Away}
 use Rattle.rules.specs.declared.Ending.{Ending}
 use Rattle.rules.specs.declared.Ending.the-variants.{Filled, Rests, Cancels}
 use Rattle.rules.specs.declared.Order.{Order}
 use Rattle.rules.specs.declared.Resting.{Resting}
-use Rattle.basics.specs.Lists.{All, none, also}
+use Rattle.basics.specs.Lists.{All, any, none, also}
 use Rattle.basics.proofs.LawsLists.{all-alike}
 use Rattle.rules.specs.Book.{placesASide, stamp, inRankOrder}
 use Rattle.soundness.proofs.LawsThinned.{thinned-after, thinned-all, thinned-ranked}
@@ -29,12 +29,12 @@ use Rattle.orders.specs.declared.walk.Taking.{Taking}
 use Rattle.orders.specs.Fills.{afterTakings}
 use Rattle.orders.specs.Refills.{MayRefill}
 use Rattle.orders.specs.Walk.{isBelow}
-use Rattle.orders.specs.Walking.{Workable}
+use Rattle.orders.specs.Walking.{metWith, Workable}
 use Rattle.orders.proofs.fills.LawsTakenOff.{all-keep, after-unreached}
 use Rattle.rules.specs.EventLines.{iocRemainder, fokKilled, cancelledBack, noPriceInRange, postOnlyMeets}
 use Rattle.rules.specs.Instructions.{ioc, fok, displayed, cancelBack, postOnly, iso, has}
 use Rattle.rules.specs.Refusals.{isRest}
-use Rattle.rules.specs.Working.{buying, lockingPrice, absent, beyond, oneCentLessAggressive, equalsOrPasses, adjusted, seeks, unlessPostOnlyMeets, takings, remainder, endingWith, ending, lastLine, remainderOf, withRemainder, refillFate}
+use Rattle.rules.specs.Working.{buying, limitOf, lockingPrice, Met, executionPrice, absent, beyond, oneCentLessAggressive, meetsOrPasses, adjusted, seeks, unlessPostOnlyMeets, takings, remainder, endingWith, ending, lastLine, remainderOf, withRemainder, refillFate}
 use Rattle.rules.specs.Holdings.{holdings, executions, after}
 use Rattle.rules.specs.Settling.{firstMove, told, settledSide}
 use Rattle.orders.specs.declared.matching.Matched.{Matched}
@@ -70,36 +70,36 @@ below-either : (t : Bool) (a b : Ending) → restsBelow a → restsBelow b → r
 below-either true a b p q = p
 below-either false a b p q = q
 
-adjusted-below : (o : Order) (price : Cents) → restsBelow (adjusted o price)
+adjusted-below : (o : Order) (price : HalfCents) → restsBelow (adjusted o price)
 adjusted-below o price =
-    below-either (has (o .word) cancelBack) (Cancels cancelledBack) (if priceInRange price then Rests price else Cancels noPriceInRange) tt
+    below-either (has (o .word) cancelBack) (Cancels cancelledBack) (if restingPriceInRange price then Rests price else Cancels noPriceInRange) tt
     (⊎-elim
-    (λ (t : priceInRange price ≡ true). rw t (omega (arith, price-highest price t)))
-    (λ (t : priceInRange price ≡ false). rw t tt)
-    (holds-or-not (priceInRange price)))
+    (λ (t : restingPriceInRange price ≡ true). rw t (omega (arith, resting-highest price t)))
+    (λ (t : restingPriceInRange price ≡ false). rw t tt)
+    (holds-or-not (restingPriceInRange price)))
 
-module _ (o : Order) (away : Away) (limited : o .price .0 < priceBound) where
+module _ (o : Order) (away : Away) (limited : limitOf o .0 < priceBound) where
   seeks-below : restsBelow (seeks o away)
   unfolding seeks
   seeks-below =
       let locking = lockingPrice (buying o) away in
-      let crosses = beyond (buying o) locking (o .price) in
-      let locks = eqb (o .price .0) (locking .0) in
+      let crosses = beyond (buying o) locking (limitOf o) in
+      let locks = eqb (limitOf o .0) (locking .0) in
       let farther = oneCentLessAggressive (buying o) locking in
-      let else-limit = if not (has (o .word) displayed) && crosses then adjusted o locking else Rests (o .price) in
-      below-either (has (o .word) iso || absent locking) (Rests (o .price)) (if has (o .word) displayed && (locks || crosses) then adjusted o farther else else-limit) limited
+      let else-limit = if not (has (o .word) displayed) && crosses then adjusted o locking else Rests (limitOf o) in
+      below-either (has (o .word) iso || absent locking) (Rests (limitOf o)) (if has (o .word) displayed && (locks || crosses) then adjusted o farther else else-limit) limited
       (below-either (has (o .word) displayed && (locks || crosses)) (adjusted o farther) else-limit (adjusted-below o farther)
-      (below-either (not (has (o .word) displayed) && crosses) (adjusted o locking) (Rests (o .price)) (adjusted-below o locking) limited))
+      (below-either (not (has (o .word) displayed) && crosses) (adjusted o locking) (Rests (limitOf o)) (adjusted-below o locking) limited))
 
   unless-below : (opposite : List Resting) (end : Ending) → restsBelow end → restsBelow (unlessPostOnlyMeets o opposite end)
   unless-below opposite Filled b = tt
-  unless-below opposite (Rests price) b = below-either (has (o .word) postOnly && equalsOrPasses (buying o) price opposite) (Cancels postOnlyMeets) (Rests price) tt b
+  unless-below opposite (Rests price) b = below-either (has (o .word) postOnly && any (meetsOrPasses (buying o) price) opposite) (Cancels postOnlyMeets) (Rests price) tt b
   unless-below opposite (Cancels reason) b = tt
 
   -- an order rests at its limit, or at a price in range
-  pub ending-below : (left : ℕ) (opposite : List Resting) → restsBelow (endingWith left o away opposite)
+  pub ending-below : (left : ℕ) (own opposite : List Resting) → restsBelow (endingWith left o (metWith away own opposite))
   unfolding endingWith
-  ending-below left opposite =
+  ending-below left own opposite =
       let rests = unlessPostOnlyMeets o opposite (seeks o away) in
       let else-ioc = if has (o .word) ioc then Cancels iocRemainder else rests in
       below-either (eqb left 0) Filled (if has (o .word) fok then Cancels fokKilled else else-ioc) tt
@@ -131,28 +131,27 @@ may-refill buy n at {ks = ks} below s ts is ranked workable older =
 
 -- ── The match ──
 
-module _ (o : Order) (number : Number) (away : Away) (own opposite : List Resting) where
-  pub refused : isFull (ending o away opposite) own ≡ true
-      → matchOf o number away own opposite ≡ record { refusal = 11; events = []; own = own; opposite = opposite }
+module _ (o : Order) (number : Number) (met : Met) where
+  pub refused : isFull (ending o met) (met .own) ≡ true → matchOf o number met ≡ record { refusal = 11; events = []; own = met .own; opposite = met .opposite }
   unfolding matchOf
   refused f = rw f
 
   -- by what the walk leaves, and the ending that follows from it
-  module _ (left : ℕ) (end : Ending) (leaves : left ≡ remainder o away opposite) (ends : end ≡ endingWith left o away opposite) where
-    pub ending-is : end ≡ ending o away opposite
+  module _ (left : ℕ) (end : Ending) (leaves : left ≡ remainder o met) (ends : end ≡ endingWith left o met) where
+    pub ending-is : end ≡ ending o met
     unfolding ending
-    ending-is = ends ∙ ap (λ (k : ℕ). endingWith k o away opposite) leaves
+    ending-is = ends ∙ ap (λ (k : ℕ). endingWith k o met) leaves
 
-    pub ended-is : isFull end own ≡ false → matchOf o number away own opposite ≡ record {
+    pub ended-is : isFull end (met .own) ≡ false → matchOf o number met ≡ record {
       refusal = 0;
-      events = (executions number (holdings opposite) (takings o away opposite) ++ lastLine number left end)
-          ++ told refillFate (after opposite (takings o away opposite));
-      own = withRemainder number o left end own;
-      opposite = settledSide number firstMove (not (buying o)) refillFate (after opposite (takings o away opposite));
+      events = (executions number (executionPrice o met) (holdings (met .opposite)) (takings o met) ++ lastLine number left end)
+          ++ told refillFate (after (met .opposite) (takings o met));
+      own = withRemainder number o left end (met .own);
+      opposite = settledSide number firstMove (not (buying o)) refillFate (after (met .opposite) (takings o met));
     }
     unfolding matchOf
     ended-is f =
-        let g : isFull (ending o away opposite) own ≡ false = ap (λ (e : Ending). isFull e own) (sym ending-is) ∙ f in
+        let g : isFull (ending o met) (met .own) ≡ false = ap (λ (e : Ending). isFull e (met .own)) (sym ending-is) ∙ f in
         rw (g, ending-is, leaves)
 
 -- ── The answer ──

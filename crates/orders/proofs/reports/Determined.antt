@@ -7,7 +7,7 @@ use Rattle.orders.proofs.reports.report.Reads as report
 use Rattle.orders.proofs.reports.report_cancelled.Reads as report-cancelled
 
 pub report-determined : (κs : _) (a : _) (r r′ : ℕ) (s s′ : _) → report.Post κs a r s → report.Post κs a r′ s′
-    → (r ≡ r′) × (now (s .1 .1 .1 .1 .1 .1 .0) ≡ now (s′ .1 .1 .1 .1 .1 .1 .0))
+    → (r ≡ r′) × (now (s .1 .1 .1 .1 .1 .1 .1 .1 .0) ≡ now (s′ .1 .1 .1 .1 .1 .1 .1 .1 .0))
 report-determined κs a r r′ s s′ p q = (p .0 ∙ sym (q .0), p .1 ∙ sym (q .1))
 
 pub report-cancelled-determined : (κs : _) (a : _) (r r′ : ℕ) (s s′ : _) → report-cancelled.Post κs a r s → report-cancelled.Post κs a r′ s′

@@ -15,7 +15,8 @@ use Rattle.basics.specs.Bytes.{onto, ontoFrom}
 use Rattle.basics.specs.Lists.{All, none, also}
 use Rattle.basics.proofs.LawsBytes.{onto-next, onto-part}
 use Rattle.basics.proofs.LawsChoice.{holds-or-not}
-use Rattle.basics.proofs.LawsLists.{map-append}
+use Rattle.basics.proofs.LawsLists.{map-append, all-at}
+use Rattle.kinds.specs.declared.HalfCents.{HalfCents}
 use Rattle.kinds.specs.declared.Number.{Number}
 use Rattle.rules.specs.declared.Event.{Event}
 use Rattle.rules.specs.declared.Resting.{Resting}
@@ -64,19 +65,27 @@ module _ {A : Type 0} (f : A → Event) (width : ℕ) (wide : (x : A) → length
 
 -- ── What a walk executes ──
 
-placed-executed : (n : Number) (all : List Resting) {s : List Placed} → All (λ (p : Placed). getD all (p .place) unused ≡ p .holding .of) s
-    → (ts : List ℕ) → map (executionOf n all) (takingsFrom (map partOf s) ts) ≡ executions n (map (λ (p : Placed). p .holding) s) ts
+-- a taking's price becomes that of the execution against its order
+placed-executed : (n : Number) (here : HalfCents → HalfCents) (price : Resting → HalfCents) (all : List Resting) {s : List Placed}
+    → All (λ (p : Placed). (getD all (p .place) unused ≡ p .holding .of) × (here (p .holding .of .price) ≡ price (p .holding .of))) s
+    → (ts : List ℕ) → map (executionOf n here all) (takingsFrom (map partOf s) ts) ≡ executions n price (map (λ (p : Placed). p .holding) s) ts
 unfolding takingsFrom taking executions
-placed-executed n all none ts = refl
-placed-executed n all (also p a) [] = refl
-placed-executed n all (also {x = p} is a) (t ∷ ts) =
-    let rest = placed-executed n all a ts in
+placed-executed n here price all none ts = refl
+placed-executed n here price all (also p a) [] = refl
+placed-executed n here price all (also {x = p} is a) (t ∷ ts) =
+    let rest = placed-executed n here price all a ts in
     ⊎-elim
     (λ (z : eqb t 0 ≡ true). rw z rest)
-    (λ (z : eqb t 0 ≡ false). rw (z, is, rest))
+    (λ (z : eqb t 0 ≡ false). rw (z, is .0, is .1, rest))
     (holds-or-not (eqb t 0))
 
-pub takings-executed : (n : Number) (s : List Resting) (ts : List ℕ)
-    → map (executionOf n s) (takingsFrom (map partOf (placedFrom 0 s)) ts) ≡ executions n (holdings s) ts
-takings-executed n s ts =
-    placed-executed n s (all-placed 0 s (λ k h b l is. let e : 0 + k ≡ k = omega arith in ap (λ (j : ℕ). getD s j unused) e ∙ sym is)) ts ∙ ap (λ (hs : List Holding). executions n hs ts) (placed-holdings 0 s)
+pub takings-executed : (n : Number) (here : HalfCents → HalfCents) (price : Resting → HalfCents) (s : List Resting)
+    → All (λ (h : Resting). here (h .price) ≡ price h) s → (ts : List ℕ)
+    → map (executionOf n here s) (takingsFrom (map partOf (placedFrom 0 s)) ts) ≡ executions n price (holdings s) ts
+takings-executed n here price s same ts =
+    placed-executed n here price s
+    (all-placed 0 s (λ k h b l is.
+    let e : 0 + k ≡ k = omega arith in
+    (ap (λ (j : ℕ). getD s j unused) e ∙ sym is, rw is (all-at unused k same l))))
+    ts
+    ∙ ap (λ (hs : List Holding). executions n price hs ts) (placed-holdings 0 s)

@@ -20,6 +20,7 @@ use Rattle.orders.specs.Reports.{executionOf}
 use Rattle.orders.proofs.reports.LawsReports.{lines-length, takings-executed}
 use Rattle.side.specs.Table.{side, Holds, Shows}
 use Rattle.side.proofs.rows.LawsShown.{length-side, holds-shows, shown-side, shown-holds}
+use Rattle.kinds.specs.declared.HalfCents.{HalfCents}
 use Rattle.rules.specs.declared.Ending.{Ending}
 use Rattle.rules.specs.declared.Event.{Event}
 use Rattle.rules.specs.declared.Resting.{Resting}
@@ -27,14 +28,17 @@ use Rattle.rules.specs.EventLines.{eventLines}
 use Rattle.rules.specs.Refusals.{isRest}
 use Rattle.rules.specs.Holdings.{holdings, takenOf, executions, after}
 use Rattle.rules.specs.Settling.{firstMove, told, settledSide}
-use Rattle.rules.specs.Working.{buying, takings, endingWith, ending, lastLine, refillFate}
+use Rattle.rules.specs.Working.{buying, Met, executionPrice, takings, endingWith, ending, lastLine, refillFate}
 use Rattle.rules.proofs.LawsHoldings.{Parts, parts-alike}
 use Rattle.rules.proofs.LawsWalkOrder.{takings-give}
 use Rattle.rules.proofs.LawsEvents.{executed-length, eventLines-append, lines-behind, last-long, told-long}
 use Rattle.orders.specs.declared.walk.Taking.{Taking}
 use Rattle.orders.specs.declared.walk.Walked.{Walked}
 use Rattle.orders.specs.Walk.{isBelow, takingsIn}
-use Rattle.orders.specs.Walking.{Walks}
+use Rattle.orders.specs.Walking.{metWith, Walkable, walkBound, walkFor, takingsFor, takingsBy, Walks}
+use Rattle.orders.specs.Bound.{boundOf, boundUnder}
+use Rattle.orders.specs.Locks.{lockedPrice, executesAt}
+use Rattle.orders.proofs.work.LawsWalking.{executes-at, walks as walks-bound}
 use Rattle.orders.specs.declared.matching.Finished.{Finished}
 use Rattle.orders.specs.Matching.{isFull, finished, restsBelow}
 use Rattle.orders.specs.Refills.{MayRefill}
@@ -42,25 +46,48 @@ use Rattle.orders.proofs.matching.LawsMatched.{length-remainder, full-m
 use Rattle.orders.proofs.matching.match_order.Statement.{statement}
 use Rattle.orders.proofs.matching.match_order.Tie as tie
 
+locked-price-requires : tie.Need-locked-price-requires
+locked-price-requires c κs = c .before .before .before .pre .0
+
+-- the limit and the Locking Price are numbers that four bytes hold
+abbrev Walkable-at : tie.Start → Type 0
+Walkable-at start =
+    let a = start .args in
+    Walkable (a .o) (metWith (a .away) (side (a .n) (now (a .x)) (now (a .own))) (side (a .m) (now (a .y)) (now (a .opposite))))
+
+is-walkable : (start : tie.Start) → Walkable-at start
+is-walkable start = start .pre .2 .walkable
+
+bound-under-requires : tie.Need-bound-under-requires
+bound-under-requires c κs =
+    let w = is-walkable (c .before .before .before .before) in
+    (omega (arith, w .limited), omega (arith, w .lockingPriced), rw (c .locked-price .ensures) (w .lockedBelow))
+
 walk-of-requires : tie.Need-walk-of-requires
-walk-of-requires c κs = let p = c .before .before .before .before .pre in (p .1, p .2 .workable, p .2 .oppositeRanked)
+walk-of-requires c κs = c .before .before .before .before .before .before .before .before .pre .1
 
 ending-of-requires : tie.Need-ending-of-requires
-ending-of-requires c κs = let p = c .before .before .before .before .before .before .before .before .pre in (p .1, p .2 .oppositeRanked, p .2 .lockingPriced)
+ending-of-requires c κs =
+    let start = c .before .before .before .before .before .before .before .before .before .before .before .before in
+    let w = is-walkable start in
+    (start .pre .1, w .ranked, (omega (arith, w .limited), w .lockingPriced))
 
 places-after-requires : tie.Need-places-after-requires
-places-after-requires c κs = c .before .before .before .before .before .before .before .before .before .pre .0 .fits
+places-after-requires c κs = c .before .before .before .before .before .before .before .before .before .before .before .before .before .pre .0 .fits
 
 -- what is known of the walk and the ending
 module _ (c : tie.After-places-after) where
   start : tie.Start
-  start = c .before .before .before .before .before .before .before .before .before .before
+  start = c .before .before .before .before .before .before .before .before .before .before .before .before .before .before
 
   own : List Resting
   own = side (start .args .n) (now (start .args .x)) (now (start .args .own))
 
   opposite : List Resting
   opposite = side (start .args .m) (now (start .args .y)) (now (start .args .opposite))
+
+  abbrev met : Met
+  met = metWith (start .args .away) own opposite
 
   walk : Walked
   walk = c .before .before .before .before .before .walk-of .result
@@ -71,13 +98,34 @@ module _ (c : tie.After-places-after) where
   end : Ending
   end = c .before .ending-of .result
 
-  walks : Walks (start .args .o) (start .args .away) opposite walk took
-  unfolding start opposite walk took
-  walks = c .before .before .before .before .before .walk-of .ensures
+  -- the price that locks, and the bound with it
+  locked-is : c .before .before .before .before .before .before .before .before .before .before .locked-price .result ≡ lockedPrice own
+  unfolding start own
+  locked-is = c .before .before .before .before .before .before .before .before .before .before .locked-price .ensures
 
-  ends : end ≡ endingWith (walk .left .0) (start .args .o) (start .args .away) opposite
+  bound-is : c .before .before .before .before .before .before .before .before .before .bound-under .result ≡ walkBound (start .args .o) met
+  unfolding start
+  bound-is =
+      c .before .before .before .before .before .before .before .before .before .bound-under .ensures
+      ∙ ap (λ (p : HalfCents). boundUnder (buying (start .args .o)) p (boundOf (start .args .o) (start .args .away))) locked-is
+
+  can-walk : Walkable (start .args .o) met
+  unfolding start own opposite
+  can-walk = is-walkable start
+
+  walks : Walks (start .args .o) met walk took
+  unfolding start opposite walk took
+  walks =
+      let w = c .before .before .before .before .before .walk-of in
+      let fits = start .pre .1 .fits in
+      walks-bound (start .args .o) met can-walk walk took
+      (omega (arith, fits, length-side (start .args .m) (now (start .args .y)) (now (start .args .opposite))))
+      (w .ensures .0 ∙ ap (λ (b : HalfCents). walkFor (start .args .o) b opposite) bound-is)
+      (w .ensures .1 ∙ ap (λ (b : HalfCents). takingsFor (start .args .o) b opposite) bound-is)
+
+  ends : end ≡ endingWith (walk .left .0) (start .args .o) met
   unfolding start opposite walk end
-  ends = c .before .ending-of .ensures
+  ends = c .before .ending-of .ensures own
 
   held : c .places-after .result ≡ length own + (if isRest end then 1 else 0)
   unfolding start own end
@@ -92,33 +140,41 @@ module _ (c : tie.After-places-after) where
   below = subst (All (isBelow (walk .at))) (sym (walks .takes)) (walks .before)
 
   executed : List Event
-  executed = executions (start .args .number) (holdings opposite) (takings (start .args .o) (start .args .away) opposite)
+  executed = executions (start .args .number) (executionPrice (start .args .o) met) (holdings opposite) (takings (start .args .o) met)
 
-  executed-is : map (executionOf (start .args .number) opposite) (takingsIn (walk .count) took) ≡ executed
+  -- at the price of the execution against its order
+  abbrev here : HalfCents → HalfCents
+  here = executesAt (buying (start .args .o)) (c .before .before .before .before .before .before .before .before .before .before .locked-price .result)
+
+  executed-is : map (executionOf (start .args .number) here opposite) (takingsIn (walk .count) took) ≡ executed
   unfolding executed
   executed-is =
-      ap (map (executionOf (start .args .number) opposite)) (walks .takes)
-      ∙ takings-executed (start .args .number) opposite (takings (start .args .o) (start .args .away) opposite)
+      let a = start .args in
+      ap (map (executionOf (a .number) here opposite)) (walks .takes)
+      ∙ ap (λ (p : HalfCents). map (executionOf (a .number) (executesAt (buying (a .o)) p) opposite) (takingsBy (a .o) met)) locked-is
+      ∙ takings-executed (a .number) (executesAt (buying (a .o)) (lockedPrice own)) (executionPrice (a .o) met) opposite
+      (executes-at (a .o) met can-walk) (takings (a .o) met)
 
   executed-long : 35 * walk .count ≡ length (eventLines executed)
   executed-long =
-      let by = executionOf (start .args .number) opposite in
+      let by = executionOf (start .args .number) here opposite in
       let ks = takingsIn (walk .count) took in
       let n : length ks ≡ walk .count = ap length (walks .takes) ∙ sym (walks .counts) in
       ap (λ (k : ℕ). 35 * k) (sym n)
-      ∙ (sym (lines-length by 35 (λ k. executed-length (start .args .number) _ (k .price) (k .shares)) ks) ∙ ap (λ (es : List Event). length (eventLines es)) executed-is)
+      ∙ (sym (lines-length by 35 (λ k. executed-length (start .args .number) _ (here (k .price)) (k .shares)) ks)
+      ∙ ap (λ (es : List Event). length (eventLines es)) executed-is)
 
 returns : tie.Need-returns
 unfolding eventLines start own opposite walk took end
 returns c =
     let k = c .before in
     let a = start k .args in
-    let e = ending-is (a .o) (a .number) (a .away) (own k) (opposite k) (walk k .left .0) (end k) (walks k .leaves) (ends k) in
+    let e = ending-is (a .o) (a .number) (met k) (walk k .left .0) (end k) (walks k .leaves) (ends k) in
     let n = length-side (a .n) (now (a .x)) (now (a .own)) in
     let m = length-side (a .m) (now (a .y)) (now (a .opposite)) in
     let f : isFull (end k) (own k) ≡ true = full-more (end k) (own k) (omega (arith, n, start k .pre .0 .fits)) (omega (arith, held k, c .if1 .taken)) in
-    let g : isFull (ending (a .o) (a .away) (opposite k)) (own k) ≡ true = ap (λ (x : Ending). isFull x (own k)) (sym e) ∙ f in
-    rw (refused (a .o) (a .number) (a .away) (own k) (opposite k) g) (
+    let g : isFull (ending (a .o) (met k)) (own k) ≡ true = ap (λ (x : Ending). isFull x (own k)) (sym e) ∙ f in
+    rw (refused (a .o) (a .number) (met k) g) (
       answer-is (sym n) (sym m) refl,
       (holds-shows (a .n) (now (a .x)) (now (a .own)) (start k .pre .0), (holds-shows (a .m) (now (a .y)) (now (a .opposite)) (start k .pre .1), onto-none (now (a .out)))),
     )
@@ -126,33 +182,38 @@ returns c =
 report-requires : tie.Need-report-requires
 unfolding start own opposite walk took end
 report-requires c κs =
-    let k = c .before .before .before .before .before in
-    let p = start k .pre in
-    (p .1, walks k .fits, all-alike (λ (t : Taking) l. omega (arith, l, reached k)) (below k), omega (arith, walks k .fits, p .3))
+    let k = c .before .before .before .before .before .before in
+    let p = start k .pre in (
+      p .1,
+      walks k .fits,
+      all-alike (λ (t : Taking) l. omega (arith, l, reached k)) (below k),
+      omega (arith, walks k .fits, p .3),
+      rw (locked-is k) (can-walk k .lockedBelow),
+    )
 
 take-off-requires : tie.Need-take-off-requires
 unfolding start own opposite walk took end
 take-off-requires c κs =
-    let k = c .before .before .before .before .before .before .before .before .before .before .before in
+    let k = c .before .before .before .before .before .before .before .before .before .before .before .before in
     let p = start k .pre in
-    (p .1, reached k, walks k .fits, below k, all-keep (all-alike (λ h w. w .holds) (p .2 .workable)))
+    (p .1, reached k, walks k .fits, below k, all-keep (all-alike (λ h w. w .holds) (can-walk k .workable)))
 
 -- what the walk leaves of the opposite side
 module _ (c : tie.After-take-off) where
   abbrev known : tie.After-places-after
-  known = c .before .before .before .before .before .before .before .before .before .before .before .before
+  known = c .before .before .before .before .before .before .before .before .before .before .before .before .before
 
   abbrev given : List ℕ
-  given = takings (start known .args .o) (start known .args .away) (opposite known)
+  given = takings (start known .args .o) (met known)
 
   keep-all : every keeps (opposite known) ≡ true
   unfolding start opposite
-  keep-all = all-keep (all-alike (λ h w. w .holds) (start known .pre .2 .workable))
+  keep-all = all-keep (all-alike (λ h w. w .holds) (can-walk known .workable))
 
   orderly : Parts Orderly (opposite known) (takenOf false (holdings (opposite known)) given) (takenOf true (holdings (opposite known)) given)
   orderly =
       parts-alike (λ h t r g. (g .shown, ⊎-elim (λ (l : t < h .shares .0). inr (g .shownFirst l)) (λ (l : h .shares .0 ≤ t). inl (omega (arith, l, g .shown))) (lt-or-le t (h .shares .0))))
-      (takings-give (start known .args .o) (start known .args .away) (opposite known))
+      (takings-give (start known .args .o) (met known))
 
   taken : afterTakings (takingsIn (walk known .count) (took known)) (opposite known) ≡ after (opposite known) given
   taken = ap (λ (ks : List Taking). afterTakings ks (opposite known)) (walks known .takes) ∙ takings-after (opposite known) given orderly
@@ -195,14 +256,14 @@ module _ (c : tie.After-take-off) where
       let unreached : length s - (length (opposite known) - walk known .at) ≡ c .take-off .result - (a .m - walk known .at) = omega (arith, long, stay-is) in
       subst (by (c .take-off .result - (a .m - walk known .at))) (sym stay-side)
       (subst (λ (k : ℕ). by k s) unreached
-      (may-refill (not (buying (a .o))) (a .number) (walk known .at) (below known) (opposite known) given taken (r .oppositeRanked) (r .workable) (r .oppositeOlder)))
+      (may-refill (not (buying (a .o))) (a .number) (walk known .at) (below known) (opposite known) given taken (can-walk known .ranked) (can-walk known .workable) (r .oppositeOlder)))
 
   -- the output after the executions has room for the other lines
-  room-behind : c .before .before .before .before .before .before .report .result + 27 + 27 * c .take-off .result ≤ length (c .before .before .before .before .before .before .report .last .1 .1 .1 .1 .1 .1 .0)
-  unfolding start opposite
+  room-behind : c .before .before .before .before .before .before .report .result + 27 + 27 * c .take-off .result ≤ length (c .before .before .before .before .before .before .report .last .1 .1 .1 .1 .1 .1 .1 .1 .0)
+  unfolding start opposite walk
   room-behind =
       let r = c .before .before .before .before .before .before .report in
-      omega (arith, r .ensures .0, r .kept .1 .1 .1 .1 .1 .1 .0, walks known .fits, start known .pre .3, stay-holds .fits)
+      omega (arith, r .ensures .0, r .kept .1 .1 .1 .1 .1 .1 .1 .1 .0, walks known .fits, start known .pre .3, stay-holds .fits)
 
 sub-reached : tie.Need-sub-reached
 unfolding start opposite walk
@@ -228,12 +289,12 @@ finish-requires c κs =
     let k = known d in
     let p = start k .pre in
     let r = d .before .before .before .before .before .before .report in
-    let x = r .last .1 .1 .1 .1 .1 .1 .0 in
+    let x = r .last .1 .1 .1 .1 .1 .1 .1 .1 .0 in
     let g : 27 + 27 * d .take-off .result ≤ length (take (length x - r .result) (drop (r .result) x)) = simp (length-take, length-drop) (omega (arith, room-behind d)) in (
       p .0,
-      rest-fits (end k) (start k .args .n) (omega (arith, k .places-after .ensures, d .before .before .before .before .before .before .before .before .before .before .before .if1 .left)),
+      rest-fits (end k) (start k .args .n) (omega (arith, k .places-after .ensures, d .before .before .before .before .before .before .before .before .before .before .before .before .if1 .left)),
       record {
-        priced = subst restsBelow (sym (ends k)) (ending-below (start k .args .o) (start k .args .away) (p .2 .limited) (walk k .left .0) (opposite k));
+        priced = subst restsBelow (sym (ends k)) (ending-below (start k .args .o) (start k .args .away) (can-walk k .limited) (walk k .left .0) (own k) (opposite k));
         ranked = p .2 .ownRanked;
         older = p .2 .older;
       },
@@ -255,9 +316,9 @@ module _ (c : tie.After-finish) where
       c .finish .ensures .0
       ∙ ap (λ (s : List Resting). finished (a .number) (walk (known off) .left) (end (known off)) (not (buying (a .o))) s) (stay-side off)
 
-add-t35 : tie.Need-add-t35
+add-t39 : tie.Need-add-t39
 unfolding start own opposite walk took end
-add-t35 c =
+add-t39 c =
     let k = known (off (c .before .before .before)) in
     let a = start k .args in
     let s = after (opposite k) (given (off (c .before .before .before))) in
@@ -291,8 +352,8 @@ returns-2 c =
     let last = lastLine (a .number) left (end k) in
     let s = after (opposite k) (given d) in
     let rest = last ++ told refillFate s in
-    let isRoom : isFull (end k) (own k) ≡ false = full-not (end k) (own k) (omega (arith, held k, d .before .before .before .before .before .before .before .before .before .before .before .if1 .left)) in
-    let is = ended-is (a .o) (a .number) (a .away) (own k) (opposite k) left (end k) (walks k .leaves) (ends k) isRoom in
+    let isRoom : isFull (end k) (own k) ≡ false = full-not (end k) (own k) (omega (arith, held k, d .before .before .before .before .before .before .before .before .before .before .before .before .if1 .left)) in
+    let is = ended-is (a .o) (a .number) (met k) left (end k) (walks k .leaves) (ends k) isRoom in
     let len : r .result ≡ length (eventLines (executed k)) = r .ensures .0 ∙ executed-long k in
     let fin = finish-is (c .before .before .before) in
     let joined : (executed k ++ last) ++ told refillFate s ≡ executed k ++ rest = append-assoc (executed k) last (told refillFate s) in
@@ -304,9 +365,9 @@ returns-2 c =
     let shown : Shows (settledSide (a .number) firstMove (not (buying (a .o))) refillFate s) (f .last .1 .1 .1 .1 .1 .1 .1 .0) (f .last .1 .1 .1 .1 .1 .1 .1 .1 .0) =
     subst (λ (u : List Resting). Shows (settledSide (a .number) firstMove (not (buying (a .o))) refillFate u) (f .last .1 .1 .1 .1 .1 .1 .1 .0) (f .last .1 .1 .1 .1 .1 .1 .1 .1 .0)) (stay-side d)
     (f .ensures .1 .1 .0) in
-    let wrote : r .last .1 .1 .1 .1 .1 .1 .0 ≡ onto (eventLines (executed k)) (now (a .out)) =
+    let wrote : r .last .1 .1 .1 .1 .1 .1 .1 .1 .0 ≡ onto (eventLines (executed k)) (now (a .out)) =
     r .ensures .1 ∙ ap (λ (es : List Event). onto (eventLines es) (now (a .out))) (executed-is k) in
-    let x = r .last .1 .1 .1 .1 .1 .1 .0 in
+    let x = r .last .1 .1 .1 .1 .1 .1 .1 .1 .0 in
     let more : f .last .1 .1 .1 .1 .1 .1 .1 .1 .1 .1 .1 .0 ≡ onto (eventLines rest) (take (length x - r .result) (drop (r .result) x)) =
     f .ensures .1 .1 .1
     ∙ ap (λ (u : List Resting). onto (eventLines (last ++ told refillFate u)) (take (length x - r .result) (drop (r .result) x))) (stay-side d) in
@@ -322,6 +383,8 @@ pub match-order-spec : {M : Type 1} → statement M
 match-order-spec =
     tie.close
     (tie.spec
+    locked-price-requires
+    bound-under-requires
     walk-of-requires
     ending-of-requires
     places-after-requires
@@ -334,6 +397,6 @@ match-order-spec =
     part-finish-start
     part-finish-end
     finish-requires
-    add-t35
+    add-t39
     same-length
     returns-2)

@@ -2,7 +2,7 @@
 use mathlib.Core.Bool.{true, false}
 use mathlib.Core.Path.{_≡_, sym, _∙_}
 use borrow.Author.Needs.{needs}
-use Rattle.kinds.specs.Kinds.{priceInRange}
+use Rattle.kinds.specs.Kinds.{restingPriceInRange}
 use Rattle.rules.specs.Instructions.{has, cancelBack}
 use Rattle.orders.proofs.pricing.adjust.Statement.{statement}
 use Rattle.orders.proofs.pricing.adjust.Tie as tie
@@ -22,14 +22,14 @@ returns-2 : tie.Need-returns-2
 returns-2 c =
     let a = c .before .before .before .before .args in
     let h : has (a .o .word) cancelBack ≡ false = sym (c .before .before .before .has .ensures) ∙ c .before .before .if1 .left in
-    let r : priceInRange (a .price) ≡ true = sym (c .before .in-range .ensures) ∙ c .if2 .taken in
+    let r : restingPriceInRange (a .price) ≡ true = sym (c .before .in-range .ensures) ∙ c .if2 .taken in
     rw (h, r)
 
 returns-3 : tie.Need-returns-3
 returns-3 c =
     let a = c .before .before .before .before .args in
     let h : has (a .o .word) cancelBack ≡ false = sym (c .before .before .before .has .ensures) ∙ c .before .before .if1 .left in
-    let r : priceInRange (a .price) ≡ false = sym (c .before .in-range .ensures) ∙ c .if2 .left in
+    let r : restingPriceInRange (a .price) ≡ false = sym (c .before .in-range .ensures) ∙ c .if2 .left in
     rw (h, r)
 
 pub adjust-spec : {M : Type 1} → statement M

@@ -9,10 +9,10 @@ use Rattle.orders.proofs.pricing.bound_of.Statement.{statement}
 use Rattle.orders.proofs.pricing.bound_of.Tie as tie
 
 limit-of-requires : tie.Need-limit-of-requires
-limit-of-requires c κs = search needs
+limit-of-requires c κs = c .before .pre .0
 
 locking-price-requires : tie.Need-locking-price-requires
-locking-price-requires c κs = search needs
+locking-price-requires c κs = c .before .before .pre .1
 
 has-requires : tie.Need-has-requires
 has-requires c κs = search needs

@@ -11,11 +11,15 @@ use Rattle.orders.proofs.pricing.limit_of.Tie as tie
 has-requires : tie.Need-has-requires
 has-requires c κs = search needs
 
+in-half-cents-requires : tie.Need-in-half-cents-requires
+in-half-cents-requires c κs = c .before .before .before .pre
+
 returns : tie.Need-returns
 unfolding farthest
 returns c =
-    let h : has (c .before .before .before .args .o .word) market ≡ false = sym (c .before .has .ensures) ∙ not-true _ (c .if1 .taken) in
-    rw h
+    let k = c .before in
+    let h : has (k .before .before .before .args .o .word) market ≡ false = sym (k .before .has .ensures) ∙ not-true _ (k .if1 .taken) in
+    rw h (c .in-half-cents .ensures)
 
 returns-2 : tie.Need-returns-2
 unfolding farthest
@@ -30,4 +34,4 @@ returns-3 c =
     rw (h, ne-eqb _ _ (c .if2 .left))
 
 pub limit-of-spec : {M : Type 1} → statement M
-limit-of-spec = tie.close (tie.spec has-requires returns returns-2 returns-3)
+limit-of-spec = tie.close (tie.spec has-requires in-half-cents-requires returns returns-2 returns-3)

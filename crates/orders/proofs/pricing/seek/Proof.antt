@@ -1,18 +1,23 @@
 -- `orders::pricing::seek` meets its contract: the tests come in the definition's order. Assumes nothing.
-use Prim.Native.Nat.{_<_}
+use Prim.Native.Nat.{_-_, _<_}
 use mathlib.Core.Bool.{true, false, not, _&&_, _||_}
 use mathlib.Core.Path.{_≡_, ap, _∙_}
 use lib.Dec.{eqb}
+use native.Mathlib.Omega.{arith}
 use borrow.Author.Needs.{needs}
 use Rattle.kinds.specs.Kinds.{largest}
+use Rattle.rules.specs.declared.Ending.the-variants.{Rests}
 use Rattle.rules.specs.Instructions.{has, iso, displayed}
-use Rattle.rules.specs.Working.{buying, beyond, lockingPrice, absent, adjusted, oneCentLessAggressive, seeks}
+use Rattle.rules.specs.Working.{buying, beyond, limitOf, lockingPrice, absent, adjusted, oneCentLessAggressive, seeks}
 use Rattle.orders.proofs.pricing.LawsBound.{not-not}
 use Rattle.orders.proofs.pricing.seek.Statement.{statement}
 use Rattle.orders.proofs.pricing.seek.Tie as tie
 
+in-half-cents-requires : tie.Need-in-half-cents-requires
+in-half-cents-requires c κs = c .before .pre .0
+
 locking-price-requires : tie.Need-locking-price-requires
-locking-price-requires c κs = search needs
+locking-price-requires c κs = omega (arith, c .before .before .pre .1)
 
 has-requires : tie.Need-has-requires
 has-requires c κs = search needs
@@ -23,6 +28,9 @@ module _ (c : tie.After-struct-known2) where
       ≡ lockingPrice (buying (c .before .before .before .before .before .args .o)) (c .before .before .before .before .before .args .away)
   locking-is = c .before .before .locking-price .ensures
 
+  limit-is : c .before .before .before .in-half-cents .result ≡ limitOf (c .before .before .before .before .before .args .o)
+  limit-is = c .before .before .before .in-half-cents .ensures
+
   iso-is : c .before .has .result ≡ has (c .before .before .before .before .before .args .o .word) iso
   iso-is = c .before .has .ensures
 
@@ -32,7 +40,7 @@ returns c =
     let k = c .before in
     let a = k .before .before .before .before .before .args in
     let free : (has (a .o .word) iso || absent (lockingPrice (buying (a .o)) (a .away))) ≡ true = rw (iso-is k, locking-is k) at (c .if1 .taken) in
-    rw free
+    rw free (ap Rests (limit-is k))
 
 within-requires : tie.Need-within-requires
 within-requires c κs = search needs
@@ -47,12 +55,13 @@ module _ (c : tie.After-has2) where
   bound-is = let k = c .before .before .before in rw (iso-is k, locking-is k) at (c .before .before .if1 .left)
 
   crosses-is : not (c .before .within .result)
-      ≡ beyond (buying (c .before .before .before .before .before .before .before .before .args .o)) (lockingPrice (buying (c .before .before .before .before .before .before .before .before .args .o)) (c .before .before .before .before .before .before .before .before .args .away)) (c .before .before .before .before .before .before .before .before .args .o .price)
+      ≡ beyond (buying (c .before .before .before .before .before .before .before .before .args .o)) (lockingPrice (buying (c .before .before .before .before .before .before .before .before .args .o)) (c .before .before .before .before .before .before .before .before .args .away))
+      (limitOf (c .before .before .before .before .before .before .before .before .args .o))
   crosses-is =
       let k = c .before .before .before in
       let e = ap not (c .before .within .ensures) in
-      let f = not-not (beyond (buying (k .before .before .before .before .before .args .o)) (k .before .before .locking-price .result) (k .before .before .before .before .before .args .o .price)) in
-      rw (locking-is k) at (e ∙ f)
+      let f = not-not (beyond (buying (k .before .before .before .before .before .args .o)) (k .before .before .locking-price .result) (k .before .before .before .in-half-cents .result)) in
+      rw (locking-is k, limit-is k) at (e ∙ f)
 
   displayed-is : c .has2 .result ≡ has (c .before .before .before .before .before .before .before .before .args .o .word) displayed
   displayed-is = c .has2 .ensures
@@ -60,7 +69,7 @@ module _ (c : tie.After-has2) where
 less-aggressive-requires : tie.Need-less-aggressive-requires
 less-aggressive-requires c κs =
     let k = c .before .before .before .before .before .before in
-    let below : k .before .before .locking-price .result .0 < largest = rw (locking-is k) (k .before .before .before .before .before .pre) in
+    let below : k .before .before .locking-price .result .0 < largest - 1 = rw (locking-is k) (k .before .before .before .before .before .pre .1) in
     below
 
 adjust-requires : tie.Need-adjust-requires
@@ -73,8 +82,8 @@ returns-2 c =
     let k = h .before .before .before in
     let a = k .before .before .before .before .before .args in
     let l = lockingPrice (buying (a .o)) (a .away) in
-    let t : (has (a .o .word) displayed && (eqb (a .o .price .0) (l .0) || beyond (buying (a .o)) l (a .o .price))) ≡ true =
-    rw (displayed-is h, crosses-is h, locking-is k) at (c .before .before .if2 .taken) in
+    let t : (has (a .o .word) displayed && (eqb (limitOf (a .o) .0) (l .0) || beyond (buying (a .o)) l (limitOf (a .o)))) ≡ true =
+    rw (displayed-is h, crosses-is h, locking-is k, limit-is k) at (c .before .before .if2 .taken) in
     rw (bound-is h, t) (c .adjust .ensures ∙ ap (adjusted (a .o)) (c .before .less-aggressive .ensures ∙ ap (oneCentLessAggressive (buying (a .o))) (locking-is k)))
 
 adjust-requires-2 : tie.Need-adjust-requires-2
@@ -87,9 +96,9 @@ returns-3 c =
     let k = h .before .before .before in
     let a = k .before .before .before .before .before .args in
     let l = lockingPrice (buying (a .o)) (a .away) in
-    let t : (has (a .o .word) displayed && (eqb (a .o .price .0) (l .0) || beyond (buying (a .o)) l (a .o .price))) ≡ false =
-    rw (displayed-is h, crosses-is h, locking-is k) at (c .before .before .if2 .left) in
-    let u : (not (has (a .o .word) displayed) && beyond (buying (a .o)) l (a .o .price)) ≡ true =
+    let t : (has (a .o .word) displayed && (eqb (limitOf (a .o) .0) (l .0) || beyond (buying (a .o)) l (limitOf (a .o)))) ≡ false =
+    rw (displayed-is h, crosses-is h, locking-is k, limit-is k) at (c .before .before .if2 .left) in
+    let u : (not (has (a .o .word) displayed) && beyond (buying (a .o)) l (limitOf (a .o))) ≡ true =
     rw (displayed-is h, crosses-is h) at (c .before .if3 .taken) in
     rw (bound-is h, t, u) (c .adjust2 .ensures ∙ ap (adjusted (a .o)) (locking-is k))
 
@@ -100,16 +109,17 @@ returns-4 c =
     let k = h .before .before .before in
     let a = k .before .before .before .before .before .args in
     let l = lockingPrice (buying (a .o)) (a .away) in
-    let t : (has (a .o .word) displayed && (eqb (a .o .price .0) (l .0) || beyond (buying (a .o)) l (a .o .price))) ≡ false =
-    rw (displayed-is h, crosses-is h, locking-is k) at (c .before .if2 .left) in
-    let u : (not (has (a .o .word) displayed) && beyond (buying (a .o)) l (a .o .price)) ≡ false =
+    let t : (has (a .o .word) displayed && (eqb (limitOf (a .o) .0) (l .0) || beyond (buying (a .o)) l (limitOf (a .o)))) ≡ false =
+    rw (displayed-is h, crosses-is h, locking-is k, limit-is k) at (c .before .if2 .left) in
+    let u : (not (has (a .o .word) displayed) && beyond (buying (a .o)) l (limitOf (a .o))) ≡ false =
     rw (displayed-is h, crosses-is h) at (c .if3 .left) in
-    rw (bound-is h, t, u)
+    rw (bound-is h, t, u) (ap Rests (limit-is k))
 
 pub seek-spec : {M : Type 1} → statement M
 seek-spec =
     tie.close
     (tie.spec
+    in-half-cents-requires
     locking-price-requires
     has-requires
     returns

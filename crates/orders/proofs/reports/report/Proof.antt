@@ -2,7 +2,7 @@
 -- Assumes nothing.
 use Prim.Native.Nat.{_*_, _-_, _≤_}
 use mathlib.Core.List.{map}
-use mathlib.Core.Path.{_≡_, refl, _∙_}
+use mathlib.Core.Path.{_≡_, refl, ap, _∙_}
 use lib.ListN.{length, getD, take, drop}
 use lib.Seq.{take-all}
 use native.Mathlib.Omega.{arith}
@@ -13,6 +13,8 @@ use Rattle.side.specs.Table.{side}
 use Rattle.rules.specs.Book.{unused}
 use Rattle.rules.specs.EventLines.{eventLine, eventLines}
 use Rattle.rules.proofs.LawsEvents.{executed-length}
+use Rattle.orders.specs.declared.walk.Taking.{Taking}
+use Rattle.orders.specs.Locks.{executesAt}
 use Rattle.orders.specs.Walk.{mostTakings, takingsIn}
 use Rattle.orders.proofs.walk.LawsTaken.{noTaking, length-takings, taking-read, taking-all}
 use Rattle.orders.specs.Reports.{executionOf}
@@ -21,11 +23,12 @@ use Rattle.orders.proofs.reports.report.Statement.{statement}
 use Rattle.orders.proofs.reports.report.Tie as tie
 
 abbrev Inv-loop : tie.InvT-loop
-Inv-loop x t n took count number out₀ len₀ i₀ out len i =
-    (i ≤ count) × (len ≡ 35 * i) × (length out ≡ length out₀) × (out ≡ onto (eventLines (map (executionOf number (side n x t)) (take i (takingsIn count took)))) out₀)
+Inv-loop x t n took count number buying locked out₀ len₀ i₀ out len i =
+    (i ≤ count) × (len ≡ 35 * i) × (length out ≡ length out₀)
+    × (out ≡ onto (eventLines (map (executionOf number (executesAt buying locked) (side n x t)) (take i (takingsIn count took)))) out₀)
 
 abbrev μ-loop : tie.MeasureT-loop
-μ-loop x t n took count number out₀ len₀ i₀ out len i = count - i
+μ-loop x t n took count number buying locked out₀ len₀ i₀ out len i = count - i
 
 whole-requires : tie.Need-whole-requires Inv-loop μ-loop
 whole-requires c κs = search needs
@@ -43,6 +46,9 @@ at-requires c κs =
     let start = c .before .before .before .before .before in
     let f : length (now (start .args .took)) ≡ mostTakings = c .before .before .before .whole .ensures in
     (start .pre .0, rw (c .taking-at .ensures) (taking-all (start .args .count) (now (start .args .took)) (omega arith) (l .i) (omega arith) (start .pre .2)))
+
+execution-price-requires : tie.Need-execution-price-requires Inv-loop μ-loop
+execution-price-requires c κs = search needs
 
 sub-write-executed : tie.Need-sub-write-executed Inv-loop μ-loop
 sub-write-executed c = search needs
@@ -68,7 +74,7 @@ loop-less c = search needs
 loop-again : tie.Need-loop-again Inv-loop μ-loop
 loop-again c =
     let w = c .before .before .write-executed in
-    let there = c .before .before .before .before in
+    let there = c .before .before .before .before .before in
     let read = there .before in
     let l = read .before .before .loop in
     let start = read .before .before .before .before .before in
@@ -82,12 +88,16 @@ loop-again c =
     let n : w .result ≡ 35 = w .ensures .0 in
     let e : read .taking-at .result ≡ k = read .taking-at .ensures ∙ taking-read (a .count) (now (a .took)) room (l .i) (omega arith) in
     let o : there .at .result ≡ getD s (k .place) unused = there .at .ensures ∙ rw e in
-    let p : w .last .0 ≡ onto (eventLine (executionOf (a .number) s k)) (take (length (l .out) - l .len) (drop (l .len) (l .out))) =
-    w .ensures .1 ∙ rw (e, o) in (
+    let here = executesAt (a .buying) (a .locked) in
+    let q : c .before .before .before .before .execution-price .result ≡ here (k .price) =
+    c .before .before .before .before .execution-price .ensures ∙ ap (λ (t : Taking). here (t .price)) e in
+    let p : w .last .0 ≡ onto (eventLine (executionOf (a .number) here s k)) (take (length (l .out) - l .len) (drop (l .len) (l .out))) =
+    w .ensures .1 ∙ rw (e, o, q) in (
       omega arith,
       omega arith,
       search needs,
-      lines-turn (executionOf (a .number) s) 35 (λ k. executed-length (a .number) (getD s (k .place) unused .number) (k .price) (k .shares))
+      lines-turn (executionOf (a .number) here s) 35
+          (λ k. executed-length (a .number) (getD s (k .place) unused .number) (here (k .price)) (k .shares))
           noTaking ks (l .i) (omega arith) (l .len) (l .out) (now (a .out)) (w .last .0) (l .inv .1) (l .inv .3) p,
     )
 
@@ -113,6 +123,7 @@ report-spec =
     loop-holds
     taking-at-requires
     at-requires
+    execution-price-requires
     sub-write-executed
     part-write-executed-start
     part-write-executed-end

@@ -13,14 +13,14 @@ use Rattle.orders.proofs.work.ending_of.Tie as tie
 
 returns : tie.Need-returns
 unfolding endingWith
-returns c = rw (eq-eqb _ _ (c .if1 .taken))
+returns c own = rw (eq-eqb _ _ (c .if1 .taken))
 
 has-requires : tie.Need-has-requires
 has-requires c κs = search needs
 
 returns-2 : tie.Need-returns-2
 unfolding endingWith
-returns-2 c =
+returns-2 c own =
     let kill : has (c .before .before .before .before .args .o .word) fok ≡ true = sym (c .before .has .ensures) ∙ c .if2 .taken in
     rw (ne-eqb _ _ (c .before .before .if1 .left), kill)
 
@@ -34,7 +34,7 @@ module _ (c : tie.Else2) where
 
 returns-3 : tie.Need-returns-3
 unfolding endingWith
-returns-3 c =
+returns-3 c own =
     let e = c .before .before in
     let now-or-never : has (e .before .before .before .before .args .o .word) ioc ≡ true = sym (c .before .has2 .ensures) ∙ c .if3 .taken in
     rw (ne-eqb _ _ (e .before .before .if1 .left), not-fok e, now-or-never)
@@ -52,7 +52,7 @@ module _ (c : tie.Else3) where
 
 returns-4 : tie.Need-returns-4
 unfolding endingWith
-returns-4 c =
+returns-4 c own =
     let d = c .before .before .before in
     let e = d .before .before in
     let a = e .before .before .before .before .args in
@@ -68,7 +68,7 @@ unless-meets-requires c κs =
 
 returns-5 : tie.Need-returns-5
 unfolding endingWith
-returns-5 c =
+returns-5 c own =
     let d = c .before .before .before .before in
     let e = d .before .before in
     let a = e .before .before .before .before .args in

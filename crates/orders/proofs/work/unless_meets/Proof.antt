@@ -3,8 +3,9 @@ use mathlib.Core.Bool.{true, false}
 use mathlib.Core.Path.{_≡_, sym, _∙_}
 use borrow.Author.Needs.{needs}
 use denote.Ref.{now}
+use Rattle.basics.specs.Lists.{any}
 use Rattle.side.specs.Table.{side}
-use Rattle.rules.specs.Working.{buying, equalsOrPasses}
+use Rattle.rules.specs.Working.{buying, meetsOrPasses}
 use Rattle.orders.proofs.work.unless_meets.Statement.{statement}
 use Rattle.orders.proofs.work.unless_meets.Tie as tie
 
@@ -25,7 +26,7 @@ returns c =
     let start = c .before .before .before .before .before .before in
     let a = start .args in
     let price = c .before .before .before .before .end2 .given .0 .0 in
-    let m : equalsOrPasses (buying (a .o)) price (side (a .n) (now (a .x)) (now (a .t))) ≡ true = sym (c .before .meets .ensures) ∙ c .if1 .taken in
+    let m : any (meetsOrPasses (buying (a .o)) price) (side (a .n) (now (a .x)) (now (a .t))) ≡ true = sym (c .before .meets .ensures) ∙ c .if1 .taken in
     rw (c .before .before .before .before .end2 .given .1, start .pre .2, m)
 
 returns-2 : tie.Need-returns-2
@@ -39,7 +40,7 @@ returns-4 c =
     let start = c .before .before .before .before .before .before in
     let a = start .args in
     let price = c .before .before .before .before .end2 .given .0 .0 in
-    let m : equalsOrPasses (buying (a .o)) price (side (a .n) (now (a .x)) (now (a .t))) ≡ false = sym (c .before .meets .ensures) ∙ c .if1 .left in
+    let m : any (meetsOrPasses (buying (a .o)) price) (side (a .n) (now (a .x)) (now (a .t))) ≡ false = sym (c .before .meets .ensures) ∙ c .if1 .left in
     rw (c .before .before .before .before .end2 .given .1, start .pre .2, m)
 
 pub unless-meets-spec : {M : Type 1} → statement M

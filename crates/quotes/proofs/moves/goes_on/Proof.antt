@@ -10,7 +10,7 @@ use borrow.Author.Needs.{needs}
 use borrow.Author.Tests.{leb-true, leb-false, le-ltb, lt-ltb}
 use denote.Ref.{now}
 use Rattle.basics.proofs.LawsChoice.{holds-or-not, or-neither, and-none}
-use Rattle.kinds.specs.declared.Cents.{Cents}
+use Rattle.kinds.specs.declared.HalfCents.{HalfCents}
 use Rattle.side.specs.Table.{side}
 use Rattle.side.proofs.rows.LawsShown.{length-side}
 use Rattle.rules.specs.declared.Resting.{Resting}
@@ -21,7 +21,7 @@ use Rattle.quotes.proofs.moves.goes_on.Statement.{statement}
 use Rattle.quotes.proofs.moves.goes_on.Tie as tie
 
 -- no order is there, or no Locking Price; or both are
-module _ (buy : Bool) (locking : Cents) (n at : ℕ) (s : List Resting) (long : length s ≡ n) where
+module _ (buy : Bool) (locking : HalfCents) (n at : ℕ) (s : List Resting) (long : length s ≡ n) where
   stops : (leb n at || absent locking) ≡ true → goesOn buy locking at s ≡ false
   stops h =
       rw long

@@ -17,7 +17,7 @@ use Rattle.basics.specs.Choice.{if_then_else_}
 use Rattle.basics.specs.Lists.{All, none, also}
 use Rattle.basics.proofs.LawsChoice.{holds-or-not, by-choice, and-left, and-right, and-none}
 use Rattle.basics.proofs.LawsLists.{all-alike, all-at, all-both, each-there}
-use Rattle.kinds.specs.declared.Cents.{Cents}
+use Rattle.kinds.specs.declared.HalfCents.{HalfCents}
 use Rattle.side.specs.Table.{side, Holds}
 use Rattle.side.proofs.rows.LawsShown.{length-side}
 use Rattle.rules.specs.declared.Fate.{Fate}
@@ -42,14 +42,14 @@ use Rattle.quotes.proofs.moves.move_side.Tie as tie
 -- ── The fates that a moved quote gives ──
 
 -- by the Locking Price alone, which is all that the loop knows of the quote
-abbrev quoted : Bool → Cents → Resting → Fate
+abbrev quoted : Bool → HalfCents → Resting → Fate
 quoted buy locking h = if not (not (h .displayed) && not (absent locking) && beyond buy locking (h .price)) then Stays else fateAt locking h
 
-no-better : (b : Bool) (p q r : Cents) → better b q p ≡ false → better b p r ≡ false → better b q r ≡ false
+no-better : (b : Bool) (p q r : HalfCents) → better b q p ≡ false → better b p r ≡ false → better b q r ≡ false
 no-better true p q r a c = le-ltb (r .0) (q .0) (omega (arith, ltb-false (p .0) (q .0) a, ltb-false (r .0) (p .0) c))
 no-better false p q r a c = le-ltb (q .0) (r .0) (omega (arith, ltb-false (q .0) (p .0) a, ltb-false (p .0) (r .0) c))
 
-module _ (buy : Bool) (locking : Cents) where
+module _ (buy : Bool) (locking : HalfCents) where
   displayed-stays : (h : Resting) → h .displayed ≡ true → quoted buy locking h ≡ Stays
   displayed-stays h d = rw d
 
@@ -104,7 +104,7 @@ module _ (buy : Bool) (locking : Cents) where
         (holds-or-not (absent locking))
 
 -- each of them has a line
-told-once : (locking : Cents) (h : Resting) → length (toldBy (fateAt locking h) h) ≡ 1
+told-once : (locking : HalfCents) (h : Resting) → length (toldBy (fateAt locking h) h) ≡ 1
 told-once locking h = by-choice (λ (f : Fate). length (toldBy f h) ≡ 1) (h .back) (λ b. refl) (λ b. refl)
 
 -- ── The loop ──
@@ -141,7 +141,7 @@ module _ (c : tie.After-at-arg2 Inv-loop μ-loop) where
   abbrev buying : Bool
   buying = here .before .before .before .args .buying
 
-  abbrev locking : Cents
+  abbrev locking : HalfCents
   locking = here .before .locking-price .result
 
   abbrev left : List Resting
@@ -203,7 +203,7 @@ settle-requires c κs =
     let o = k .at .result in
     let q : locking b ≡ lockingPrice (a .buying) (a .away) = here b .before .locking-price .ensures in
     let s = side (a .n) (now (a .x)) (now (a .t)) in
-    let room = subst (λ (l : Cents). length (eventLines (told (quoted (a .buying) l) s)) ≤ length (now (a .out))) (sym q) (p .3) in
+    let room = subst (λ (l : HalfCents). length (eventLines (told (quoted (a .buying) l) s)) ≤ length (now (a .out))) (sym q) (p .3) in
     let fits = room-now (i .1) (below b) o (order-is k) (i .2) (set-stays (a .buying) (locking b) o _) in
     rw (fate-is (c .before)) (
       i .0,
@@ -212,7 +212,7 @@ settle-requires c κs =
       omega (arith, fits, room, i .3),
       omega (arith, next-fits (i .1), length-side (a .n) (now (a .x)) (now (a .t)), p .2),
       subst Countable (sym (order-is k)) (all-at unused (here b .loop .at) (i .4) (below b)),
-      (set-below (a .buying) (locking b) (omega (arith, p .4 .0, ap (λ (l : Cents). l .0) q)) o, older-others (i .1) (below b) o (order-is k)),
+      (set-below (a .buying) (locking b) (omega (arith, p .4 .0, ap (λ (l : HalfCents). l .0) q)) o, older-others (i .1) (below b) o (order-is k)),
     )
 
 -- what that leaves
@@ -240,7 +240,7 @@ module _ (c : tie.After-settle Inv-loop μ-loop) where
       let o = read .at .result in
       let f = c .before .before .fate-beyond .result in
       let left = settle-leaves (here b .loop .m) (here b .loop .x) (here b .loop .t) (i .0) (i .1) (i .2) (below-held b) o (order-is read) f (fate-is (c .before .before))
-      (set-stays (a .buying) (locking b) o _) (set-below (a .buying) (locking b) (omega (arith, p .4 .0, ap (λ (l : Cents). l .0) q)) o)
+      (set-stays (a .buying) (locking b) o _) (set-below (a .buying) (locking b) (omega (arith, p .4 .0, ap (λ (l : HalfCents). l .0) q)) o)
       (c .settle .result) (c .settle .last .0) (c .settle .last .1 .0) _ (c .settle .ensures .0) (c .settle .ensures .1 .0) (c .settle .ensures .1 .1) in
       let once = ap (λ (g : Fate). length (toldBy g o)) (c .before .before .fate-beyond .ensures) ∙ told-once (locking b) o in
       let number = a .number in
@@ -271,7 +271,7 @@ returns c =
     let s₀ = side (a .n) (now (a .x)) (now (a .t)) in
     let stops : goesOn (a .buying) locking (l .at) s ≡ false = sym (c .before .goes-on .ensures) ∙ c .if1 .left in
     let q : locking ≡ lockingPrice (a .buying) (a .away) = c .before .before .before .before .before .locking-price .ensures in
-    subst (λ (p : Cents). IsSettled (quoted (a .buying) p) (a .number) (a .buying) (a .first) s₀ (now (a .out)) (l .m) (l .x) (l .t) (l .out)) q
+    subst (λ (p : HalfCents). IsSettled (quoted (a .buying) p) (a .number) (a .buying) (a .first) s₀ (now (a .out)) (l .m) (l .x) (l .t) (l .out)) q
     (settled-all (l .m) (l .x) (l .t) (l .inv .0) (l .inv .1) (stops-all (a .buying) locking (l .at) s stops (l .inv .1 .ranked) (l .inv .2)))
 
 pub move-side-spec : {M : Type 1} → statement M
