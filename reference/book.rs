@@ -1,4 +1,4 @@
-//! The order book of paper 01 with requests W2, W4, W5 and W6 of paper 02: command lines read,
+//! The order book of paper 01 with requests W2 and W4 to W7 of paper 02: command lines read,
 //! orders worked, shown parts refilled, hidden orders moved by a quote, event lines written.
 //!
 //! Shared by `ordinary.rs` (the program) and `days.rs` (the generator of test days).
@@ -61,6 +61,7 @@ pub enum Reason {
     NoPriceInRange = 5,
     PostOnlyMeets = 6,
     Close = 7,
+    MeetsTheBook = 8,
 }
 
 /// A price in half cents, as records and event lines count it. The prices of commands and away
@@ -123,8 +124,18 @@ pub struct Order {
     /// In cents.
     pub price: u32,
     pub shares: u32,
-    /// Kind 05 has one, kind 01 has none.
-    pub max_floor: Option<u32>,
+    pub extra: Extra,
+}
+
+/// What the line of an order carries after the shares.
+#[derive(Clone, Copy, PartialEq, Eq, Debug)]
+pub enum Extra {
+    /// Kind 01.
+    Nothing,
+    /// Kind 05.
+    MaxFloor(u32),
+    /// Kind 06.
+    Minimum(u32),
 }
 
 /// A resting order. `rank` holds price, display and stamp, and the lower rank is first.
@@ -140,8 +151,9 @@ pub struct Resting {
     pub shown: u32,
     /// The shares that stand behind every other order at that price.
     pub reserve: u32,
-    /// 0 for an order of kind 01.
-    pub max_floor: u32,
+    /// Of a displayed order the Max Floor, of a hidden one the minimum, 0 for none. One field for
+    /// both keeps the record at 32 bytes; 40 were tried, and days took 4% to 10% longer.
+    extra: u32,
     pub hidden: bool,
     pub cancel_back: bool,
 }
@@ -150,6 +162,17 @@ impl Resting {
     /// Both parts.
     pub fn shares(&self) -> u32 {
         self.shown + self.reserve
+    }
+
+    /// The least size of an execution, 0 if it asks for none. It may be more than what is left of
+    /// the order, and then what is left is the least.
+    pub fn minimum(&self) -> u32 {
+        if self.hidden { self.extra } else { 0 }
+    }
+
+    /// Whether a walk with so many shares left skips it.
+    fn is_skipped(&self, left: u32) -> bool {
+        left < self.shown && left < self.minimum()
     }
 }
 
@@ -168,6 +191,7 @@ const STAMP_BITS: u32 = PLACE_BITS + 32;
 const _: () = assert!(2 * PLACES < 1 << PLACE_BITS, "the moves of one quote must fit the place");
 const _: () = assert!((HalfCents::MAX.0 as u64) < 1 << (63 - STAMP_BITS), "a price must fit the rank");
 
+#[derive(Clone)]
 pub struct Book {
     pub last_number: u32,
     pub last_time: u32,
@@ -264,26 +288,29 @@ impl Book {
             (true, false) => HalfCents(0),
         };
 
-        // 1. The walk, for its remainder alone. It ends at the first order it may not touch. Both
-        //    holdings of an order stand at one price, so neither is barred where the other is not.
-        let mut remainder = order.shares;
-        let mut lock = None;
+        // 1. The walk, for what it leaves alone.
+        let mut walk = Walk { remainder: order.shares, skipped: None };
+        let mut locked = None;
         if word & POST_ONLY == 0 {
             let bound = match (locking, BUY) {
                 (Some(locking), true) if word & ISO == 0 => limit.min(locking),
                 (Some(locking), false) if word & ISO == 0 => limit.max(locking),
                 _ => limit,
             };
-            lock = lock_price::<BUY>(own, opposite);
+            locked = locked_price(own, opposite);
             // Where the lock bars it, it reaches nothing behind either: that is a cent further.
-            let barred = lock.is_some_and(|price| !reaches::<BUY>(bound, price));
-            for resting in opposite.iter().rev() {
-                if remainder == 0 || barred || !reaches::<BUY>(bound, resting.price) {
-                    break;
+            if locked.is_none_or(|price| reaches::<BUY>(bound, price.half_cent_beyond::<BUY>())) {
+                walk = walk_along::<BUY>(opposite, bound, order.shares);
+            }
+            if let Extra::Minimum(minimum) = order.extra {
+                if order.shares - walk.remainder < minimum {
+                    // It executes nothing: as if it had skipped them all.
+                    let best = opposite.last().map(|best| best.price);
+                    walk = Walk { remainder: order.shares, skipped: best };
                 }
-                remainder -= remainder.min(resting.shares());
             }
         }
+        let Walk { remainder, skipped } = walk;
 
         // What becomes of the remainder: the price at which it rests, or the reason of its cancel.
         let mut fate = Ok(limit);
@@ -303,6 +330,12 @@ impl Book {
                     if word & POST_ONLY != 0 && meets::<BUY>(price, opposite) {
                         // 5. Post Only meets a displayed order or would pass a hidden one.
                         fate = Err(Reason::PostOnlyMeets);
+                    } else if skipped.is_some_and(|best| reaches::<BUY>(price, best))
+                        && locked != Some(price)
+                    {
+                        // It would equal or pass what the walk left, and not at the locked price. Nothing
+                        // there is better than that, so a price saved equals and does not pass.
+                        fate = Err(Reason::MeetsTheBook);
                     } else if own.len() == PLACES {
                         return Err(Refusal::SideFull);
                     }
@@ -312,6 +345,7 @@ impl Book {
 
         // Executions come first, then at most one rested or cancelled line, then the refills.
         let executed = order.shares - remainder;
+        let lock = locked.map(|price| price.half_cent_beyond::<BUY>());
         let due = if executed > 0 { execute(opposite, lock, number, executed, events) } else { 0 };
         if remainder > 0 {
             match fate {
@@ -320,11 +354,14 @@ impl Book {
                     let hidden = word & NON_DISPLAYED != 0;
                     let cancel_back = word & CANCEL_BACK != 0;
                     let rank = rank::<BUY>(price, hidden, Stamp { command: number, place: 0 });
-                    let shown = order.max_floor.unwrap_or(remainder).min(remainder);
+                    let (shown, extra) = match order.extra {
+                        Extra::Nothing => (remainder, 0),
+                        Extra::MaxFloor(max_floor) => (max_floor.min(remainder), max_floor),
+                        Extra::Minimum(minimum) => (remainder, minimum),
+                    };
                     let reserve = remainder - shown;
-                    let max_floor = order.max_floor.unwrap_or(0);
                     let resting =
-                        Resting { rank, number, price, shown, reserve, max_floor, hidden, cancel_back };
+                        Resting { rank, number, price, shown, reserve, extra, hidden, cancel_back };
                     put_in(own, resting);
                     write_rested(events, number, price, remainder);
                 }
@@ -367,13 +404,51 @@ fn reaches<const BUY: bool>(bound: HalfCents, price: HalfCents) -> bool {
     if BUY { price <= bound } else { price >= bound }
 }
 
-/// If a displayed order of the incoming order's own side locks hidden ones of the opposite side:
-/// the price at which those execute, half a cent beyond their own. Nothing crosses, so a lock is at
+/// What a walk leaves: of the incoming order, and of the opposite side the best price at which it
+/// has skipped an order. Where it has skipped none but has shares left, no order that it may touch
+/// is left.
+struct Walk {
+    remainder: u32,
+    skipped: Option<HalfCents>,
+}
+
+/// Walks the opposite side in rank order. The walk ends at the first order it may not touch, one
+/// beyond the bound; both holdings of an order stand at one price, so neither is beyond it where
+/// the other is not.
+fn walk_along<const BUY: bool>(opposite: &[Resting], bound: HalfCents, shares: u32) -> Walk {
+    let mut left = shares;
+    let mut skipped = None;
+    let mut price = None;
+    let mut reserves = 0; // those that stand behind every order at this price
+    for resting in opposite.iter().rev() {
+        if price != Some(resting.price) {
+            left -= left.min(reserves);
+            reserves = 0;
+            if !reaches::<BUY>(bound, resting.price) {
+                break;
+            }
+            price = Some(resting.price);
+        }
+        if left == 0 {
+            break;
+        }
+        if resting.is_skipped(left) {
+            skipped = skipped.or(price);
+        } else {
+            left -= left.min(resting.shown);
+            reserves += resting.reserve;
+        }
+    }
+    Walk { remainder: left - left.min(reserves), skipped }
+}
+
+/// The price at which a displayed order of the incoming order's own side locks hidden ones of the
+/// opposite side, if one does; those execute half a cent beyond it. Nothing crosses, so a lock is at
 /// the best price of both sides; displayed ranks before hidden and never meets displayed, so it
 /// shows in the best order of each, and all of the opposite side at that price are hidden.
-fn lock_price<const BUY: bool>(own: &[Resting], opposite: &[Resting]) -> Option<HalfCents> {
+fn locked_price(own: &[Resting], opposite: &[Resting]) -> Option<HalfCents> {
     let (own, opposite) = (own.last()?, opposite.last()?);
-    (own.price == opposite.price && !own.hidden).then(|| opposite.price.half_cent_beyond::<BUY>())
+    (own.price == opposite.price && !own.hidden).then_some(own.price)
 }
 
 /// Whether Post Only at that price meets a displayed order of the opposite side, at it or past it,
@@ -407,9 +482,11 @@ fn put_in(side: &mut Vec<Resting>, order: Resting) {
 
 /// Executes `left` shares, which the walk found there: price after price, shown parts and hidden
 /// orders by rank and then the reserves in the same order, a line for each holding that gives. The
-/// best price executes at that of the lock, if there is one, and every other at itself.
+/// best price executes at that of the lock, if there is one, and every other at itself. The same
+/// orders are skipped as in the walk: with fewer left than there a skipped one still is, and one
+/// that gave all it had finds that much here too.
 /// Orders taken whole leave. Gives how many of the others have their shown part used up: a refill
-/// is due to each, and they are the best of the side.
+/// is due to each.
 fn execute(
     side: &mut Vec<Resting>,
     mut lock: Option<HalfCents>,
@@ -417,17 +494,19 @@ fn execute(
     mut left: u32,
     events: &mut Vec<u8>,
 ) -> usize {
-    let mut due = 0;
+    // The orders met are those from `met` on.
+    let mut met = side.len();
     while left > 0 {
-        let end = side.len();
+        let end = met;
         let price = side[end - 1].price;
         let true_price = lock.take().unwrap_or(price);
-        // The orders met at this price are those from `met` on.
-        let mut met = end;
         let mut reserve = 0;
         while left > 0 && met > 0 && side[met - 1].price == price {
             met -= 1;
             let resting = &mut side[met];
+            if resting.is_skipped(left) {
+                continue;
+            }
             let given = left.min(resting.shown);
             left -= given;
             resting.shown -= given;
@@ -435,7 +514,7 @@ fn execute(
             write_execution(events, incoming, resting.number, true_price, given);
         }
         if reserve > 0 {
-            for resting in side[met..].iter_mut().rev() {
+            for resting in side[met..end].iter_mut().rev() {
                 let given = left.min(resting.reserve);
                 if given > 0 {
                     left -= given;
@@ -444,29 +523,32 @@ fn execute(
                 }
             }
         }
-        let mut kept = met;
-        for place in met..end {
-            let resting = side[place];
-            if resting.shares() > 0 {
-                due += (resting.shown == 0) as usize;
-                side[kept] = resting;
-                kept += 1;
-            }
-        }
-        side.truncate(kept);
     }
+    let mut due = 0;
+    let mut kept = met;
+    for place in met..side.len() {
+        let resting = side[place];
+        if resting.shares() > 0 {
+            due += (resting.shown == 0) as usize;
+            side[kept] = resting;
+            kept += 1;
+        }
+    }
+    side.truncate(kept);
     due
 }
 
-/// Refills the shown parts of the `due` best orders of a side, the best first. With its new stamp
-/// each comes to stand behind every displayed order at its price, also behind those still due.
+/// Refills the shown parts of the `due` orders of a side that have theirs used up, the best first:
+/// only skipped orders at better prices stand before it. With its new stamp each comes to stand
+/// behind every displayed order at its price, also behind those still due.
 fn refill(side: &mut Vec<Resting>, due: usize, command: u32, events: &mut Vec<u8>) {
     let mut stamp = Stamp { command, place: 0 };
     for _ in 0..due {
-        let mut order = side.pop().expect("an order due is the best of its side");
+        let place = side.iter().rposition(|resting| resting.shown == 0).expect("one is still due");
+        let mut order = side.remove(place);
         stamp.place += 1;
         order.rank = with_stamp(order.rank, stamp);
-        order.shown = order.max_floor.min(order.reserve);
+        order.shown = order.extra.min(order.reserve); // the Max Floor: it has a reserve
         order.reserve -= order.shown;
         write_moved(events, order.number, order.price, order.shown);
         put_in(side, order);
@@ -543,14 +625,21 @@ fn is_away_price(cents: u32) -> bool {
 /// Refusals 8 and 9 of an order.
 #[inline]
 fn check_order(order: &Order) -> Result<(), Refusal> {
-    if !is_lawful(order.word) || (order.word & RESERVE != 0) != order.max_floor.is_some() {
+    let word = order.word;
+    let (suits_the_kind, extra) = match order.extra {
+        Extra::Nothing => (word & RESERVE == 0, 1),
+        Extra::MaxFloor(max_floor) => (word & RESERVE != 0, max_floor),
+        Extra::Minimum(minimum) => (word & (RESERVE | DISPLAYED) == 0, minimum),
+    };
+    if !is_lawful(word) || !suits_the_kind {
         return Err(Refusal::UnlawfulWord);
     }
-    let priced_well = if order.word & MARKET != 0 { order.price == 0 } else { is_price(order.price) };
+    let priced_well = if word & MARKET != 0 { order.price == 0 } else { is_price(order.price) };
     if order.side > 1 || !(1..=MAX_SHARES).contains(&order.shares) || !priced_well {
         return Err(Refusal::FieldOutOfRange);
     }
-    if order.max_floor.is_some_and(|max_floor| !(1..=order.shares).contains(&max_floor)) {
+    // Both go from 1 to the order's shares.
+    if !(1..=order.shares).contains(&extra) {
         return Err(Refusal::FieldOutOfRange);
     }
     Ok(())
@@ -600,19 +689,22 @@ pub fn read_command(input: &[u8]) -> Option<(Command, usize)> {
     let time = read_field(header, 10)?;
     let body = &input[18..];
     let (body, digits) = match header[1] {
-        kind @ (b'1' | b'5') => {
-            let fields: &[u8; 23] = body.first_chunk()?; // those that both kinds have
+        kind @ (b'1' | b'5' | b'6') => {
+            let fields: &[u8; 23] = body.first_chunk()?; // those that all three kinds have
             // Side and word are six digits; the reader takes eight, the first two set to 0.
             let short = [b'0', b'0', fields[0], fields[1], fields[2], fields[3], fields[4], fields[5]];
             let side_and_word = read_field(&short, 0)?;
-            let (max_floor, digits) =
-                if kind == b'5' { (Some(read_field(body, 22)?), 30) } else { (None, 22) };
+            let (extra, digits) = match kind {
+                b'1' => (Extra::Nothing, 22),
+                b'5' => (Extra::MaxFloor(read_field(body, 22)?), 30),
+                _ => (Extra::Minimum(read_field(body, 22)?), 30),
+            };
             let order = Order {
                 side: (side_and_word >> 16) as u8,
                 word: side_and_word as u16,
                 price: read_field(fields, 6)?,
                 shares: read_field(fields, 14)?,
-                max_floor,
+                extra,
             };
             (Body::Order(order), digits)
         }
@@ -694,6 +786,6 @@ fn write_cancelled(events: &mut Vec<u8>, number: u32, shares: u32, reason: Reaso
     let mut line = *b"13----------------0-\n";
     line[2..10].copy_from_slice(&field_digits(number));
     line[10..18].copy_from_slice(&field_digits(shares));
-    line[19] = b'0' + reason as u8; // reasons are 1 to 7
+    line[19] = b'0' + reason as u8; // reasons are 1 to 8
     events.extend_from_slice(&line);
 }

@@ -20,8 +20,14 @@
 //!             orders against them at the lock, one cent beyond it and further, away quotes at it
 //!             and beside it, orders that join it and cancels that end it; prices are often at the
 //!             ends of the range, so executions come half a cent outside it; seldom, full sides
-//!   short     a few lines (at most 12, and at most LINES) of one of the kinds above
-//! The last line is the close in all but the nasty days.
+//!   minimum   hidden orders with a minimum of any size at few prices, on some stretches full sides
+//!             of them, and orders into them at or beside what a minimum asks for, many with a
+//!             minimum themselves at or beside what the walk gives: skips, walks undone, remainders
+//!             that meet what was skipped; quotes, Post Only, reserve and locks beside them
+//!   short     a few lines (at most 12, and at most LINES) of one of the kinds above; of those kinds
+//!             that have no minimums of their own, one day in three has some
+//! Minimums come in the kinds nasty, minimum and short alone. The last line is the close in all but
+//! the nasty days.
 //!
 //! The generator works each line on a book of its own (`book.rs`), so it knows what rests,
 //! which number comes next and which commands were refused.
@@ -57,7 +63,7 @@ fn main() -> ExitCode {
     let arguments: Vec<String> = std::env::args().skip(1).collect();
     let Some((kind, seed, lines)) = read_arguments(&arguments) else {
         eprintln!("usage: days plain SEED LINES [DEPTH]");
-        eprintln!("       days nasty|full|crossing|moving|reserve|locks|short SEED LINES");
+        eprintln!("       days nasty|full|crossing|moving|reserve|locks|minimum|short SEED LINES");
         eprintln!("DEPTH is 1 to {PLACES}, or else {DEPTH}.");
         return ExitCode::from(2);
     };
@@ -81,6 +87,7 @@ enum Kind {
     Moving,
     Reserve,
     Locks,
+    Minimum,
     Short,
 }
 
@@ -95,6 +102,7 @@ fn read_arguments(arguments: &[String]) -> Option<(Kind, u64, u64)> {
         ("moving", []) => Kind::Moving,
         ("reserve", []) => Kind::Reserve,
         ("locks", []) => Kind::Locks,
+        ("minimum", []) => Kind::Minimum,
         ("short", []) => Kind::Short,
         _ => return None,
     };
@@ -103,6 +111,7 @@ fn read_arguments(arguments: &[String]) -> Option<(Kind, u64, u64)> {
 
 fn print_day(kind: Kind, seed: u64, lines: u64, output: &mut impl Write) -> io::Result<()> {
     let mut random = Random(seed);
+    let is_short = matches!(kind, Kind::Short);
     let (kind, lines) = match kind {
         Kind::Short => {
             let kinds = [
@@ -118,12 +127,21 @@ fn print_day(kind: Kind, seed: u64, lines: u64, output: &mut impl Write) -> io::
                 Kind::Locks,
                 Kind::Locks,
                 Kind::Locks,
+                Kind::Minimum,
+                Kind::Minimum,
+                Kind::Minimum,
             ];
             (random.pick(&kinds), random.below(13).min(lines))
         }
         kind => (kind, lines),
     };
     let mut day = Day::new(random, lines);
+    day.minimums = match kind {
+        Kind::Nasty => 40,
+        Kind::Minimum => 75,
+        _ if is_short && day.random.below(3) == 0 => 75,
+        _ => 0,
+    };
     while day.printed < lines {
         let is_last = day.printed + 1 == lines;
         let line = match kind {
@@ -134,7 +152,8 @@ fn print_day(kind: Kind, seed: u64, lines: u64, output: &mut impl Write) -> io::
             Kind::Crossing => day.crossing_line(),
             Kind::Moving => day.moving_line(),
             Kind::Reserve => day.reserve_line(),
-            Kind::Locks | Kind::Short => day.locks_line(),
+            Kind::Locks => day.locks_line(),
+            Kind::Minimum | Kind::Short => day.minimum_line(),
         };
         output.write_all(&line)?;
         // A refused command changes nothing and leaves its number free: the next line takes it.
@@ -185,17 +204,20 @@ struct Day {
     /// Nasty: the place of the close (none if past the day), and whether the last line feed is missing.
     close_at: u64,
     cut_end: bool,
-    /// Full, reserve and locks: the number of orders that each side is held at, changed now and then.
+    /// The percentage of Non-Displayed orders that carry a minimum.
+    minimums: u64,
+    /// Full, reserve, locks and minimum: the number of orders that each side is held at, changed now
+    /// and then.
     hold: usize,
-    /// Full and reserve: the number of prices that orders come at, changed with it.
+    /// Full, reserve and minimum: the number of prices that orders come at, changed with it.
     prices: u32,
-    /// Reserve and locks: the place of the next such change.
+    /// Reserve, locks and minimum: the place of the next such change.
     change_at: u64,
     /// Whether only orders come that rest, until enough do.
     filling: bool,
-    /// Locks: the side whose orders are hidden until the other one locks them.
+    /// Locks and minimum: the side whose orders are hidden until the other one locks them.
     locked_side: u8,
-    /// Locks: whether both sides are being swept, until nothing rests.
+    /// Locks and minimum: whether both sides are being swept, until nothing rests.
     sweeping: bool,
     /// Moving: the next step to a quote that moves both full sides, if one is under way.
     whole: Option<Whole>,
@@ -231,6 +253,7 @@ impl Day {
             middle: 2000,
             close_at,
             cut_end,
+            minimums: 0,
             hold: PLACES,
             prices: 30,
             change_at: 0,
@@ -262,12 +285,18 @@ impl Day {
         Command { number: self.book.last_number.wrapping_add(1), time, body }
     }
 
-    /// Of kind 05 if the word has bit 10.
+    /// Of kind 05 if the word has bit 10; of kind 06 if the day has minimums, now and then.
     fn order(&mut self, side: u8, word: u16, price: u32, shares: u32) -> Command {
         let price = if word & MARKET != 0 { 0 } else { price.clamp(MIN_PRICE, MAX_PRICE) };
         let shares = shares.clamp(1, MAX_SHARES);
-        let max_floor = if word & RESERVE != 0 { Some(self.max_floor(shares)) } else { None };
-        self.command(Body::Order(Order { side, word, price, shares, max_floor }))
+        let extra = if word & RESERVE != 0 {
+            Extra::MaxFloor(self.max_floor(shares))
+        } else if word & NON_DISPLAYED != 0 && self.minimums > 0 && self.random.percent(self.minimums) {
+            Extra::Minimum(self.minimum(shares))
+        } else {
+            Extra::Nothing
+        };
+        self.command(Body::Order(Order { side, word, price, shares, extra }))
     }
 
     /// Mostly one that the shares hold several times; also the least, the greatest, and one that
@@ -283,6 +312,14 @@ impl Day {
             _ => several,
         };
         max_floor.max(1)
+    }
+
+    /// Any size: the least, the greatest, one or half of it less, and all between.
+    fn minimum(&mut self, shares: u32) -> u32 {
+        let any = self.random.between(1, shares);
+        let half = shares / 2;
+        let minimum = self.random.pick(&[1, shares, shares, shares - 1, half, half + 1, any, any]);
+        minimum.max(1)
     }
 
     /// A quote of lawful prices: 0 stays 0, others are brought into the range.
@@ -324,6 +361,11 @@ impl Day {
         if side == BUY { &self.book.buys } else { &self.book.sells }
     }
 
+    /// The same, the best first.
+    fn ranked(&self, side: u8) -> Vec<Resting> {
+        self.side(side).iter().rev().copied().collect()
+    }
+
     /// The best price of a side, in cents.
     fn best(&self, side: u8) -> Option<u32> {
         self.side(side).last().map(|resting| resting.price.cents())
@@ -351,7 +393,8 @@ impl Day {
         self.passive(1 - side, steps)
     }
 
-    /// The shares that an order of that word would find up to its limit.
+    /// The shares that an order of that word would find up to its limit, if it asks for as many: then
+    /// it skips none.
     fn fillable(&self, side: u8, word: u16, limit: u32) -> u32 {
         let locking = if word & ISO != 0 { 0 } else { self.locking(side) };
         let locked = if self.locks(side) { self.best(1 - side) } else { None };
@@ -464,8 +507,8 @@ impl Day {
         let steps = self.random.between(0, spread);
         let price = self.passive(side, steps);
         let shares = 100 * self.random.between(5, 30);
-        let max_floor = Some(100 * self.random.between(1, 5));
-        self.command(Body::Order(Order { side, word: RESERVED, price, shares, max_floor }))
+        let extra = Extra::MaxFloor(100 * self.random.between(1, 5));
+        self.command(Body::Order(Order { side, word: RESERVED, price, shares, extra }))
     }
 
     /// An order that mostly executes against one to three others.
@@ -501,7 +544,8 @@ impl Day {
         if is_last && self.cut_end && self.random.percent(40) {
             // All its digits are good: only the line feed is missing, which is cut off after this.
             let side = self.any_side();
-            let command = self.order(side, RESERVED, self.middle, 100);
+            let word = self.random.pick(&[RESERVED, HIDDEN]);
+            let command = self.order(side, word, self.middle, 100);
             return write_command(&command);
         }
         if self.printed % 2000 == 500 {
@@ -610,38 +654,61 @@ impl Day {
         const PRICES: [u32; 9] = [0, 1, 99, 100, 200_000, 200_001, 1 << 31, u32::MAX, 101];
         const SHARES: [u32; 8] = [0, 1, 1_000_000, 1_000_001, 0, 1_000_001, 1 << 24, u32::MAX];
         match body {
-            Body::Order(order) => match self.random.below(11) {
+            Body::Order(order) => match self.random.below(13) {
                 0 | 1 => order.price = self.random.pick(&PRICES),
                 2 | 3 => order.shares = self.random.pick(&SHARES),
                 4 => order.side = self.random.pick(&[2, 2, 3, 255]),
                 5 => {
                     order.word = TAKER | MARKET; // a market order with a price
                     order.price = self.random.pick(&[1, 99, 100, 2000, 200_001]);
-                    order.max_floor = None;
+                    order.extra = Extra::Nothing;
                 }
                 6 => {
                     let bit = self.random.below(16);
                     order.word = self.lawful_word() ^ 1 << bit;
                 }
-                // Bit 10 in kind 01, or kind 05 without it: by the word, or by the kind.
+                // Bit 10 in kind 01 or 06, or kind 05 without it: by the word, or by the kind.
                 7 => order.word ^= RESERVE,
                 8 => {
-                    order.max_floor = match order.max_floor {
-                        Some(_) => None,
-                        None => Some(order.shares),
-                    };
+                    let all = order.shares;
+                    order.extra =
+                        self.random.pick(&[Extra::Nothing, Extra::MaxFloor(all), Extra::Minimum(all)]);
                 }
-                9 => {
+                // A Max Floor or a minimum at the ends of its range.
+                9 | 10 => {
                     let shares = order.shares;
                     let above = shares.wrapping_add(1);
-                    let max_floors = [0, 0, 1, shares, above, above, MAX_SHARES, u32::MAX];
-                    order.max_floor = Some(self.random.pick(&max_floors));
+                    let extra = self.random.pick(&[0, 0, 1, shares, above, above, MAX_SHARES, u32::MAX]);
+                    let is_minimum = self.random.percent(50);
+                    order.extra = if is_minimum { Extra::Minimum(extra) } else { Extra::MaxFloor(extra) };
+                    let words = if is_minimum {
+                        [HIDDEN, HIDDEN | ISO, IOC | NON_DISPLAYED | CANCEL_BACK]
+                    } else {
+                        [RESERVED, RESERVED | ISO, RESERVED | POST_ONLY]
+                    };
                     if self.random.percent(90) {
-                        order.word = self.random.pick(&[RESERVED, RESERVED | ISO, RESERVED | POST_ONLY]);
+                        order.word = self.random.pick(&words);
                     }
                     if order.price == 0 {
                         order.price = self.middle; // of a market order
                     }
+                }
+                11 => {
+                    // A minimum with a word that is lawful in another kind alone, or in none.
+                    let words = [
+                        ORDINARY,
+                        ORDINARY | POST_ONLY,
+                        TAKER,
+                        KILLER,
+                        RESERVED,
+                        HIDDEN | RESERVE,
+                        HIDDEN | DISPLAYED,
+                        HIDDEN | POST_ONLY,
+                        HIDDEN | 1 << 11,
+                    ];
+                    order.word = self.random.pick(&words);
+                    let minimum = self.random.pick(&[0, 1, order.shares]);
+                    order.extra = Extra::Minimum(minimum);
                 }
                 _ => {
                     // Just unlawful by one of the last rules, or anything.
@@ -667,7 +734,10 @@ impl Day {
                     }
                     // Mostly the kind that bit 10 asks for, so that the rest of the word tells.
                     if self.random.percent(75) {
-                        order.max_floor = if order.word & RESERVE != 0 { Some(order.shares) } else { None };
+                        order.extra = match order.word & RESERVE {
+                            0 => Extra::Nothing,
+                            _ => Extra::MaxFloor(order.shares),
+                        };
                     }
                 }
             },
@@ -714,7 +784,7 @@ impl Day {
             10 => {
                 // Another kind, or this kind with another's body.
                 let kinds =
-                    [b"00", b"01", b"02", b"03", b"04", b"05", b"06", b"0a", b"10", b"11", b"ff"];
+                    [b"00", b"01", b"02", b"03", b"04", b"05", b"06", b"07", b"0a", b"16", b"ff"];
                 let kind = self.random.pick(&kinds);
                 line[..2].copy_from_slice(kind);
                 if line.starts_with(b"04") && line.len() == 18 {
@@ -722,14 +792,14 @@ impl Day {
                 }
             }
             11 => {
-                // An order of one kind with the digits of the other: 40 with 05, 48 with 01.
+                // An order of one kind with the digits of another: 40 with 05 or 06, 48 with 01.
                 match line.len() {
-                    40 => line[1] = b'5',
+                    40 => line[1] = self.random.pick(b"56"),
                     48 => line[1] = b'1',
                     _ => line.resize(48, b'0'),
                 }
                 if self.random.percent(50) {
-                    // Now as many digits as its kind has, and the bit 10 of the other one.
+                    // Now as many digits as its kind has, and the word of the other one.
                     line.resize(88 - line.len(), b'1');
                 }
             }
@@ -1334,14 +1404,7 @@ impl Day {
             71..=73 if self.is_quoted() => self.quote(0, 0),
             71..=79 => self.behind(1 - locker),
             80..=82 => self.behind(locker),
-            83..=89 => {
-                // A locking order; with the last of them the lock goes.
-                let is_locking = |resting: &&Resting| resting.price.cents() == price && !resting.hidden;
-                let locking: Vec<u32> =
-                    self.side(locker).iter().filter(is_locking).map(|resting| resting.number).collect();
-                let order = self.random.pick(&locking);
-                self.command(Body::Cancel { order })
-            }
+            83..=89 => self.cancel_locking(locker),
             90..=93 => {
                 let side = self.any_side();
                 self.cancel(side).expect("both sides of a lock have orders")
@@ -1354,6 +1417,16 @@ impl Day {
                 self.post_only(side, beside)
             }
         }
+    }
+
+    /// A cancel of a locking order; with the last of them the lock goes.
+    fn cancel_locking(&mut self, locker: u8) -> Command {
+        let best = self.best(locker);
+        let is_locking = |resting: &&Resting| Some(resting.price.cents()) == best && !resting.hidden;
+        let locking: Vec<u32> =
+            self.side(locker).iter().filter(is_locking).map(|resting| resting.number).collect();
+        let order = self.random.pick(&locking);
+        self.command(Body::Cancel { order })
     }
 
     /// An order at the lock from the side of the displayed ones: barred, so it rests there or cancels.
@@ -1418,17 +1491,310 @@ impl Day {
         let shares = self.random.pick(&sizes);
         self.order(side, word, limit, shares)
     }
+
+    // Minimum days.
+
+    fn minimum_line(&mut self) -> Vec<u8> {
+        if self.printed >= self.change_at {
+            // Other prices; the orders left at the last ones are swept first, mostly.
+            let end = self.random.pick(&[MIN_PRICE, MIN_PRICE + 1, MAX_PRICE - 1, MAX_PRICE]);
+            self.middle = self.random.pick(&[1500, 1500, 3000, end]);
+            self.prices = self.random.between(1, 4);
+            self.locked_side = self.any_side();
+            let is_full = self.lines > 2 * PLACES as u64 && self.random.below(40) == 0;
+            self.sweeping = is_full || self.random.percent(70);
+            self.hold = if is_full { PLACES } else { self.random.pick(&[2, 4, 6, 10, 16]) };
+            let stretch = if is_full { 900 } else { self.random.between(10, 120) };
+            self.change_at = self.printed + stretch as u64;
+        }
+        if self.sweeping {
+            if let Some(sweep) = self.sweep() {
+                return write_command(&sweep);
+            }
+            self.sweeping = false;
+        }
+        let least = self.side(self.shorter_side()).len();
+        self.filling = self.hold == PLACES && least < PLACES && (self.filling || least < PLACES - 32);
+        let side = self.any_side();
+        let command = match [BUY, SELL].into_iter().find(|&side| self.locks(side)) {
+            _ if self.filling => {
+                let word = self.random.pick(&[HIDDEN, HIDDEN, HIDDEN, HIDDEN_BACK, ORDINARY, RESERVED]);
+                self.filler(self.shorter_side(), word, self.prices)
+            }
+            _ if self.side(side).len() == PLACES && self.random.percent(50) => self.more_than_found(side),
+            Some(locker) if self.random.percent(60) => self.minimums_at_a_lock(locker),
+            // Hidden meets hidden, left by a lock that ended.
+            None if self.best(BUY).is_some_and(|price| self.best(SELL) == Some(price))
+                && self.random.percent(50) =>
+            {
+                self.minimum_taker(side)
+            }
+            _ => self.minimums_anywhere(side),
+        };
+        write_command(&command)
+    }
+
+    fn minimums_anywhere(&mut self, side: u8) -> Command {
+        match self.random.below(100) {
+            0..=44 if self.side(side).len() < self.hold => self.minimum_maker(side),
+            0..=44 => self.minimum_taker(side),
+            45..=47 => match self.cancel(side) {
+                Some(cancel) => cancel,
+                None => self.minimum_maker(side),
+            },
+            48..=50 => self.moving_quote(),
+            51..=52 => self.quote_beside(self.middle),
+            53..=57 if self.is_quoted() => self.quote(0, 0),
+            // At the best price of the other side, and at or beside any.
+            58..=63 => {
+                let price = self.best(1 - side).unwrap_or(self.middle);
+                self.post_only(side, price)
+            }
+            64..=65 => {
+                let price = self.opposite_price(side) - 1 + self.random.between(0, 2);
+                self.post_only(side, price)
+            }
+            66..=70 => self.step_to_a_lock(),
+            71..=76 => match self.asking(side) {
+                Some(target) => self.set_beside(side, target),
+                None => self.minimum_maker(1 - side),
+            },
+            _ => self.minimum_taker(side),
+        }
+    }
+
+    /// A Day order for more than it finds. If its side is full it is refused, unless its remainder is
+    /// cancelled: that of a walk undone, mostly.
+    fn more_than_found(&mut self, side: u8) -> Command {
+        let limit = self.opposite_price(side);
+        let word = self.random.pick(&[HIDDEN, HIDDEN, HIDDEN | ISO, HIDDEN_BACK, ORDINARY, RESERVED]);
+        let found = self.fillable(side, word, limit);
+        let more = found + self.random.between(1, 3);
+        let mut command = self.order(side, word, limit, more);
+        if let Body::Order(Order { extra: Extra::Minimum(minimum), .. }) = &mut command.body {
+            *minimum = self.random.pick(&[found.max(1), found + 1, found + 1, more]);
+        }
+        command
+    }
+
+    /// A command while displayed orders of that side lock hidden ones of the other.
+    fn minimums_at_a_lock(&mut self, locker: u8) -> Command {
+        match self.random.below(100) {
+            0..=29 => self.about_the_lock(locker),
+            30..=39 => self.join(locker),
+            40..=61 => {
+                let locked = *self.side(1 - locker).last().expect("its best order is locked");
+                self.set_beside(locker, locked)
+            }
+            62..=65 => self.cancel_locking(locker),
+            66..=72 => self.minimum_taker(1 - locker),
+            73..=82 => self.past_the_lock(locker),
+            _ => self.minimum_taker(locker),
+        }
+    }
+
+    /// A Day order that takes all the locked orders, and of which too little is left for one with a
+    /// minimum at a price behind them.
+    fn past_the_lock(&mut self, locker: u8) -> Command {
+        let ranked = self.ranked(1 - locker);
+        let is_behind = |resting: &Resting| resting.price != ranked[0].price && resting.minimum() > 1;
+        let Some(place) = ranked.iter().position(is_behind) else {
+            return self.minimum_maker(1 - locker);
+        };
+        let (ahead, asked) = ahead_and_asked(&ranked, place);
+        let word = self.random.pick(&[ORDINARY, ORDINARY | ISO, RESERVED, HIDDEN, HIDDEN | ISO]);
+        self.order(locker, word, ranked[place].price.cents(), ahead + asked - 1)
+    }
+
+    /// A Day order limited past the price of that order, mostly one that does not suffice it. A
+    /// displayed one is set at that price after its walk if the away price is a cent past it, and a
+    /// cent before it if the away price is at it; then a hidden one is set at it. So such a quote comes
+    /// first, if there is none yet.
+    fn set_beside(&mut self, side: u8, target: Resting) -> Command {
+        let price = target.price.cents();
+        let past = |cents: u32| if side == BUY { price + cents } else { price - cents };
+        let locking = self.locking(side);
+        if locking != price && locking != past(1) {
+            let away = past(self.random.pick(&[0, 1, 1]));
+            return if side == BUY { self.quote(0, away) } else { self.quote(away, 0) };
+        }
+        let (_, asked) = ahead_and_asked(&[target], 0);
+        let minimums = self.side(1 - side).iter().map(Resting::minimum);
+        let few = minimums.filter(|&minimum| minimum > 1).min().unwrap_or(1);
+        let shares = self.random.pick(&[asked - 1, asked, asked + 1, few - 1, few - 1]);
+        let limit = past(self.random.between(1, 3));
+        let word = self.random.pick(&[ORDINARY, ORDINARY, RESERVED, HIDDEN]);
+        self.order(side, word, limit, shares)
+    }
+
+    /// An opposite order with a minimum: one at or beside the away price, or else any, if there is one.
+    fn asking(&mut self, side: u8) -> Option<Resting> {
+        let locking = self.locking(side);
+        let asking = self.side(1 - side).iter().filter(|resting| resting.minimum() > 1);
+        let (beside, others): (Vec<Resting>, Vec<Resting>) =
+            asking.partition(|resting| resting.price.cents().abs_diff(locking) <= 1);
+        let choices = if beside.is_empty() { others } else { beside };
+        (!choices.is_empty()).then(|| self.random.pick(&choices))
+    }
+
+    /// Mostly a hidden order, with a minimum mostly; on one of the sides many that ask for much, so that
+    /// a small order skips several.
+    fn minimum_maker(&mut self, side: u8) -> Command {
+        let words = [
+            HIDDEN,
+            HIDDEN,
+            HIDDEN,
+            HIDDEN,
+            HIDDEN_BACK,
+            HIDDEN_BACK,
+            HIDDEN | ISO,
+            ORDINARY,
+            RESERVED,
+            ORDINARY | POST_ONLY,
+        ];
+        let asks_much = side == self.locked_side && self.random.percent(60);
+        // The first seven are hidden.
+        let word = if asks_much { self.random.pick(&words[..7]) } else { self.random.pick(&words) };
+        let least = self.random.pick(&[0, 1, 1, 1]);
+        let steps = self.random.between(least, self.prices);
+        let price = self.passive(side, steps);
+        let most = self.random.pick(&[4, 40, 40, 300]);
+        let shares = if asks_much { self.random.between(10, 60) } else { self.random.between(1, most) };
+        let mut command = self.order(side, word, price, shares);
+        if let Body::Order(Order { extra: Extra::Minimum(minimum), .. }) = &mut command.body {
+            if asks_much {
+                *minimum = self.random.between(shares / 2, shares);
+            }
+        }
+        command
+    }
+
+    /// An order into the other side of which, when the walk reaches one of the orders there, as much
+    /// is left as that one's minimum asks for, or one less or more, if no other is skipped before it;
+    /// or one of that size in all, or all that stands there. If it has a minimum itself, that is at or
+    /// beside what its walk gives, mostly.
+    fn minimum_taker(&mut self, side: u8) -> Command {
+        let ranked = self.ranked(1 - side);
+        if ranked.is_empty() {
+            return self.minimum_maker(1 - side);
+        }
+        let near = self.random.below(ranked.len().min(4) as u64) as usize;
+        let any = self.random.below(ranked.len() as u64) as usize;
+        let asking: Vec<usize> =
+            (0..ranked.len()).filter(|&place| ranked[place].minimum() > 1).take(4).collect();
+        let asking = if asking.is_empty() { near } else { self.random.pick(&asking) };
+        let place = self.random.pick(&[asking, asking, asking, near, any]);
+        let target = ranked[place];
+        let (ahead, asked) = ahead_and_asked(&ranked, place);
+        let words = [
+            TAKER,
+            TAKER | ISO,
+            KILLER,
+            ORDINARY,
+            ORDINARY,
+            ORDINARY | ISO,
+            DAY | DISPLAYED | CANCEL_BACK,
+            RESERVED,
+            HIDDEN,
+            HIDDEN,
+            HIDDEN,
+            HIDDEN | ISO,
+            HIDDEN_BACK,
+            IOC | NON_DISPLAYED | PRICE_ADJUST,
+            IOC | NON_DISPLAYED | CANCEL_BACK | ISO,
+            FOK | NON_DISPLAYED | PRICE_ADJUST,
+        ];
+        let unpriced =
+            [TAKER, KILLER, IOC | NON_DISPLAYED | CANCEL_BACK, FOK | NON_DISPLAYED | PRICE_ADJUST];
+        let word = if self.random.percent(12) {
+            self.random.pick(&unpriced) | MARKET
+        } else {
+            self.random.pick(&words)
+        };
+        let (best, worst) = (ranked[0], ranked[ranked.len() - 1]);
+        let price = self.random.pick(&[target, target, target, best, worst, worst]).price.cents();
+        // At a lock the orders are reached from one cent beyond it only.
+        let least = if self.locks(side) { 1 } else { 0 };
+        let beyond = self.random.pick(&[0, least, least, 1, 1, 3]);
+        let limit = if side == BUY { price + beyond } else { price - beyond };
+        let found = self.fillable(side, word, limit);
+        let part = self.random.between(1, target.shown);
+        let all = self.random.pick(&[found, found + 1, found.saturating_sub(1)]);
+        // Less than the first few ask for that have a minimum: all of those are skipped.
+        let few = ranked.iter().map(Resting::minimum).filter(|&minimum| minimum > 1).take(3).min();
+        let few = few.unwrap_or(part);
+        let sizes = [
+            asked - 1,
+            asked - 1,
+            asked,
+            asked + 1,
+            few - 1,
+            few - 1,
+            ahead + asked - 1,
+            ahead + asked - 1,
+            ahead + asked,
+            ahead + asked + 1,
+            ahead + part,
+            ahead + target.shown,
+            part,
+            all,
+            found + part,
+        ];
+        let mut shares = self.random.pick(&sizes);
+        if self.hold == PLACES && self.random.percent(90) {
+            shares = shares.min(60); // so that the sides stay full
+        }
+        let mut command = self.order(side, word, limit, shares);
+        if let Body::Order(order) = &mut command.body {
+            if let Extra::Minimum(any) = order.extra {
+                let given = self.given(order);
+                let less = given.saturating_sub(1);
+                let more = given + 1;
+                let minimum = self.random.pick(&[given, given, more, more, more, less, any, any]);
+                order.extra = Extra::Minimum(minimum.clamp(1, order.shares));
+            }
+        }
+        command
+    }
+
+    /// The shares that the walk of that order gives, its own minimum left out: those of an IOC order
+    /// worked on a copy of the book.
+    fn given(&self, order: &Order) -> u32 {
+        let word = order.word & !(FOK | DAY) | IOC;
+        let order = Order { word, extra: Extra::Nothing, ..*order };
+        let (number, time) = (self.book.last_number + 1, self.book.last_time);
+        let command = Command { number, time, body: Body::Order(order) };
+        let mut book = self.book.clone();
+        book.apply(&command, &mut Vec::new()).expect("an IOC order is taken");
+        let shares = |book: &Book| -> u32 {
+            let side = if order.side == BUY { &book.sells } else { &book.buys };
+            side.iter().map(|resting| resting.shares()).sum()
+        };
+        shares(&self.book) - shares(&book)
+    }
+}
+
+/// Of orders in rank order, the shares that a walk takes before it reaches the one at that place if it
+/// skips none, and the fewest that must then be left if that one is not to be skipped.
+fn ahead_and_asked(ranked: &[Resting], place: usize) -> (u32, u32) {
+    let target = ranked[place];
+    let taken = |resting: &Resting| {
+        if resting.price == target.price { resting.shown } else { resting.shares() }
+    };
+    (ranked[..place].iter().map(taken).sum(), target.minimum().clamp(1, target.shown))
 }
 
 /// The line of a command, of any field values.
 fn write_command(command: &Command) -> Vec<u8> {
     let Command { number, time, body } = command;
     let line = match body {
-        Body::Order(Order { side, word, price, shares, max_floor: None }) => {
-            format!("01{number:08x}{time:08x}{side:02x}{word:04x}{price:08x}{shares:08x}\n")
-        }
-        Body::Order(Order { side, word, price, shares, max_floor: Some(max_floor) }) => {
-            format!("05{number:08x}{time:08x}{side:02x}{word:04x}{price:08x}{shares:08x}{max_floor:08x}\n")
+        Body::Order(Order { side, word, price, shares, extra }) => {
+            let (kind, extra) = match extra {
+                Extra::Nothing => ("01", String::new()),
+                Extra::MaxFloor(max_floor) => ("05", format!("{max_floor:08x}")),
+                Extra::Minimum(minimum) => ("06", format!("{minimum:08x}")),
+            };
+            format!("{kind}{number:08x}{time:08x}{side:02x}{word:04x}{price:08x}{shares:08x}{extra}\n")
         }
         Body::Cancel { order } => format!("02{number:08x}{time:08x}{order:08x}\n"),
         Body::Quote { bid, offer } => format!("03{number:08x}{time:08x}{bid:08x}{offer:08x}\n"),

@@ -1,5 +1,5 @@
 //! An ordinary order book: command lines on standard input to its end, event lines on
-//! standard output, from the fresh book. Its law is paper 01 with W2, W4, W5 and W6 of paper 02;
+//! standard output, from the fresh book. Its law is paper 01 with W2 and W4 to W7 of paper 02;
 //! the book itself is `book.rs`.
 //!
 //! Compile: rustc -O --edition 2021 ordinary.rs

@@ -2,7 +2,7 @@
 # The output that a day must give, from its NAME.out. Since W6 the prices of event lines count half cents. The outputs of the
 # folders IN_CENTS came before it, in cents, and stay as they were given, for an outside vector is not adjusted (in w2 those that
 # we derived keep to the same measure); so whoever compares with them doubles the price of each line 11, 12 and 14 first. The
-# outputs of days/desk, days/examples and days/w6 are in half cents.
+# outputs of days/desk, days/examples, days/w6 and days/w7 are in half cents.
 #
 #   tools/in_half_cents.py NAME.out     print it, in half cents
 import pathlib

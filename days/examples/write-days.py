@@ -16,6 +16,7 @@ def order(n, side, price, shares, word=STD, t=T0):
 def buy(n, shares, price, word=STD, t=T0): return order(n, B, price, shares, word, t)
 def sell(n, shares, price, word=STD, t=T0): return order(n, S, price, shares, word, t)
 def reserve(n, side, shares, price, floor): return '05' + order(n, side, price, shares, STD | RESERVE)[2:] + h(floor, 4)
+def minimum(n, side, shares, price, least, word=DAY | N | PA): return '06' + order(n, side, price, shares, word)[2:] + h(least, 4)
 def cancel(n, num, t=T0): return '02' + h(n, 4) + h(t, 4) + h(num, 4)
 def quote(n, bid, offer, t=T0): return '03' + h(n, 4) + h(t, 4) + h(bid, 4) + h(offer, 4)
 def close(n, t=T0): return '04' + h(n, 4) + h(t, 4)
@@ -465,6 +466,50 @@ day('remainder-after-half-a-cent-seeks-its-price', '"The away test uses the true
     (buy(6, 30, 1000, DAY | N | PA), R(6, 30, 1000)),
     (sell(7, 10, 1000, po), R(7, 10, 1000)),
     (sell(8, 40, 999, DAY | D | CB), X(8, 6, 30, 999.5), K(8, 10, 4)))
+
+# ------------------------------------------------------------------ minimums
+part('Minimum execution quantity (02, W7): what the days of `days/w7` leave out')
+day('the-reserve-does-not-come-before-the-minimum', '"the reserve behind every other order at that price" (02, W4), also behind one with a minimum; "any other gives the smaller of its holding and what is left"',
+    'sell of 100 at 1000 with 10 shown, hidden sell of 50 at 1000 with a minimum of 50: an IOC buy of 110 takes the 10 shown, the 50 (100 were left) and 50 of the reserve; refilled to 10, 40 left in all (with the reserve first, 10 would be left and the 50 skipped)',
+    (reserve(1, S, 100, 1000, 10), R(1, 100, 1000)),
+    (minimum(2, S, 50, 1000, 50), R(2, 50, 1000)),
+    (buy(3, 110, 1000, IOC | D | PA), X(3, 1, 10, 1000), X(3, 2, 50, 1000), X(3, 1, 50, 1000), M(1, 10, 1000)),
+    (close(4), K(1, 40, 7)))
+day('fok-fills-as-the-reserve-comes-behind-the-minimum', '"FOK is killed exactly if the walk in rank order falls short"',
+    'the same two sells: a FOK buy of 110 executes all, as the IOC did (with the reserve first it would fall short by 10)',
+    (reserve(1, S, 100, 1000, 10), R(1, 100, 1000)),
+    (minimum(2, S, 50, 1000, 50), R(2, 50, 1000)),
+    (buy(3, 110, 1000, fk), X(3, 1, 10, 1000), X(3, 2, 50, 1000), X(3, 1, 50, 1000), M(1, 10, 1000)),
+    (close(4), K(1, 40, 7)))
+day('refill-behind-a-skipped-order', '"it is skipped and the walk goes on"; "Refill is due when the shown part is used up" (02, W4)',
+    'hidden sell of 50 at 1000 with a minimum of 50, behind it at 1001 a sell of 100 with 10 shown and a sell of 5: an IOC buy of 10 skips the 50 and takes the 10 shown, which are refilled; an IOC buy of 6 skips the 50 and takes the 5, then 1 of the refilled 10',
+    (minimum(1, S, 50, 1000, 50), R(1, 50, 1000)),
+    (reserve(2, S, 100, 1001, 10), R(2, 100, 1001)),
+    (sell(3, 5, 1001), R(3, 5, 1001)),
+    (buy(4, 10, 1001, IOC | D | PA), X(4, 2, 10, 1001), M(2, 10, 1001)),
+    (buy(5, 6, 1001, IOC | D | PA), X(5, 3, 5, 1001), X(5, 2, 1, 1001)),
+    (close(6), K(1, 50, 7), K(2, 89, 7)))
+day('reason-8-by-the-best-of-two-skipped', '"A remainder that would still equal or pass an opposite order ... is cancelled, new reason 8": any opposite order, not the one skipped last',
+    'hidden sells of 50 at 1000 and at 1001, both with a minimum of 50, away offer 1001: a buy of 20 at 1005 skips both and is set at 1000, below the second and equal to the first: reason 8',
+    (minimum(1, S, 50, 1000, 50), R(1, 50, 1000)),
+    (minimum(2, S, 50, 1001, 50), R(2, 50, 1001)),
+    (quote(3, 0, 1001),),
+    (buy(4, 20, 1005), K(4, 20, 8)),
+    (close(5), K(1, 50, 7), K(2, 50, 7)))
+day('a-lock-at-a-better-price-saves-nothing', '"save ... at W6\'s locked price": the price at which the remainder would rest, and no other',
+    'hidden buy of 10 and Post Only sell at 1000, hidden buy of 100 at 999 with a minimum of 50: a sell of 30 at 999 executes 10 at 999.5 and skips the 100; its 20 would equal it at 999, where no lock stands: reason 8',
+    (buy(1, 10, 1000, DAY | N | PA), R(1, 10, 1000)),
+    (minimum(2, B, 100, 999, 50), R(2, 100, 999)),
+    (sell(3, 5, 1000, po), R(3, 5, 1000)),
+    (sell(4, 30, 999), X(4, 1, 10, 999.5), K(4, 20, 8)),
+    (close(5), K(2, 100, 7), K(3, 5, 7)))
+day('skipped-then-set-at-the-lock-is-saved', '"save ... at W6\'s locked price", though the walk has reached the locked order and skipped it',
+    'hidden buy of 100 with a minimum of 50 and Post Only sell at 1000, away bid 999: a sell of 30 at 998 may take 999.5 and skips the 100; it is set at 1000 and rests there, behind the Post Only one',
+    (minimum(1, B, 100, 1000, 50), R(1, 100, 1000)),
+    (sell(2, 5, 1000, po), R(2, 5, 1000)),
+    (quote(3, 999, 0),),
+    (sell(4, 30, 998), R(4, 30, 1000)),
+    (close(5), K(1, 100, 7), K(2, 5, 7), K(4, 30, 7)))
 
 # ------------------------------------------------------------------ ISO
 part('Intermarket sweep')
@@ -988,9 +1033,9 @@ day('bytes-that-are-no-digits', '"lowercase hexadecimal"',
     *[(ok[:-1].encode() + x, F(3)) for x in (b'g', b'\x00', b'\xb4')],
     R1)
 day('unknown-kinds', '"the line is not one of the four forms" (3)',
-    'kind 05 in all four lengths, kinds 00, 06, 0f, 10, 11, 12, 13, 1f, 40, 81, ff get 3; then order 1 rests',
-    *[('05' + c[2:], F(3)) for c in (ok, cancel(1, 1), quote(1, 0, 0), close(1))],
-    *[(k + c[2:], F(3)) for k in ('00', '06') for c in (ok, cancel(1, 1), quote(1, 0, 0), close(1))],
+    'kinds 00 and 07 in the lengths of kinds 01 to 04 and of 06, kinds 0f, 10, 11, 12, 13, 1f, 40, 81, ff in that of 01 get 3, and so do kinds 05 and 06 (02, W4 and W7), known but longer, in the lengths of 01 to 04; then order 1 rests',
+    *[(k + c[2:], F(3)) for k in ('05', '06') for c in (ok, cancel(1, 1), quote(1, 0, 0), close(1))],
+    *[(k + c[2:], F(3)) for k in ('00', '07') for c in (ok, cancel(1, 1), quote(1, 0, 0), close(1), minimum(1, B, 100, 1000, 50))],
     *[(k + ok[2:], F(3)) for k in ('0f', '10', '11', '12', '13', '1f', '40', '81', 'ff')],
     R1)
 forms = [ok, cancel(1, 1), quote(1, 0, 0), close(1)]

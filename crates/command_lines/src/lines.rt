@@ -28,6 +28,7 @@ fn digits_after(c: u8) -> usize
         51 => rules::QUOTE_DIGITS,
         52 => rules::CLOSE_DIGITS,
         53 => rules::RESERVE_DIGITS,
+        54 => rules::MINIMUM_DIGITS,
         _ => 0,
     }
 }

@@ -33,8 +33,8 @@ enum CarriedReading {
     Bad,
 }
 
-// What an order of a kind carries behind the fields that every order has: nothing, or the Max Floor after the shares (02, W4). Bad where
-// the line does not end there, and for any other kind.
+// What an order of a kind carries behind the fields that every order has: nothing, or after the shares the Max Floor (02, W4) or the
+// minimum (02, W7), which have one form. Bad where the line does not end there, and for any other kind.
 fn read_carried(kind: u32, s: &[u8]) -> CarriedReading
     ensures { λ r. ⌜ r ≡ carriedIn kind (now (s .entry)) ⌝ }
 {
@@ -44,17 +44,20 @@ fn read_carried(kind: u32, s: &[u8]) -> CarriedReading
         }
         return CarriedReading::Is(Carried::Nothing);
     }
-    if kind != 5 {
+    if !((kind == 5) | (kind == 6)) {
         return CarriedReading::Bad;
     }
     if !is_ended(s, rules::RESERVE_BODY) {
         return CarriedReading::Bad;
     }
-    let floor = digits::field_at(s, 22, 4);
-    if !floor.good {
+    let last = digits::field_at(s, 22, 4);
+    if !last.good {
         return CarriedReading::Bad;
     }
-    CarriedReading::Is(Carried::MaxFloor(Shares(floor.number)))
+    if kind == 5 {
+        return CarriedReading::Is(Carried::MaxFloor(Shares(last.number)));
+    }
+    CarriedReading::Is(Carried::Minimum(Shares(last.number)))
 }
 
 // An order, of whichever kind: one function for all, so that it is compiled where it is called.

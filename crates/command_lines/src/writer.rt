@@ -23,6 +23,7 @@ fn order_kind(carried: Carried) -> u8
     match carried {
         Carried::Nothing => 1,
         Carried::MaxFloor(_) => 5,
+        Carried::Minimum(_) => 6,
     }
 }
 
@@ -49,6 +50,7 @@ fn order_digits(order: Order) -> usize
     match carried {
         Carried::Nothing => rules::ORDER_BODY,
         Carried::MaxFloor(floor) => rules::RESERVE_BODY,
+        Carried::Minimum(least) => rules::MINIMUM_BODY,
     }
 }
 
@@ -90,6 +92,10 @@ fn write_order(out: &mut [u8], order: Order)
         Carried::MaxFloor(floor) => {
             digits::write_four(out, 22, floor.0);
             out[rules::RESERVE_BODY] = 10;
+        }
+        Carried::Minimum(least) => {
+            digits::write_four(out, 22, least.0);
+            out[rules::MINIMUM_BODY] = 10;
         }
     }
 }

@@ -13,6 +13,7 @@ use Rattle.basics.specs.Bytes.{onto}
 use Rattle.basics.proofs.LawsChoice.{holds-or-not}
 use Rattle.kinds.specs.declared.Number.{Number}
 use Rattle.rules.specs.declared.Command.{Command}
+use Rattle.rules.specs.declared.Event.{Event}
 use Rattle.rules.specs.declared.Order.{Order}
 use Rattle.rules.specs.declared.Reading.{Reading}
 use Rattle.rules.specs.declared.Reading.the-variants as reading
@@ -30,12 +31,13 @@ use Rattle.soundness.proofs.LawsKept.{answer-sound, fresh-sound, after-sound, b
 use Rattle.soundness.proofs.LawsRecords.{record-whole, book-sound}
 use Rattle.demands.specs.ExactlyWhen.{Applies, NoLower}
 use Rattle.demands.specs.Executes.{Executes}
+use Rattle.demands.specs.Minimum.{NoMinimum}
 use Rattle.demands.specs.Once.{EventLines, Refused, Asked, aLine, aCommand, readingOf, lineAsked, Call, returned, byCall, byLine, acts, endOf, eventLinesOf, actingNumbers, linesWithRoom}
 use Rattle.demands.specs.Run.{Enters, now, later}
 use Rattle.demands.specs.Told.{eventsIn, executedIn, cancelledIn, restingOf}
 use Rattle.demands.proofs.LawsExactly.{refused-exactly, accepted-exactly}
 use Rattle.demands.proofs.LawsOnce.{lines-or-refusal, by-call-keeps, repeat-refused}
-use Rattle.demands.proofs.LawsRun.{call-answers, accepted-does, executes-from}
+use Rattle.demands.proofs.LawsRun.{call-answers, accepted-does, Entered, enters-sound, entered-executes}
 use Rattle.demands.proofs.LawsSums.{run-balance, conserved-from}
 use Rattle.demands.proofs.LawsTold.{lines-read}
 
@@ -256,9 +258,9 @@ none-enters {r = r} n (now {x = x} t is f) = true≢false (sym (acting-sound r x
 none-enters {r = r} n (later {x = x} more) = none-enters (ap recordSound (unsound-stays r x n) ∙ n) more
 
 -- so the record that an order enters is sound
-enters-sound : {r : BookRecord} {calls : List Call} {stood : BookRecord} {call : Call} {c : Command} {o : Order} → Enters byCall r calls stood call c o
-    → recordSound r ≡ true
-enters-sound {r = r} e =
+enters-record-sound : {r : BookRecord} {calls : List Call} {stood : BookRecord} {call : Call} {c : Command} {o : Order}
+    → Enters byCall r calls stood call c o → recordSound r ≡ true
+enters-record-sound {r = r} e =
     ⊎-elim
     (λ (t : recordSound r ≡ true). t)
     (λ (t : recordSound r ≡ false). absurd (none-enters t e))
@@ -266,14 +268,22 @@ enters-sound {r = r} e =
 
 -- ── Demand 3 ──
 
--- From any record: each order that a call enters executes the greatest lawful
--- total, as the lines that the call wrote tell it
-pub calls-execute : (r : BookRecord) (calls : List Call) (stood : BookRecord) (call : Call) (c : Command) (o : Order)
-    → Enters byCall r calls stood call c o → has (o .word) postOnly ≡ false → Executes (bookIn stood) c o (eventsIn (byCall .tells stood call))
-calls-execute r calls stood call c o e notPostOnly =
-    let s = enters-sound e in
+-- From any record: an order that a call enters is entered by its line, and what holds of what that line prints holds of what the call wrote
+pub call-enters : (P : List Event → Type 0) {r : BookRecord} {calls : List Call} {stood : BookRecord} {call : Call} {c : Command}
+    {o : Order} → Enters byCall r calls stood call c o
+    → (Entered (bookIn stood) (lineAsked (call .asks)) c o → P (eventsIn (printed (answerTo (bookIn stood) (lineAsked (call .asks))))))
+    → P (eventsIn (byCall .tells stood call))
+call-enters P {r = r} e p =
+    let s = enters-record-sound e in
     let entry = as-line (bookIn r) (book-sound r s) (sym (record-whole r s)) e in
-    rw (entry .tells) (executes-from (book-sound r s) (entry .enters) notPostOnly)
+    rw (entry .tells) (p (enters-sound (book-sound r s) (entry .enters)))
+
+-- where there is no minimum, it executes the greatest lawful total
+pub calls-execute : (r : BookRecord) (calls : List Call) (stood : BookRecord) (call : Call) (c : Command) (o : Order)
+    → Enters byCall r calls stood call c o → has (o .word) postOnly ≡ false → NoMinimum o (bookIn stood)
+    → Executes (bookIn stood) c o (eventsIn (byCall .tells stood call))
+calls-execute r calls stood call c o e notPostOnly noMinimum =
+    call-enters (Executes (bookIn stood) c o) e (λ entered. entered-executes entered notPostOnly noMinimum)
 
 -- .. and its shares are executed, cancelled or rest
 pub calls-conserve : (r : BookRecord) (calls : List Call) (stood : BookRecord) (call : Call) (c : Command) (o : Order)
@@ -282,7 +292,7 @@ pub calls-conserve : (r : BookRecord) (calls : List Call) (stood : BookRecord) (
     ≡ executedIn (c .number) (eventsIn (eventLinesOf byCall r calls)) + cancelledIn (c .number) (eventsIn (eventLinesOf byCall r calls))
     + restingOf (c .number) (bookIn (endOf byCall r calls))
 calls-conserve r calls stood call c o e =
-    let s = enters-sound e in
+    let s = enters-record-sound e in
     let entry = as-line (bookIn r) (book-sound r s) (sym (record-whole r s)) e in
     let lines = linesWithRoom calls in
     let run = calls-are-lines r s calls in

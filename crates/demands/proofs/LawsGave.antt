@@ -22,9 +22,9 @@ use Rattle.rules.specs.Book.{stamp, sharesLeft, floorInRange}
 use Rattle.rules.specs.Holdings.{Holding, holdings, executions, takenOf, reducedBy, keeping, after}
 use Rattle.rules.specs.Settling.{stampedAs, refilled, told}
 use Rattle.rules.specs.Working.{Met, executionPrice, takings, remainder, ending, lastLine, refillFate}
-use Rattle.rules.proofs.LawsFloors.{shown-at-most}
+use Rattle.rules.proofs.LawsFloors.{shown-at-most, least-alone}
 use Rattle.rules.proofs.LawsHoldings.{Parts, parts-alike, holdings-shown, holdings-reserves, takenFromHoldings, takenFrom, taken-split}
-use Rattle.rules.proofs.LawsWalkOrder.{parts-there, parts-both, Gives, takings-give}
+use Rattle.rules.proofs.LawsWalkOrder.{parts-there, parts-both, NotBoth, Gives, takings-give}
 use Rattle.soundness.proofs.LawsSides.{InRange}
 use Rattle.demands.specs.Refilled.{gave, Due, refilledTo, Keeps, IsRefilled, RefillLines, empty, ofNone, ofDue}
 use Rattle.demands.specs.Told.{givenBy, givenIn}
@@ -76,6 +76,7 @@ pub record Took (es : List Event) (h : Resting) (t r : ℕ) : Type 0 where
   pub gives : Gives h t r
   pub told : gave es h ≡ t + r
   pub floored : floorInRange h ≡ true
+  pub alone : NotBoth h
 
 -- ── One order ──
 
@@ -96,12 +97,12 @@ module _ {es : List Event} (h : Resting) (t r : ℕ) (took : Took es h t r) wher
   pub shown-left : gave es h < h .shares .0 → (t < h .shares .0) × (r ≡ 0)
   shown-left l =
       let less : t < h .shares .0 = omega (arith, l, took .told) in
-      (less, took .gives .shownFirst less)
+      (less, took .gives .shownFirst (took .alone) less)
 
   pub shown-used : h .shares .0 ≤ gave es h → t ≡ h .shares .0
   shown-used l =
       ⊎-elim
-      (λ (k : t < h .shares .0). let z : ⊥ = omega (arith, l, k, took .told, took .gives .shownFirst k) in absurd z)
+      (λ (k : t < h .shares .0). let z : ⊥ = omega (arith, l, k, took .told, took .gives .shownFirst (took .alone) k) in absurd z)
       (λ (k : h .shares .0 ≤ t). omega (arith, k, took .gives .shown))
       (lt-or-le t (h .shares .0))
 
@@ -111,7 +112,7 @@ module _ {es : List Event} (h : Resting) (t r : ℕ) (took : Took es h t r) wher
       let part = shown-left l in
       let reserve : h .reserve .0 - r ≡ h .reserve .0 = omega (arith, part .1) in
       record {
-        same = record { number = refl; price = refl; displayed = refl; back = refl; floor = refl };
+        same = record { number = refl; price = refl; displayed = refl; back = refl; floor = refl; minimum = refl };
         stamp = refl;
         shown = omega (arith, part, took .told);
         reserve = ap shares reserve;
@@ -120,7 +121,7 @@ module _ {es : List Event} (h : Resting) (t r : ℕ) (took : Took es h t r) wher
   pub stays-shown : reducedBy t r h .shares .0 ≢ 0 → gave es h < h .shares .0
   stays-shown some =
       let less : t < h .shares .0 = omega (arith, some) in
-      omega (arith, less, took .told, took .gives .shownFirst less)
+      omega (arith, less, took .told, took .gives .shownFirst (took .alone) less)
 
   pub is-due : sharesLeft (reducedBy t r h) ≢ 0 → reducedBy t r h .shares .0 ≡ 0 → Due es h
   is-due some used = record { usedUp = omega (arith, used, took .told); isLeft = omega (arith, some, left-is) }
@@ -133,12 +134,22 @@ module _ {es : List Event} (h : Resting) (t r : ℕ) (took : Took es h t r) wher
       rw (floor-there h (took .floored) reserve) (ap (min (h .floor .0)) left)
 
   pub is-refilled : (n : Number) (k : ℕ) → Due es h → IsRefilled n es h (stampedAs (stamp n k) (refilled (reducedBy t r h)))
-  is-refilled n k due = record {
-    same = record { number = refl; price = refl; displayed = refl; back = refl; floor = refl };
-    stamp = refl;
-    shown = shown-again due;
-    inAll = omega (arith, left-is, shown-at-most (h .floor .0) (sharesLeft (reducedBy t r h)));
-  }
+  is-refilled n k due =
+      let x = reducedBy t r h in
+      let whole : sharesLeft x ≡ sharesLeft (refilled x) = omega (arith, shown-at-most (h .floor .0) (sharesLeft x)) in
+      record {
+        same = record {
+          number = refl;
+          price = refl;
+          displayed = refl;
+          back = refl;
+          floor = refl;
+          minimum = ap (min (h .minimum .0)) whole;
+        };
+        stamp = refl;
+        shown = shown-again due;
+        inAll = omega (arith, left-is, whole);
+      }
 
 -- ── The lines of the refills ──
 
@@ -200,7 +211,14 @@ module _ (m : Number) (o : Order) (met : Met) {last : Number} (once : onceEach (
   lines-took =
       let gives = takings-give o met in
       parts-alike
-      (λ h t r p. record { gives = p .1 .0; told = lines-give (h .number) ∙ p .1 .1; floored = one-of-all inRange (p .0) .floored })
+      (λ h t r p.
+      let range = one-of-all inRange (p .0) in
+      record {
+        gives = p .1 .0;
+        told = lines-give (h .number) ∙ p .1 .1;
+        floored = range .floored;
+        alone = least-alone h (range .least) (range .floored);
+      })
       (parts-there (parts-both gives (once-taken once gives)))
 
   -- so they tell who is refilled

@@ -13,6 +13,7 @@ use Rattle.basics.proofs.LawsChoice.{holds-or-not}
 use Rattle.basics.proofs.LawsLists.{gathered-sum}
 use Rattle.kinds.specs.declared.HalfCents.{HalfCents}
 use Rattle.kinds.specs.declared.Number.{Number}
+use Rattle.rules.specs.declared.Away.{Away}
 use Rattle.rules.specs.declared.Ending.{Ending}
 use Rattle.rules.specs.declared.Ending.the-variants.{Filled, Rests, Cancels}
 use Rattle.rules.specs.declared.Order.{Order}
@@ -23,7 +24,7 @@ use Rattle.rules.specs.Instructions.{ioc, fok, has}
 use Rattle.rules.specs.declared.Fate.{Fate}
 use Rattle.rules.specs.declared.Fate.the-variants.{Stays, IsCancelled, IsSet}
 use Rattle.rules.specs.Settling.{toldBy, told, settledSide}
-use Rattle.rules.specs.Working.{Met, buying, remainder, endingWith, ending, lastLine, floorOf, remainderOf, withRemainder}
+use Rattle.rules.specs.Working.{Met, buying, takings, remainder, endingWith, ending, lastLine, floorOf, remainderOf, withRemainder}
 use Rattle.rules.proofs.LawsCommands.{IfSet, SameOrder}
 use Rattle.rules.proofs.LawsFloors.{shown-at-most}
 use Rattle.rules.proofs.LawsHoldings.{each-parts, countedAs, takenFromHoldings, heldAs, after-sum}
@@ -182,20 +183,20 @@ isFilled (Cancels reason) = false
 abbrev Unfilled : Ending → Type 0
 Unfilled e = isFilled e ≡ false
 
-with-unfilled : (left : ℕ) (o : Order) (met : Met) → Leaves left (endingWith left o met)
+with-unfilled : (left : ℕ) (o : Order) (away : Away) (own opposite : List Resting) → Leaves left (endingWith left o away own opposite)
 unfolding endingWith
-with-unfilled left o met f =
+with-unfilled left o away own opposite f =
     ⊎-elim
     (λ (t : eqb left 0 ≡ true). eqb-true left 0 t)
     (λ (t : eqb left 0 ≡ false).
-    let u : Unfilled (endingWith left o met) =
+    let u : Unfilled (endingWith left o away own opposite) =
     rw t
     (chosen Unfilled (has (o .word) fok) refl
     (chosen Unfilled (has (o .word) ioc) refl
-    (sought-is Unfilled (λ price e. refl) refl refl refl o (met .away) (met .opposite) refl))) in
+    (sought-is Unfilled (λ price e. refl) refl refl refl refl o away own opposite refl))) in
     absurd (true≢false (sym (ap isFilled f) ∙ u)))
     (holds-or-not (eqb left 0))
 
 pub ending-leaves : (o : Order) (met : Met) → Leaves (remainder o met) (ending o met)
 unfolding ending
-ending-leaves o met = with-unfilled (remainder o met) o met
+ending-leaves o met = with-unfilled (remainder o met) o (met .away) (met .own) (after (met .opposite) (takings o met))

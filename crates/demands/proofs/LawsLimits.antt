@@ -27,10 +27,11 @@ use Rattle.rules.specs.declared.Resting.{Resting}
 use Rattle.rules.specs.Book.{Book, fresh, sound}
 use Rattle.rules.specs.Commands.{does}
 use Rattle.rules.specs.Day.{bookAfter}
+use Rattle.rules.specs.Holdings.{after}
 use Rattle.rules.specs.Instructions.{ioc, fok, displayed, cancelBack, postOnly, iso, has}
 use Rattle.rules.specs.Settling.{ownSide}
 use Rattle.rules.specs.Step.{answerTo}
-use Rattle.rules.specs.Working.{Met, buying, metBy, beyond, limitOf, lockingPrice, absent, remainder, adjusted, oneCentLessAggressive, seeks, meetsOrPasses, unlessPostOnlyMeets, endingWith, ending}
+use Rattle.rules.specs.Working.{Met, buying, metBy, beyond, limitOf, lockingPrice, absent, takings, remainder, adjusted, oneCentLessAggressive, seeks, meetsOrPasses, stillMeets, unlessItMeets, endingWith, ending}
 use Rattle.rules.proofs.LawsCommands.{fateBy, IfSet, if-set, never-set, crosses-beyond, not-beyond-itself}
 use Rattle.soundness.proofs.LawsEndings.{chosen}
 use Rattle.soundness.proofs.LawsKept.{answer-sound, fresh-sound}
@@ -97,10 +98,12 @@ module _ (o : Order) where
       (itself limit)))
 
   -- 5. changes no price
-  unless-within : (s : List Resting) (e : Ending) → WithinLimit o e → WithinLimit o (unlessPostOnlyMeets o s e)
-  unless-within s Filled w = tt
-  unless-within s (Rests price) w = chosen (WithinLimit o) (has (o .word) postOnly && any (meetsOrPasses (buying o) price) s) tt w
-  unless-within s (Cancels reason) w = tt
+  unless-within : (own left : List Resting) (e : Ending) → WithinLimit o e → WithinLimit o (unlessItMeets o own left e)
+  unless-within own left Filled w = tt
+  unless-within own left (Rests price) w =
+      chosen (WithinLimit o) (has (o .word) postOnly) (chosen (WithinLimit o) (any (meetsOrPasses (buying o) price) left) tt w)
+      (chosen (WithinLimit o) (stillMeets o own left price) tt w)
+  unless-within own left (Cancels reason) w = tt
 
   -- whatever becomes of the order
   ending-within : (met : Met) → WithinLimit o (ending o met)
@@ -108,7 +111,8 @@ module _ (o : Order) where
   ending-within met =
       chosen (WithinLimit o) (eqb (remainder o met) 0) tt
       (chosen (WithinLimit o) (has (o .word) fok) tt
-      (chosen (WithinLimit o) (has (o .word) ioc) tt (unless-within (met .opposite) (seeks o (met .away)) (seeks-within (met .away)))))
+      (chosen (WithinLimit o) (has (o .word) ioc) tt
+      (unless-within (met .own) (after (met .opposite) (takings o met)) (seeks o (met .away)) (seeks-within (met .away)))))
 
 -- ── Every resting order of a number ──
 

@@ -15,6 +15,7 @@ use Rattle.kinds.specs.declared.HalfCents.{HalfCents}
 use Rattle.kinds.specs.declared.Number.{Number}
 use Rattle.kinds.specs.declared.Shares.{Shares}
 use Rattle.kinds.specs.Kinds.{shares}
+use Rattle.rules.specs.declared.Away.{Away}
 use Rattle.rules.specs.declared.Ending.{Ending}
 use Rattle.rules.specs.declared.Ending.the-variants.{Filled, Rests, Cancels}
 use Rattle.rules.specs.declared.Event.{Event}
@@ -25,10 +26,10 @@ use Rattle.rules.specs.declared.Resting.{Resting}
 use Rattle.rules.specs.Book.{numbers, ranksBefore, inRankOrder}
 use Rattle.rules.specs.Commands.{isNumber}
 use Rattle.rules.specs.EventLines.{fokKilled}
-use Rattle.rules.specs.Holdings.{Holding, executions}
+use Rattle.rules.specs.Holdings.{Holding, nothing, executions}
 use Rattle.rules.specs.Instructions.{ioc, fok, has}
 use Rattle.rules.specs.Settling.{toldBy, told}
-use Rattle.rules.specs.Working.{Met, endingWith, lastLine, refillFate}
+use Rattle.rules.specs.Working.{endingWith, lastLine, refillFate}
 use Rattle.rules.proofs.LawsRank.{ranks-not-itself, ranked-first, ranked-rest, ranks-transitive}
 use Rattle.soundness.proofs.LawsEndings.{chosen, sought-is}
 use Rattle.soundness.proofs.LawsNumbers.{oneIf, fewer-distinct}
@@ -151,6 +152,12 @@ lines-of-taken m price (h ∷ hs) (t ∷ ts) =
     rw z (ap (λ (es : List Event). Executed m (h .of .number) (price (h .of)) (shares t) ∷ es) (lines-of-taken m price hs ts)))
     (holds-or-not (eqb t 0))
 
+-- where nothing is taken there is none
+pub lines-of-nothing : (m : Number) (price : Resting → HalfCents) (hs : List Holding) → linesOf m hs (pricedAt price hs (nothing hs)) ≡ []
+unfolding linesOf pricedAt nothing
+lines-of-nothing m price [] = refl
+lines-of-nothing m price (h ∷ hs) = lines-of-nothing m price hs
+
 -- no other line of an order is one of them
 last-no-execution : (m : Number) (left : ℕ) (e : Ending) → executionsIn (lastLine m left e) ≡ []
 unfolding gathered
@@ -243,16 +250,17 @@ abbrev Lives : Ending → Type 0
 Lives e = isKill e ≡ false
 
 -- an order ends as a killed one exactly if it is a Fill-or-Kill of which something is left
-pub ending-kills : (left : ℕ) (o : Order) (met : Met) → isKill (endingWith left o met) ≡ (not (eqb left 0) && has (o .word) fok)
+pub ending-kills : (left : ℕ) (o : Order) (away : Away) (own opposite : List Resting)
+    → isKill (endingWith left o away own opposite) ≡ (not (eqb left 0) && has (o .word) fok)
 unfolding endingWith
-ending-kills left o met =
+ending-kills left o away own opposite =
     ⊎-elim
     (λ (z : eqb left 0 ≡ true). rw z refl)
     (λ (z : eqb left 0 ≡ false).
     ⊎-elim
     (λ (k : has (o .word) fok ≡ true). rw (z, k) refl)
     (λ (k : has (o .word) fok ≡ false).
-    rw (z, k) (chosen Lives (has (o .word) ioc) refl (sought-is Lives (λ price e. refl) refl refl refl o (met .away) (met .opposite) refl)))
+    rw (z, k) (chosen Lives (has (o .word) ioc) refl (sought-is Lives (λ price e. refl) refl refl refl refl o away own opposite refl)))
     (holds-or-not (has (o .word) fok)))
     (holds-or-not (eqb left 0))
 

@@ -1,6 +1,6 @@
 -- W6's sentences (02): no execution at a locked price against the hidden order, whole cents exactly where no lock stands, never through the
 -- away quote, when Post Only is cancelled, and who stands opposite whom. Assumes nothing.
-use Prim.Native.Nat.{ℕ, _+_, _-_, _%_, _≤_}
+use Prim.Native.Nat.{ℕ, _+_, _-_, _%_, _≤_, _<_}
 use mathlib.Core.Bool.{Bool, true, false, not, _&&_, _||_, true≢false}
 use mathlib.Core.List.{List, [], _∷_, _++_, append-nil}
 use mathlib.Core.Logic.{_≢_, ⊎-elim}
@@ -27,11 +27,12 @@ use Rattle.rules.specs.declared.Resting.{Resting}
 use Rattle.rules.specs.Book.{Book, BookRecord, inRankOrder, apart, sound, bookIn, recordSound}
 use Rattle.rules.specs.CommandLines.{commandIn}
 use Rattle.rules.specs.Day.{printed}
+use Rattle.rules.specs.EventLines.{wouldStillMeet}
 use Rattle.rules.specs.Holdings.{Holding, holdings, nothing, executions, after}
 use Rattle.rules.specs.Instructions.{fok, ioc, has, iso, market, postOnly, displayed, cancelBack}
 use Rattle.rules.specs.Settling.{ownSide, told}
 use Rattle.rules.specs.Step.{answerTo}
-use Rattle.rules.specs.Working.{Met, buying, metBy, refillFate, executionPrice, takings, remainder, ending, endingWith, lastLine, adjusted, seeks, meetsOrPasses, unlessPostOnlyMeets}
+use Rattle.rules.specs.Working.{Met, buying, metBy, refillFate, executionPrice, takings, remainder, ending, endingWith, lastLine, adjusted, seeks, meetsOrPasses, stillMeets, unlessItMeets}
 use Rattle.rules.specs.Working.{limitOf, lockingPrice, absent, beyond, oneCentLessAggressive}
 use Rattle.rules.proofs.LawsTakings.{nothing-total}
 use Rattle.rules.proofs.LawsWalkOrder.{refill-not-due}
@@ -39,7 +40,7 @@ use Rattle.soundness.proofs.LawsApart.{clear, apart-all, apart-best}
 use Rattle.soundness.proofs.LawsLeaves.{after-nothing}
 use Rattle.soundness.proofs.LawsEndings.{chosen}
 use Rattle.soundness.proofs.LawsRecords.{book-sound}
-use Rattle.soundness.proofs.LawsSides.{InRange, sides-of}
+use Rattle.soundness.proofs.LawsSides.{InRange, sides-of, all-holding}
 use Rattle.soundness.proofs.LawsSound.{sound-is}
 use Rattle.demands.specs.ExactlyWhen.{own}
 use Rattle.demands.specs.Locks.{ExecutesWith, MeetsOrPasses, buyMeets, buyPasses, sellMeets, sellPasses, PostOnlyMeets, SaysOfPostOnly, StandApart, RestsAtWholeCents}
@@ -148,12 +149,12 @@ is-met o price h (sellMeets side d l) = rw (d, sells-other (o .side) side) (le-l
 is-met o price h (sellPasses side d l) = rw (d, sells-other (o .side) side) (lt-ltb (price .0) (h .price .0) l)
 
 -- one of a list that passes a test, and a test that none passes
-record Found (test : Resting → Bool) (s : List Resting) : Type 0 where
-  whom : Resting
-  there : OneOf whom s
-  passes : test whom ≡ true
+pub record Found (test : Resting → Bool) (s : List Resting) : Type 0 where
+  pub whom : Resting
+  pub there : OneOf whom s
+  pub passes : test whom ≡ true
 
-any-found : (test : Resting → Bool) (s : List Resting) → any test s ≡ true → Found test s
+pub any-found : (test : Resting → Bool) (s : List Resting) → any test s ≡ true → Found test s
 unfolding any
 any-found test [] e = absurd (true≢false (sym e))
 any-found test (h ∷ s) e =
@@ -162,7 +163,7 @@ any-found test (h ∷ s) e =
     (λ (t : test h ≡ false). let f = any-found test s (rw t at e) in record { whom = f .whom; there = later (f .there); passes = f .passes })
     (holds-or-not (test h))
 
-none-passes : (test : Resting → Bool) {h : Resting} {s : List Resting} → any test s ≡ false → OneOf h s → test h ≡ true → ⊥
+pub none-passes : (test : Resting → Bool) {h : Resting} {s : List Resting} → any test s ≡ false → OneOf h s → test h ≡ true → ⊥
 unfolding any
 none-passes test e first t = true≢false (rw t at e)
 none-passes test {s = y ∷ s} e (later p) t =
@@ -177,61 +178,76 @@ EndsAsItMeets o b Filled = Unit {0}
 EndsAsItMeets o b (Rests price) = has (o .word) postOnly ≡ true → any (meetsOrPasses (buying o) price) (metBy o b .opposite) ≡ false
 EndsAsItMeets o b (Cancels reason) = reason ≡ 6 → PostOnlyMeets o b
 
--- what a remainder seeks is never cancelled for that reason
-NotSix : Ending → Type 0
-NotSix Filled = Unit {0}
-NotSix (Rests price) = Unit {0}
-NotSix (Cancels reason) = reason ≢ 6
+-- what a remainder seeks is cancelled with reason 4 or 5 only
+abbrev pub BelowSix : Ending → Type 0
+BelowSix Filled = Unit {0}
+BelowSix (Rests price) = Unit {0}
+BelowSix (Cancels reason) = reason < 6
 
-adjusted-not-six : (o : Order) (price : HalfCents) → NotSix (adjusted o price)
-unfolding NotSix
-adjusted-not-six o price =
-    chosen NotSix (has (o .word) cancelBack) (λ e. omega (arith, e)) (chosen NotSix (restingPriceInRange price) tt (λ e. omega (arith, e)))
+adjusted-below-six : (o : Order) (price : HalfCents) → BelowSix (adjusted o price)
+adjusted-below-six o price =
+    chosen BelowSix (has (o .word) cancelBack) (omega arith) (chosen BelowSix (restingPriceInRange price) tt (omega arith))
 
-seeks-not-six : (o : Order) (away : Away) → NotSix (seeks o away)
-unfolding NotSix seeks
-seeks-not-six o away =
+pub seeks-below-six : (o : Order) (away : Away) → BelowSix (seeks o away)
+unfolding seeks
+seeks-below-six o away =
     let locking = lockingPrice (buying o) away in
     let wouldCross = beyond (buying o) locking (limitOf o) in
     let wouldLock = eqb (limitOf o .0) (locking .0) in
-    chosen NotSix (has (o .word) iso || absent locking) tt
-    (chosen NotSix (has (o .word) displayed && (wouldLock || wouldCross)) (adjusted-not-six o (oneCentLessAggressive (buying o) locking))
-    (chosen NotSix (not (has (o .word) displayed) && wouldCross) (adjusted-not-six o locking) tt))
+    chosen BelowSix (has (o .word) iso || absent locking) tt
+    (chosen BelowSix (has (o .word) displayed && (wouldLock || wouldCross))
+    (adjusted-below-six o (oneCentLessAggressive (buying o) locking))
+    (chosen BelowSix (not (has (o .word) displayed) && wouldCross) (adjusted-below-six o locking) tt))
 
-module _ (o : Order) (b : Book) (isSide : o .side ≤ 1) where
-  sought-ends : (e : Ending) → seeks o (b .held .away) ≡ e → EndsAsItMeets o b (unlessPostOnlyMeets o (metBy o b .opposite) e)
-  unfolding NotSix
+-- where Post Only leaves the side that it meets as it stood
+module _ (o : Order) (b : Book) (isSide : o .side ≤ 1) (left : List Resting)
+    (stays : has (o .word) postOnly ≡ true → left ≡ metBy o b .opposite) where
+  sought-ends : (e : Ending) → seeks o (b .held .away) ≡ e → EndsAsItMeets o b (unlessItMeets o (metBy o b .own) left e)
   sought-ends Filled is = tt
   sought-ends (Rests price) is =
-      by-choice (EndsAsItMeets o b) (has (o .word) postOnly && any (meetsOrPasses (buying o) price) (metBy o b .opposite))
+      by-choice (EndsAsItMeets o b) (has (o .word) postOnly)
+      (λ post. rw (stays post)
+      (by-choice (EndsAsItMeets o b) (any (meetsOrPasses (buying o) price) (metBy o b .opposite))
       (λ t r.
-      let f = any-found (meetsOrPasses (buying o) price) (metBy o b .opposite) (and-right (has (o .word) postOnly) _ t) in
+      let f = any-found (meetsOrPasses (buying o) price) (metBy o b .opposite) t in
       record {
-        isPostOnly = and-left (has (o .word) postOnly) _ t;
+        isPostOnly = post;
         price = price;
         sought = is;
         whom = f .whom;
         there = f .there;
         meets = met-is o price (f .whom) isSide (f .passes);
       })
-      (λ t post. rw post at t)
-  sought-ends (Cancels reason) is = λ r. absurd (subst NotSix is (seeks-not-six o (b .held .away)) r)
+      (λ t also-post. t)))
+      (λ other.
+      by-choice (EndsAsItMeets o b) (stillMeets o (metBy o b .own) left price)
+      (λ t (r : wouldStillMeet ≡ 6). let z : ⊥ = omega (arith, r) in absurd z)
+      (λ t post. absurd (true≢false (sym post ∙ other))))
+  sought-ends (Cancels reason) is = λ r. let z : ⊥ = omega (arith, r, subst BelowSix is (seeks-below-six o (b .held .away))) in absurd z
 
-  ends-as-it-meets : (left : ℕ) → EndsAsItMeets o b (endingWith left o (metBy o b))
+  ends-as-it-meets : (remains : ℕ) → EndsAsItMeets o b (endingWith remains o (b .held .away) (metBy o b .own) left)
   unfolding endingWith
-  ends-as-it-meets left =
-      chosen (EndsAsItMeets o b) (eqb left 0) tt
+  ends-as-it-meets remains =
+      chosen (EndsAsItMeets o b) (eqb remains 0) tt
       (chosen (EndsAsItMeets o b) (has (o .word) fok) (λ r. absurd-of (omega (arith, r)))
       (chosen (EndsAsItMeets o b) (has (o .word) ioc) (λ r. absurd-of (omega (arith, r))) (sought-ends (seeks o (b .held .away)) refl)))
     where
       absurd-of : ⊥ → PostOnlyMeets o b
       absurd-of z = absurd z
 
+module _ (o : Order) (b : Book) where
   last-says : (n : Number) (left : ℕ) (e : Ending) → EndsAsItMeets o b e → All (SaysOfPostOnly o b) (lastLine n left e)
   last-says n left Filled ends = none
   last-says n left (Rests price) ends =
       also {x = Rested n price (shares left)} (λ post h p m. none-passes (meetsOrPasses (buying o) price) (ends post) p (is-met o price h m)) none
   last-says n left (Cancels reason) ends = also {x = Cancelled n (shares left) reason} ends none
+
+-- Post Only leaves the side that it meets as it stood
+pub post-only-leaves : (o : Order) (b : Book) → sound b ≡ true → has (o .word) postOnly ≡ true
+    → after (metBy o b .opposite) (takings o (metBy o b)) ≡ metBy o b .opposite
+post-only-leaves o b s post =
+    rw (post-only-takes-nothing o (metBy o b) post)
+    (after-nothing (all-holding (b .held .last) (sides-of (buying o) b (sound-is b s) .oppositeInRange)))
 
 -- "So Post Only is now cancelled with reason 6 only if it meets a displayed order or would pass a hidden one."
 pub post-only-as-it-meets : (b : Book) (line : List ℕ) (c : Command) (o : Order) → sound b ≡ true → acts b line ≡ true
@@ -242,12 +258,14 @@ post-only-as-it-meets b line c o s t e f =
     let met = metBy o b in
     let side = order-side o (acts-order b c o (acts-accepted b line c t e) f .inRange) in
     let executed = every-execution {P = SaysOfPostOnly o b} n (executionPrice o met) (λ h k. tt) (holdings (met .opposite)) (takings o met) in
-    let last = last-says o b side n (remainder o met) (ending o met) (ends-as-it-meets o b side (remainder o met)) in
-    let refills = every-refill {P = SaysOfPostOnly o b} (λ m price k. tt) (after (met .opposite) (takings o met)) in
+    let left = after (met .opposite) (takings o met) in
+    let ends = ends-as-it-meets o b side left (post-only-leaves o b s) (remainder o met) in
+    let last = last-says o b n (remainder o met) (ending o met) ends in
+    let refills = every-refill {P = SaysOfPostOnly o b} (λ m price k. tt) left in
     subst (All (SaysOfPostOnly o b)) (sym (line-told b line s ∙ acts-lines b line c o t e f)) (all-both executed (all-both last refills))
 
 -- one of a list that passes a test
-any-there : (test : Resting → Bool) {h : Resting} {s : List Resting} → OneOf h s → test h ≡ true → any test s ≡ true
+pub any-there : (test : Resting → Bool) {h : Resting} {s : List Resting} → OneOf h s → test h ≡ true → any test s ≡ true
 any-there test {s = s} p t =
     ⊎-elim (λ (e : any test s ≡ true). e) (λ (e : any test s ≡ false). absurd (none-passes test e p t)) (holds-or-not (any test s))
 
@@ -268,17 +286,18 @@ module _ (b : Book) (line : List ℕ) (c : Command) (o : Order) (s : sound b ≡
   abbrev met : Met
   met = metBy o b
 
-  writes-one : eventsIn (printed (answerTo b line)) ≡ lastLine (c .number) (o .shares .0) (unlessPostOnlyMeets o (met .opposite) (seeks o (met .away)))
+  writes-one : eventsIn (printed (answerTo b line))
+      ≡ lastLine (c .number) (o .shares .0) (unlessItMeets o (met .own) (met .opposite) (seeks o (met .away)))
   unfolding ending endingWith remainder
   writes-one =
       let idle = post-only-takes-nothing o met post in
       let range = sides-of (buying o) b (sound-is b s) .oppositeInRange in
       let same : after (met .opposite) (nothing (holdings (met .opposite))) ≡ met .opposite =
-      after-nothing (all-alike (λ h r. omega (arith, r .holding)) range) in
+      after-nothing (all-holding (b .held .last) range) in
       let all : o .shares .0 - total (nothing (holdings (met .opposite))) ≡ o .shares .0 = omega (arith, nothing-total (holdings (met .opposite))) in
       let some : eqb (o .shares .0) 0 ≡ false =
       ne-eqb (o .shares .0) 0 (λ z. omega (arith, z, order-shares o (acts-order b c o (acts-accepted b line c t e) f .inRange))) in
-      let last = lastLine (c .number) (o .shares .0) (unlessPostOnlyMeets o (met .opposite) (seeks o (met .away))) in
+      let last = lastLine (c .number) (o .shares .0) (unlessItMeets o (met .own) (met .opposite) (seeks o (met .away))) in
       let refills = none-refilled (all-alike (λ h r. r .holding) range) in
       line-told b line s ∙ acts-lines b line c o t e f
       ∙ rw (idle, none-executed (c .number) (executionPrice o met) (holdings (met .opposite)), all, some, kill, cancel, same, refills) (append-nil last)

@@ -78,7 +78,17 @@ ranks-behind buy x y same hidden before =
 
 -- the order that the rules set anew is set anew in 02's words
 is-anew : (n : Number) (k : ℕ) (buy : Bool) (away : Away) {h : Resting} {s : List Resting} (p : OneOf h s) → SetAnew buy n away h (movedTo n k buy away p)
-is-anew n k buy away p = record { price = sym (locking-is buy away); stamp = refl; number = refl; shares = refl; displayed = refl; back = refl; reserve = refl; floor = refl }
+is-anew n k buy away p = record {
+  price = sym (locking-is buy away);
+  stamp = refl;
+  number = refl;
+  shares = refl;
+  displayed = refl;
+  back = refl;
+  reserve = refl;
+  floor = refl;
+  minimum = refl;
+}
 
 -- a side of a sound book, and a command whose number is above the last
 module _ (buy : Bool) (n : Number) (k : ℕ) (away : Away) {last : Number} {s opposite : List Resting}

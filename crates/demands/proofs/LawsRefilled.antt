@@ -34,7 +34,7 @@ use Rattle.rules.proofs.LawsHoldings.{Parts, parts-alike, keeping-all}
 use Rattle.rules.proofs.LawsRank.{earlier-command, earlier-place}
 use Rattle.rules.proofs.LawsWalkOrder.{parts-there, keeping-has, RefillSays, refill-says, refill-due, refill-not-due}
 use Rattle.soundness.proofs.LawsSettled.{setPlace, settled-are, settled-stays, settled-sets}
-use Rattle.soundness.proofs.LawsSides.{InRange, sides-of}
+use Rattle.soundness.proofs.LawsSides.{InRange, sides-of, all-holding}
 use Rattle.soundness.proofs.LawsSound.{sound-is}
 use Rattle.soundness.proofs.LawsThinned.{thinned-after, thinned-ranked}
 use Rattle.demands.specs.Once.{acts}
@@ -203,12 +203,13 @@ side-refilled : (m : Number) (o : Order) (met : Met) {last : Number} → onceEac
     → (buy : Bool) (k : ℕ) → inRankOrder buy (met .opposite) ≡ true → last .0 < m .0
     → Refills buy m (met .opposite) (settledSide m k buy refillFate (after (met .opposite) (takings o met))) (workLines m o met)
 unfolding after
-side-refilled m o met once inRange buy k ranked above =
+side-refilled m o met {last = last} once inRange buy k ranked above =
     refills-side buy m k (lines-took m o met once inRange) once inRange
-    (thinned-ranked buy (thinned-after (takings o met) (all-alike (λ h r. omega (arith, r .holding)) inRange)) ranked) above
+    (thinned-ranked buy (thinned-after (takings o met) (all-holding last inRange)) ranked) above
 
 -- the side that it meets, afterwards
-opposite-left : (b : Book) (line : List ℕ) (c : Command) (o : Order) → acts b line ≡ true → commandIn line ≡ reading.Is c → c .body ≡ body.Order o
+pub opposite-left : (b : Book) (line : List ℕ) (c : Command) (o : Order) → acts b line ≡ true → commandIn line ≡ reading.Is c
+    → c .body ≡ body.Order o
     → opposite o (answerTo b line .book)
     ≡ settledSide (c .number) firstMove (not (buying o)) refillFate (after (opposite o b) (takings o (metBy o b)))
 opposite-left b line c o t e f =

@@ -1,6 +1,6 @@
 -- The most that one command writes (`specs/Room`), so that its lines fit the room that refusal 1 asks for. The walk of an order is greedy:
--- the holdings that it reaches give all they have; only the last may give a part, and then nothing of the order is left for a line of its
--- own. So each holding has its execution or may have a refill, and at most one has both. Assumes nothing.
+-- the holdings that it reaches give all they have, or are skipped (02, W7); only the last may give a part, and then nothing of the order is
+-- left for a line of its own. So each holding has its execution or may have a refill, and at most one has both. Assumes nothing.
 use Prim.Native.Nat.{ℕ, _+_, _-_, _*_, _≤_, _<_, min}
 use mathlib.Core.Bool.{Bool, true, false, _&&_}
 use mathlib.Core.List.{List, [], _∷_, _++_}
@@ -12,7 +12,7 @@ use native.Mathlib.Nat.{min-eq-right, sub-self}
 use native.Mathlib.Omega.{arith}
 use borrow.Author.Tests.{eqb-true, eqb-false}
 use Rattle.basics.specs.Lists.{gathered, total, Each, empty, with}
-use Rattle.basics.proofs.LawsChoice.{holds-or-not, lt-or-le, and-right}
+use Rattle.basics.proofs.LawsChoice.{holds-or-not, by-choice, lt-or-le, and-right}
 use Rattle.kinds.specs.declared.HalfCents.{HalfCents}
 use Rattle.kinds.specs.declared.Number.{Number}
 use Rattle.rules.specs.declared.Body.{Body}
@@ -27,7 +27,7 @@ use Rattle.rules.specs.CommandLines.{commandIn}
 use Rattle.rules.specs.Commands.{does}
 use Rattle.rules.specs.Day.{printed}
 use Rattle.rules.specs.EventLines.{eventLines}
-use Rattle.rules.specs.Holdings.{Holding, size, holdings, ordersOf, nothing, walk, smaller, executions, takenOf, reducedBy, keeping, after}
+use Rattle.rules.specs.Holdings.{Holding, size, holdings, ordersOf, nothing, walk, isSkipped, smaller, executions, takenOf, reducedBy, keeping, after}
 use Rattle.rules.specs.Refusals.{leastRoom, firstOf, lineRefusals, refusals}
 use Rattle.rules.specs.Settling.{told, oppositeSide}
 use Rattle.rules.specs.Step.{doneBy, answer, answerTo, stepOn}
@@ -59,14 +59,18 @@ nothing-writes n price [] = omega (arith, none-long)
 nothing-writes n price (h ∷ s) = omega (arith, executions-more n price h s 0 (nothing s), nothing-writes n price s)
 
 -- only a holding that gives a part can have both lines, and then nothing is left
-one-writes : (left held : ℕ)
-    → let t = min left held in
-    35 * min 1 t + 27 * min 1 (held - t) + 27 * min 1 (left - t) ≤ 35 + 27 * min 1 left
-one-writes left held =
-    ⊎-elim
-    (λ (l : left < held). let part : min left held ≡ left = omega arith in rw part (omega arith))
-    (λ (l : held ≤ left). rw (min-eq-right l, sub-self) (omega arith))
-    (lt-or-le left held)
+abbrev OneWrites : ℕ → ℕ → ℕ → Type 0
+OneWrites left held t = 35 * min 1 t + 27 * min 1 (held - t) + 27 * min 1 (left - t) ≤ 35 + 27 * min 1 left
+
+one-writes : (left : ℕ) (h : Holding) → OneWrites left (size h) (smaller left h)
+one-writes left h = by-choice (OneWrites left (size h)) (isSkipped left h) (λ t. omega arith) (λ t. part-writes left (size h))
+  where
+    part-writes : (left held : ℕ) → OneWrites left held (min left held)
+    part-writes left held =
+        ⊎-elim
+        (λ (l : left < held). let part : min left held ≡ left = omega arith in rw part (omega arith))
+        (λ (l : held ≤ left). rw (min-eq-right l, sub-self) (omega arith))
+        (lt-or-le left held)
 
 walk-writes : (n : Number) (price : Resting → HalfCents) (may : Holding → Bool) (left : ℕ) (hs : List Holding)
     → let ts = walk may smaller left hs in
@@ -79,7 +83,7 @@ walk-writes n price may left (h ∷ s) =
     let gives = smaller left h in
     let ts = walk may smaller (left - gives) s in
     let others : min 1 (left - (gives + total ts)) ≡ min 1 (left - gives - total ts) = ap (min 1) (omega arith) in
-    rw t (omega (arith, executions-more n price h s gives ts, walk-writes n price may (left - gives) s, one-writes left (size h), others)))
+    rw t (omega (arith, executions-more n price h s gives ts, walk-writes n price may (left - gives) s, one-writes left h, others)))
     (λ (t : may h ≡ false). rw t (omega (arith, nothing-writes n price (h ∷ s), nothing-total (h ∷ s))))
     (holds-or-not (may h))
 

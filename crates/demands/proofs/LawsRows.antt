@@ -8,7 +8,7 @@ use mathlib.Core.Path.{_≡_, refl, sym, ap, _∙_}
 use lib.Dec.{eqb, leb, ltb}
 use lib.ListN.{length}
 use native.Mathlib.Omega.{arith}
-use borrow.Author.Tests.{ltb-true, leb-true, leb-false, eqb-false, not-true, lt-ltb, le-leb, lt-leb, ne-eqb}
+use borrow.Author.Tests.{ltb-true, leb-true, leb-false, eqb-false, not-true, not-false, lt-ltb, le-leb, lt-leb, ne-eqb}
 use Rattle.basics.specs.Choice.{if_then_else_}
 use Rattle.basics.specs.Lists.{any, All, none, also}
 use Rattle.basics.proofs.LawsChoice.{holds-or-not, and-left, and-right, and-none, or-neither}
@@ -21,7 +21,7 @@ use Rattle.rules.specs.declared.Away.{Away}
 use Rattle.rules.specs.declared.Body.{Body}
 use Rattle.rules.specs.declared.Body.the-variants as body
 use Rattle.rules.specs.declared.Carried.{Carried}
-use Rattle.rules.specs.declared.Carried.the-variants.{Nothing, MaxFloor}
+use Rattle.rules.specs.declared.Carried.the-variants.{Nothing, MaxFloor, Minimum}
 use Rattle.rules.specs.declared.Command.{Command}
 use Rattle.rules.specs.declared.Ending.{Ending}
 use Rattle.rules.specs.declared.Ending.the-variants.{Filled, Rests, Cancels}
@@ -29,10 +29,10 @@ use Rattle.rules.specs.declared.Order.{Order}
 use Rattle.rules.specs.declared.Resting.{Resting}
 use Rattle.rules.specs.Book.{Book, BookRecord, bookIn, awayInRange, opening, closing, placesASide}
 use Rattle.rules.specs.Commands.{isNumber}
-use Rattle.rules.specs.Instructions.{market, reserve, has, lawful}
-use Rattle.rules.specs.Refusals.{Refusal, isClose, untimely, carriesFloor, orderLawful, orderPriceInRange, carriedInRange, orderInRange, isResting, isRest, restsOnFullSide, headerRefusals, bodyRefusals}
+use Rattle.rules.specs.Instructions.{displayed, market, reserve, has, needs, lawful}
+use Rattle.rules.specs.Refusals.{Refusal, isClose, untimely, carriesFloor, carriesMinimum, orderLawful, orderPriceInRange, carriedInRange, orderInRange, isResting, isRest, restsOnFullSide, headerRefusals, bodyRefusals}
 use Rattle.rules.specs.Working.{metBy, ending}
-use Rattle.demands.specs.ExactlyWhen.{own, NeitherNoneNorInRange, AppliesTo, seen, tooHigh, isClosed, beforeTheLast, beforeTheOpening, fromTheClosingOn, afterTheClosing, unlawful, reserveWithNoFloor, floorWithNoReserve, noSide, sharesOutside, limitOutside, marketPriced, floorOutside, bidOutside, offerOutside, notResting, sideFull}
+use Rattle.demands.specs.ExactlyWhen.{own, NeitherNoneNorInRange, AppliesTo, seen, tooHigh, isClosed, beforeTheLast, beforeTheOpening, fromTheClosingOn, afterTheClosing, unlawful, reserveWithNoFloor, floorWithNoReserve, reserveWithMinimum, minimumDisplayed, noSide, sharesOutside, limitOutside, marketPriced, floorOutside, minimumOutside, bidOutside, offerOutside, notResting, sideFull}
 
 -- a table gives a number, in one of its rows
 pub data Gives : ℕ → List Refusal → Type 0 where
@@ -50,6 +50,11 @@ either-holds false b h = inr h
 either-fails : (a b : Bool) → (a && b) ≡ false → (a ≡ false) ⊎ (b ≡ false)
 either-fails true b h = inr h
 either-fails false b h = inl refl
+
+-- a test that is not as one that fails holds
+unlike-none : (t : Bool) → Bool·beq t false ≡ false → t ≡ true
+unlike-none true h = refl
+unlike-none false h = absurd (true≢false h)
 
 -- a number that is not from the least to the most is below the one or above the other
 is-outside : (least most n : ℕ) → (leb least n && leb n most) ≡ false → (n < least) ⊎ (most < n)
@@ -132,9 +137,10 @@ module _ (r : BookRecord) (c : Command) (o : Order) (is : c .body ≡ body.Order
       (λ (t : has (o .word) market ≡ false). limitOutside o is t (is-outside lowestPrice highestPrice (o .price .0) (rw t at h)))
       (holds-or-not (has (o .word) market))
 
-  floor-applies : (x : Carried) → o .carried ≡ x → carriedInRange (o .shares) x ≡ false → AppliesTo r c 9
-  floor-applies Nothing e h = absurd (true≢false h)
-  floor-applies (MaxFloor floor) e h = floorOutside o is floor e (is-outside 1 (o .shares .0) (floor .0) h)
+  carried-applies : (x : Carried) → o .carried ≡ x → carriedInRange (o .shares) x ≡ false → AppliesTo r c 9
+  carried-applies Nothing e h = absurd (true≢false h)
+  carried-applies (MaxFloor floor) e h = floorOutside o is floor e (is-outside 1 (o .shares .0) (floor .0) h)
+  carried-applies (Minimum least) e h = minimumOutside o is least e (is-outside 1 (o .shares .0) (least .0) h)
 
   range-applies : orderInRange o ≡ false → AppliesTo r c 9
   range-applies h =
@@ -149,28 +155,35 @@ module _ (r : BookRecord) (c : Command) (o : Order) (is : c .body ≡ body.Order
       (either-fails (leb (o .side) 1) (sharesInRange (o .shares)) u))
       price-applies
       (either-fails sized (orderPriceInRange o) t))
-      (floor-applies (o .carried) refl)
+      (carried-applies (o .carried) refl)
       (either-fails (sized && orderPriceInRange o) (carriedInRange (o .shares) (o .carried)) h)
 
-  -- a word that is unlawful, or whose bit 10 does not go with what is carried: row 8 applies
+  -- a word that is unlawful, or that does not go with what is carried, by its bit 10 or by Displayed: row 8 applies
   floor-word-applies : (x : Carried) → o .carried ≡ x → Bool·beq (has (o .word) reserve) (carriesFloor x) ≡ false → AppliesTo r c 8
   floor-word-applies Nothing e h = reserveWithNoFloor o is e (unlike-none (has (o .word) reserve) h)
-    where
-      unlike-none : (t : Bool) → Bool·beq t false ≡ false → t ≡ true
-      unlike-none true h = refl
-      unlike-none false h = absurd (true≢false h)
   floor-word-applies (MaxFloor floor) e h = floorWithNoReserve o is floor e (unlike-some (has (o .word) reserve) h)
     where
       unlike-some : (t : Bool) → Bool·beq t true ≡ false → t ≡ false
       unlike-some true h = absurd (true≢false h)
       unlike-some false h = refl
+  floor-word-applies (Minimum least) e h = reserveWithMinimum o is least e (unlike-none (has (o .word) reserve) h)
+
+  minimum-word-applies : (x : Carried) → o .carried ≡ x → needs (carriesMinimum x) (not (has (o .word) displayed)) ≡ false → AppliesTo r c 8
+  minimum-word-applies Nothing e h = absurd (true≢false h)
+  minimum-word-applies (MaxFloor floor) e h = absurd (true≢false h)
+  minimum-word-applies (Minimum least) e h = minimumDisplayed o is least e (not-false (has (o .word) displayed) h)
 
   word-applies : orderLawful o ≡ false → AppliesTo r c 8
   word-applies h =
+      let bit10 = Bool·beq (has (o .word) reserve) (carriesFloor (o .carried)) in
       ⊎-elim
-      (λ (t : lawful (o .word) ≡ false). unlawful o is t)
+      (λ (t : (lawful (o .word) && bit10) ≡ false).
+      ⊎-elim
+      (λ (u : lawful (o .word) ≡ false). unlawful o is u)
       (floor-word-applies (o .carried) refl)
-      (either-fails (lawful (o .word)) (Bool·beq (has (o .word) reserve) (carriesFloor (o .carried))) h)
+      (either-fails (lawful (o .word)) bit10 t))
+      (minimum-word-applies (o .carried) refl)
+      (either-fails (lawful (o .word) && bit10) (needs (carriesMinimum (o .carried)) (not (has (o .word) displayed))) h)
 
 -- ── 10: no order of that number rests ──
 
@@ -279,8 +292,11 @@ module _ (r : BookRecord) (c : Command) where
   applies-gives (afterTheClosing l) =
       by-time (rw (after-too-late (c .body) (c .time) l) (or-true (ltb (c .time) (r .held .time) || ltb (c .time) opening)))
   applies-gives (unlawful o is t) = by-word o is (rw t refl)
-  applies-gives (reserveWithNoFloor o is e t) = by-word o is (rw (e, t) (and-none (lawful (o .word))))
-  applies-gives (floorWithNoReserve o is floor e t) = by-word o is (rw (e, t) (and-none (lawful (o .word))))
+  applies-gives (reserveWithNoFloor o is e t) = by-word o is (rw (e, t, and-none (lawful (o .word))) refl)
+  applies-gives (floorWithNoReserve o is floor e t) = by-word o is (rw (e, t, and-none (lawful (o .word))) refl)
+  applies-gives (reserveWithMinimum o is least e t) = by-word o is (rw (e, t, and-none (lawful (o .word))) refl)
+  applies-gives (minimumDisplayed o is least e t) =
+      by-word o is (rw (e, t) (and-none (lawful (o .word) && Bool·beq (has (o .word) reserve) false)))
   applies-gives (noSide o is n m) = by-range o is (rw (lt-leb (o .side) 1 (omega (arith, n, m))) refl)
   applies-gives (sharesOutside o is out) =
       by-range o is (rw (not-within fewestShares mostShares (o .shares .0) out, and-none (leb (o .side) 1)) refl)
@@ -291,6 +307,9 @@ module _ (r : BookRecord) (c : Command) where
   applies-gives (floorOutside o is floor e out) =
       by-range o is
       (rw (e, not-within 1 (o .shares .0) (floor .0) out) (and-none (leb (o .side) 1 && sharesInRange (o .shares) && orderPriceInRange o)))
+  applies-gives (minimumOutside o is least e out) =
+      by-range o is
+      (rw (e, not-within 1 (o .shares .0) (least .0) out) (and-none (leb (o .side) 1 && sharesInRange (o .shares) && orderPriceInRange o)))
   applies-gives (bidOutside away is out) = by-away away is (rw (away-not-within (away .bid) out) refl)
   applies-gives (offerOutside away is out) = by-away away is (rw (away-not-within (away .offer) out) (and-none (awayInRange (away .bid))))
   applies-gives (notResting n is a) = by-its-body (body.Cancel n) is (here (ap not (found-on-neither n (bookIn r .buys) (bookIn r .sells) a)))

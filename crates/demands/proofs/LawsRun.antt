@@ -11,6 +11,7 @@ use Rattle.basics.specs.Bytes.{onto}
 use Rattle.basics.specs.Choice.{if_then_else_}
 use Rattle.basics.proofs.LawsChoice.{holds-or-not}
 use Rattle.kinds.specs.declared.Number.{Number}
+use Rattle.rules.specs.declared.Body.the-variants as body
 use Rattle.rules.specs.declared.Command.{Command}
 use Rattle.rules.specs.declared.Order.{Order}
 use Rattle.rules.specs.declared.Reading.the-variants as reading
@@ -24,6 +25,7 @@ use Rattle.rules.specs.Refusals.{leastRoom, firstOf, lineRefusals, refusals}
 use Rattle.rules.specs.Step.{doneBy, answer, answerTo, step, stepOn}
 use Rattle.soundness.proofs.LawsKept.{answer-sound, fresh-sound, book-record, record-sound}
 use Rattle.demands.specs.Executes.{Executes}
+use Rattle.demands.specs.Minimum.{NoMinimum}
 use Rattle.demands.specs.Once.{acts, byLine}
 use Rattle.demands.specs.Run.{eventsOf, Enters, now, later}
 use Rattle.demands.specs.Told.{eventsIn, executedIn, cancelledIn, restingOf}
@@ -66,12 +68,29 @@ accepted-does b line c is t = (rw (t, is) refl, rw (t, is) refl)
 
 -- From any sound book.
 
--- each order that enters executes the greatest lawful total
+-- the book that an order enters is sound, and its line is accepted there
+pub record Entered (stood : Book) (line : List ℕ) (c : Command) (o : Order) : Type 0 where
+  pub isSound : sound stood ≡ true
+  pub isAccepted : acts stood line ≡ true
+  pub reads : commandIn line ≡ reading.Is c
+  pub enters : c .body ≡ body.Order o
+
+pub enters-sound : {b : Book} {lines : List (List ℕ)} {stood : Book} {line : List ℕ} {c : Command} {o : Order} → sound b ≡ true
+    → Enters byLine b lines stood line c o → Entered stood line c o
+enters-sound s (now t e f) = record { isSound = s; isAccepted = t; reads = e; enters = f }
+enters-sound s (later {b = b} {x = line} r) = enters-sound (answer-sound b line s) r
+
+-- where there is no minimum, it executes the greatest lawful total
+pub entered-executes : {stood : Book} {line : List ℕ} {c : Command} {o : Order} → Entered stood line c o → has (o .word) postOnly ≡ false
+    → NoMinimum o stood → Executes stood c o (eventsIn (printed (answerTo stood line)))
+entered-executes {stood = b} {line = line} {c = c} {o = o} e notPostOnly noMinimum =
+    subst (Executes b c o) (sym (line-told b line (e .isSound)))
+    (executes b line c o (e .isSound) (e .isAccepted) (e .reads) (e .enters) notPostOnly noMinimum)
+
 pub executes-from : {b : Book} {lines : List (List ℕ)} {stood : Book} {line : List ℕ} {c : Command} {o : Order} → sound b ≡ true
-    → Enters byLine b lines stood line c o → has (o .word) postOnly ≡ false → Executes stood c o (eventsIn (printed (answerTo stood line)))
-executes-from s (now {b = b} {x = line} {c = c} {o = o} t e f) notPostOnly =
-    subst (Executes b c o) (sym (line-told b line s)) (executes b line c o s t e f notPostOnly)
-executes-from s (later {b = b} {x = line} r) notPostOnly = executes-from (answer-sound b line s) r notPostOnly
+    → Enters byLine b lines stood line c o → has (o .word) postOnly ≡ false → NoMinimum o stood
+    → Executes stood c o (eventsIn (printed (answerTo stood line)))
+executes-from s r = entered-executes (enters-sound s r)
 
 -- the shares of each order that enters are executed, cancelled or rest
 pub told-conserved : {b : Book} {lines : List (List ℕ)} {stood : Book} {line : List ℕ} {c : Command} {o : Order} → sound b ≡ true
@@ -89,8 +108,8 @@ told-settled n b lines s old = rw (run-told b lines s) (run-balance n b lines s 
 
 -- the same from a fresh book
 pub run-executes : (lines : List (List ℕ)) (stood : Book) (line : List ℕ) (c : Command) (o : Order) → Enters byLine fresh lines stood line c o
-    → has (o .word) postOnly ≡ false → Executes stood c o (eventsIn (printed (answerTo stood line)))
-run-executes lines stood line c o r notPostOnly = executes-from fresh-sound r notPostOnly
+    → has (o .word) postOnly ≡ false → NoMinimum o stood → Executes stood c o (eventsIn (printed (answerTo stood line)))
+run-executes lines stood line c o r = executes-from fresh-sound r
 
 pub run-read : (lines : List (List ℕ)) → eventsIn (printedOf fresh lines) ≡ eventsOf fresh lines
 run-read lines = run-told fresh lines fresh-sound

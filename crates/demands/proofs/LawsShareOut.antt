@@ -1,34 +1,35 @@
--- Demand 3: the test of the walk is the customer's fairness; a Fill-or-Kill is killed exactly if no lawful share-out totals its size;
--- every other order executes the greatest lawful total; and no holding gives a share while one that the walk reaches before it, and that could
--- lawfully give, keeps one. Assumes nothing.
-use Prim.Native.Nat.{ℕ, _-_, _≤_, _<_, min}
+-- Demand 3: the test of the walk is the customer's fairness, and what is executed is a lawful share-out. Where none of those that are met
+-- has a minimum (02, W7), the walk gives the greatest lawful total, so all that an order asks exactly if a lawful share-out totals its
+-- size; and no holding gives a share while one that the walk reaches before it, and that could lawfully give, keeps one. Assumes nothing.
+use Prim.Native.Nat.{ℕ, _-_, _≤_, _<_}
 use mathlib.Core.Bool.{Bool, true, false, not, _&&_, _||_, true≢false}
 use mathlib.Core.List.{List, [], _∷_}
 use mathlib.Core.Logic.{_≢_, ⊎-elim}
 use mathlib.Core.Path.{_≡_, refl, sym, _∙_, subst}
 use lib.Dec.{eqb, ltb}
 use native.Mathlib.Omega.{arith}
-use borrow.Author.Tests.{eq-eqb, ne-eqb, eqb-true, eqb-false, lt-ltb, le-ltb, ltb-false, not-true}
+use borrow.Author.Tests.{eq-eqb, ne-eqb, eqb-true, eqb-false, le-ltb, ltb-false, not-true}
 use Rattle.basics.specs.Lists.{total, sumOf, All, none, also, OneOf, first, Each, empty, with}
 use Rattle.basics.proofs.LawsChoice.{holds-or-not, lt-or-le, and-left, and-right}
-use Rattle.basics.proofs.LawsLists.{one-of-all}
+use Rattle.basics.proofs.LawsLists.{all-alike, one-of-all}
 use Rattle.kinds.specs.declared.Cents.{Cents}
 use Rattle.kinds.specs.declared.HalfCents.{HalfCents}
 use Rattle.kinds.specs.Kinds.{inHalfCents}
 use Rattle.rules.specs.declared.Away.{Away}
 use Rattle.rules.specs.declared.Order.{Order}
 use Rattle.rules.specs.declared.Resting.{Resting}
-use Rattle.rules.specs.Book.{inRankOrder}
-use Rattle.rules.specs.Holdings.{Holding, size, holdings, walksBefore, nothing, walk, smaller, BeforeAll, InWalkOrder, somebody}
-use Rattle.rules.specs.Instructions.{fok, iso, market, postOnly, has}
+use Rattle.rules.specs.Book.{inRankOrder, sharesLeft}
+use Rattle.rules.specs.Holdings.{Holding, size, holdings, walksBefore, nothing, walk, smaller, BeforeAll, InWalkOrder, somebody, reducedBy, after}
+use Rattle.rules.specs.Instructions.{iso, market, postOnly, has}
 use Rattle.rules.proofs.LawsBest.{all-holdings}
-use Rattle.rules.proofs.LawsInTurn.{InTurn, next, takings-in-turn}
-use Rattle.rules.proofs.LawsTakings.{nothing-total, walk-at-most}
+use Rattle.rules.proofs.LawsHoldings.{parts-alike, each-parts, keeping-all}
+use Rattle.rules.proofs.LawsInTurn.{Skipped, InTurn, next, takings-in-turn}
+use Rattle.rules.proofs.LawsTakings.{nothing-total, walk-at-most, smaller-at-most, smaller-within}
 use Rattle.rules.specs.Working.{Met, buying, beyond, limitOf, lockingPrice, absent, executionPrice, mayTouch, walked, takings}
 use Rattle.rules.proofs.LawsWalkOrder.{walks-transitive, walks-not-itself, holdings-walk}
 use Rattle.demands.specs.ShareOut.{Given, Beside, here, later, Fair, LawfulGiving, given, Lawful, Fills}
 use Rattle.demands.proofs.LawsPriceHere.{sells, sells-other, given-here, here-is, Meetable, lower, higher}
-use Rattle.demands.proofs.LawsWalked.{taken, couldGive, available, walk-total}
+use Rattle.demands.proofs.LawsWalked.{taken, couldGive, available, walk-total, walk-short}
 
 -- each taking beside the price of its holding
 unfoldable pub pricedAt : (Resting → HalfCents) → List Holding → List ℕ → List Given
@@ -48,7 +49,7 @@ unfolding walk total pricedAt sumOf
 walk-given price may left [] = refl
 walk-given price may left (h ∷ s) =
     ⊎-elim
-    (λ (t : may h ≡ true). rw t (omega (arith, walk-given price may (left - min left (size h)) s)))
+    (λ (t : may h ≡ true). rw t (omega (arith, walk-given price may (left - smaller left h) s)))
     (λ (t : may h ≡ false). rw t (omega (arith, nothing-total (h ∷ s), nothing-given price (h ∷ s))))
     (holds-or-not (may h))
 
@@ -63,25 +64,30 @@ beside-there (later p) = OneOf.later (beside-there p)
 never-itself : {P : Type 0} (buy : Bool) (x : Holding) → walksBefore buy x x ≡ true → P
 never-itself buy x w = absurd (true≢false (sym w ∙ walks-not-itself buy x))
 
--- where holdings in the order of the walk give in turn, whoever the walk reaches before one that gives gave all
-turn-rank : (price : Resting → HalfCents) (buy : Bool) {hs : List Holding} {ts : List ℕ} → InWalkOrder buy hs → InTurn hs ts
+-- where holdings without a minimum, in the order of the walk, give in turn, whoever the walk reaches before one that gives gave all
+turn-rank : (price : Resting → HalfCents) (buy : Bool) {hs : List Holding} {ts : List ℕ} → InWalkOrder buy hs
+    → All (λ (x : Holding). x .of .minimum .0 ≡ 0) hs → InTurn hs ts
     → {better worse : Holding} {gives takes : Given} → Beside better gives hs (pricedAt price hs ts)
     → Beside worse takes hs (pricedAt price hs ts) → walksBefore buy better worse ≡ true → 0 < takes .shares → gives .shares ≡ size better
 unfolding pricedAt
-turn-rank price buy (somebody before w) (next c i) {better = better} here here b g = never-itself buy better b
-turn-rank price buy (somebody before w) (next {h = h} {t = t} {s = hs} {ts = ts} c i) here (later q) b g =
+turn-rank price buy (somebody before w) (also plain ps) (next c i) {better = better} here here b g = never-itself buy better b
+turn-rank price buy (somebody before w) (also plain ps) (next {h = h} {t = t} {s = hs} {ts = ts} c i) here (later q) b g =
     ⊎-elim
     (λ (all : t ≡ size h). all)
+    (λ d.
+    ⊎-elim
     (λ (idle : All (λ (k : ℕ). k ≡ 0) ts). let n = none-priced hs ts idle q in let z : ⊥ = omega (arith, n, g) in absurd z)
+    (λ (skipped : Skipped h t). let z : ⊥ = omega (arith, plain, skipped .0) in absurd z)
+    d)
     c
   where
     none-priced : (hs : List Holding) (ts : List ℕ) → All (λ (k : ℕ). k ≡ 0) ts → {x : Holding} {g : Given}
         → Beside x g hs (pricedAt price hs ts) → g .shares ≡ 0
     none-priced (h ∷ hs) (t ∷ ts) (also n a) here = n
     none-priced (h ∷ hs) (t ∷ ts) (also n a) (later p) = none-priced hs ts a p
-turn-rank price buy (somebody {h = h} before w) (next c i) {better = better} (later p) here b g =
+turn-rank price buy (somebody {h = h} before w) (also plain ps) (next c i) {better = better} (later p) here b g =
     never-itself buy better (walks-transitive buy better h better b (one-of-all before (beside-there p)))
-turn-rank price buy (somebody before w) (next c i) (later p) (later q) b g = turn-rank price buy w i p q b g
+turn-rank price buy (somebody before w) (also plain ps) (next c i) (later p) (later q) b g = turn-rank price buy w ps i p q b g
 
 -- ── Fairness ──
 
@@ -106,7 +112,7 @@ withinAway o away price =
     has (o .word) iso || absent (lockingPrice (buying o) away) || not (beyond (buying o) (lockingPrice (buying o) away) price)
 
 -- the test of a holding
-abbrev mayTake : Order → Met → Holding → Bool
+abbrev pub mayTake : Order → Met → Holding → Bool
 mayTake o m h = mayTouch o (m .away) (executionPrice o m (h .of))
 
 -- an away price that is there is there in half cents
@@ -124,6 +130,10 @@ none-or-within bound t f =
 both : (a b : Bool) → a ≡ true → b ≡ true → (a && b) ≡ true
 both a b p q = rw (p, q) refl
 
+-- none of some resting orders has a minimum
+abbrev pub Plain : List Resting → Type 0
+Plain s = All (λ (h : Resting). h .minimum .0 ≡ 0) s
+
 -- ── Demand 3, of an order that is not Post Only, on a side in rank order ──
 
 module _ (o : Order) (m : Met) (isSide : o .side ≤ 1) (notPostOnly : has (o .word) postOnly ≡ false)
@@ -138,8 +148,11 @@ module _ (o : Order) (m : Met) (isSide : o .side ≤ 1) (notPostOnly : has (o .w
   abbrev at : Resting → HalfCents
   at = executionPrice o m
 
-  all-meetable : All (λ (x : Holding). Meetable o m (x .of)) hs
+  pub all-meetable : All (λ (x : Holding). Meetable o m (x .of)) hs
   all-meetable = all-holdings meetable meetable
+
+  all-plain : Plain (m .opposite) → All (λ (x : Holding). x .of .minimum .0 ≡ 0) hs
+  all-plain plain = all-holdings plain plain
 
   -- the test of 01's step 1 is the customer's fairness
   pub may-fair : (price : HalfCents) → mayTouch o away price ≡ true → Fair o away price
@@ -235,9 +248,9 @@ module _ (o : Order) (m : Met) (isSide : o .side ≤ 1) (notPostOnly : has (o .w
       }
 
   gives-smaller : (left : ℕ) (h : Holding) → 1 ≤ h .of .price .0 → mayTake o m h ≡ true
-      → LawfulGiving o (m .away) (m .own) h (record { shares = min left (size h); price = at (h .of) })
+      → LawfulGiving o (m .away) (m .own) h (record { shares = smaller left h; price = at (h .of) })
   gives-smaller left h some t = record {
-    noMore = omega arith;
+    noMore = smaller-within left h;
     atItsPrice = λ p. given-here o m isSide (h .of) some;
     fair = λ p. may-fair (at (h .of)) t;
   }
@@ -253,18 +266,18 @@ module _ (o : Order) (m : Met) (isSide : o .side ≤ 1) (notPostOnly : has (o .w
   walk-each left [] none = empty
   walk-each left (h ∷ s) (also c cs) =
       ⊎-elim
-      (λ (t : mayTake o m h ≡ true). rw t (with (gives-smaller left h (c .priced) t) (walk-each (left - min left (size h)) s cs)))
+      (λ (t : mayTake o m h ≡ true). rw t (with (gives-smaller left h (c .priced) t) (walk-each (left - smaller left h) s cs)))
       (λ (t : mayTake o m h ≡ false). rw t (nothing-each (h ∷ s)))
       (holds-or-not (mayTake o m h))
 
-  walked-is : walked o m ≡ walk (mayTake o m) smaller (o .shares .0) hs
+  pub walked-is : walked o m ≡ walk (mayTake o m) smaller (o .shares .0) hs
   unfolding walked
   walked-is = rw notPostOnly refl
 
   walked-at-most : total (walked o m) ≤ o .shares .0
-  walked-at-most = rw walked-is (walk-at-most (mayTake o m) smaller (λ left h. omega arith) (o .shares .0) hs)
+  walked-at-most = rw walked-is (walk-at-most (mayTake o m) smaller smaller-at-most (o .shares .0) hs)
 
-  walked-given : given (pricedAt at hs (walked o m)) ≡ total (walked o m)
+  pub walked-given : given (pricedAt at hs (walked o m)) ≡ total (walked o m)
   walked-given = rw walked-is (walk-given at (mayTake o m) (o .shares .0) hs)
 
   walked-lawful : Lawful o (m .away) (m .own) hs (pricedAt at hs (walked o m))
@@ -273,44 +286,6 @@ module _ (o : Order) (m : Met) (isSide : o .side ≤ 1) (notPostOnly : has (o .w
     inAll = rw walked-given walked-at-most;
   }
 
-  walked-greatest : (gs : List Given) → Lawful o (m .away) (m .own) hs gs → given gs ≤ total (walked o m)
-  walked-greatest gs l =
-      let inOrder = holdings-walk (not (buying o)) (m .opposite) ranked in
-      let takes = walk-total (mayTake o m) (not (buying o)) (λ (x : Holding). Meetable o m (x .of)) ends (o .shares .0) inOrder all-meetable in
-      rw walked-is (omega (arith, l .inAll, lawful-within (l .each), takes))
-
-  -- ── Fill-or-Kill ──
-
-  -- a lawful share-out totals the order's size exactly if the walk leaves nothing
-  pub walk-fills : Fills o (m .away) (m .own) hs → total (walked o m) ≡ o .shares .0
-  walk-fills f = omega (arith, walked-greatest (f .shareOut) (f .isLawful), walked-at-most, f .totals)
-
-  pub fills-walk : total (walked o m) ≡ o .shares .0 → Fills o (m .away) (m .own) hs
-  fills-walk e = record {
-    shareOut = pricedAt at hs (walked o m);
-    isLawful = walked-lawful;
-    totals = walked-given ∙ e;
-  }
-
-  -- a Fill-or-Kill that no lawful share-out fills executes nothing
-  pub killed-nothing : has (o .word) fok ≡ true → (Fills o (m .away) (m .own) hs → ⊥) → total (takings o m) ≡ 0
-  unfolding takings
-  killed-nothing k n =
-      ⊎-elim
-      (λ (l : total (walked o m) < o .shares .0).
-      rw (k, lt-ltb (total (walked o m)) (o .shares .0) l) (nothing-total hs))
-      (λ (l : o .shares .0 ≤ total (walked o m)). absurd (n (fills-walk (omega (arith, l, walked-at-most)))))
-      (lt-or-le (total (walked o m)) (o .shares .0))
-
-  -- .. and every other one executes whole
-  pub filled-whole : has (o .word) fok ≡ true → Fills o (m .away) (m .own) hs → total (takings o m) ≡ o .shares .0
-  unfolding takings
-  filled-whole k f =
-      let e = walk-fills f in
-      rw (k, le-ltb (total (walked o m)) (o .shares .0) (omega (arith, e))) e
-
-  -- ── Every order ──
-
   -- what is executed is lawful
   pub takings-lawful : Lawful o (m .away) (m .own) hs (pricedAt at hs (takings o m))
   takings-lawful =
@@ -318,18 +293,73 @@ module _ (o : Order) (m : Met) (isSide : o .side ≤ 1) (notPostOnly : has (o .w
       (record { each = nothing-each hs; inAll = omega (arith, nothing-given at hs) })
       walked-lawful
 
-  -- every order but a Fill-or-Kill executes the greatest lawful total
-  pub takings-greatest : has (o .word) fok ≡ false → (gs : List Given) → Lawful o (m .away) (m .own) hs gs → given gs ≤ total (takings o m)
-  unfolding takings
-  takings-greatest k gs l = rw k (walked-greatest gs l)
-
-  -- no holding gives a share while one that the walk reaches before it, and that could lawfully give, keeps one
-  pub takings-rank : {better worse : Holding} {gives takes : Given} → Beside better gives hs (pricedAt at hs (takings o m))
-      → Beside worse takes hs (pricedAt at hs (takings o m)) → walksBefore (not (buying o)) better worse ≡ true → 0 < takes .shares
-      → gives .shares ≡ size better
-  takings-rank = turn-rank at (not (buying o)) (holdings-walk (not (buying o)) (m .opposite) ranked) (takings-in-turn o m)
-
   -- what is executed in all is what that share-out gives
   pub takings-given : given (pricedAt at hs (takings o m)) ≡ total (takings o m)
   takings-given =
       taken (λ (ts : List ℕ). given (pricedAt at hs ts) ≡ total ts) o m (nothing-given at hs ∙ sym (nothing-total hs)) walked-given
+
+  -- ── Where none has a minimum ──
+
+  abbrev PlainlyMet : Holding → Type 0
+  PlainlyMet x = Meetable o m (x .of) × (x .of .minimum .0 ≡ 0)
+
+  all-plainly : Plain (m .opposite) → All PlainlyMet hs
+  all-plainly plain =
+      let both = all-two meetable plain in
+      all-holdings {P = PlainlyMet} both both
+    where
+      all-two : {s : List Resting} → All (Meetable o m) s → Plain s → All (λ (h : Resting). Meetable o m h × (h .minimum .0 ≡ 0)) s
+      all-two none none = none
+      all-two (also c a) (also z b) = also (c, z) (all-two a b)
+
+  ends-plainly : (h : Holding) (s : List Holding) → BeforeAll (not (buying o)) h s → All PlainlyMet s → mayTake o m h ≡ false
+      → All (λ (y : Holding). mayTake o m y ≡ false) s
+  ends-plainly h s before cs = ends h s before (all-alike (λ x c. c .0) cs)
+
+  -- the walk gives the greatest lawful total
+  pub walked-greatest : Plain (m .opposite) → (gs : List Given) → Lawful o (m .away) (m .own) hs gs → given gs ≤ total (walked o m)
+  walked-greatest plain gs l =
+      let inOrder = holdings-walk (not (buying o)) (m .opposite) ranked in
+      let takes =
+      walk-total (mayTake o m) (not (buying o)) PlainlyMet (λ h c. c .1) ends-plainly (o .shares .0) inOrder (all-plainly plain) in
+      rw walked-is (omega (arith, l .inAll, lawful-within (l .each), takes))
+
+  -- where it gives less than is wanted, it leaves none that it may touch
+  pub walked-leaves : Plain (m .opposite) → total (walked o m) < o .shares .0
+      → All (λ (h : Resting). mayTouch o (m .away) (at h) ≡ false) (after (m .opposite) (walked o m))
+  unfolding after
+  walked-leaves plain short =
+      let inOrder = holdings-walk (not (buying o)) (m .opposite) ranked in
+      let all : Each (λ (h : Holding) (t : ℕ). mayTake o m h ≡ true → t ≡ size h) hs (walked o m) =
+      rw walked-is
+      (walk-short (mayTake o m) (not (buying o)) PlainlyMet (λ h c. c .1) ends-plainly (o .shares .0) inOrder (all-plainly plain)
+      (rw walked-is at short)) in
+      keeping-all (parts-alike (λ h t r c some. untouched h t r (c .0) (c .1) some) (each-parts (m .opposite) (walked o m) all))
+    where
+      untouched : (h : Resting) (t r : ℕ) → (mayTouch o (m .away) (at h) ≡ true → t ≡ h .shares .0)
+          → (mayTouch o (m .away) (at h) ≡ true → r ≡ h .reserve .0) → sharesLeft (reducedBy t r h) ≢ 0
+          → mayTouch o (m .away) (at h) ≡ false
+      untouched h t r shown reserve some =
+          ⊎-elim
+          (λ (u : mayTouch o (m .away) (at h) ≡ true). absurd (some (omega (arith, shown u, reserve u))))
+          (λ (u : mayTouch o (m .away) (at h) ≡ false). u)
+          (holds-or-not (mayTouch o (m .away) (at h)))
+
+  -- a lawful share-out totals the order's size exactly if the walk leaves nothing
+  pub walk-fills : Plain (m .opposite) → Fills o (m .away) (m .own) hs → o .shares .0 ≤ total (walked o m)
+  walk-fills plain f = omega (arith, walked-greatest plain (f .shareOut) (f .isLawful), f .totals)
+
+  pub fills-walk : o .shares .0 ≤ total (walked o m) → Fills o (m .away) (m .own) hs
+  fills-walk l = record {
+    shareOut = pricedAt at hs (walked o m);
+    isLawful = walked-lawful;
+    totals = omega (arith, walked-given, l, walked-at-most);
+  }
+
+  -- no holding gives a share while one that the walk reaches before it, and that could lawfully give, keeps one
+  pub takings-rank : Plain (m .opposite) → {better worse : Holding} {gives takes : Given}
+      → Beside better gives hs (pricedAt at hs (takings o m))
+      → Beside worse takes hs (pricedAt at hs (takings o m)) → walksBefore (not (buying o)) better worse ≡ true → 0 < takes .shares
+      → gives .shares ≡ size better
+  takings-rank plain =
+      turn-rank at (not (buying o)) (holdings-walk (not (buying o)) (m .opposite) ranked) (all-plain plain) (takings-in-turn o m)

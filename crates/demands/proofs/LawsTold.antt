@@ -21,7 +21,7 @@ use Rattle.rules.specs.declared.Away.{Away}
 use Rattle.rules.specs.declared.Body.{Body}
 use Rattle.rules.specs.declared.Body.the-variants as body
 use Rattle.rules.specs.declared.Carried.{Carried}
-use Rattle.rules.specs.declared.Carried.the-variants.{Nothing, MaxFloor}
+use Rattle.rules.specs.declared.Carried.the-variants.{Nothing, MaxFloor, Minimum}
 use Rattle.rules.specs.declared.Ending.{Ending}
 use Rattle.rules.specs.declared.Ending.the-variants.{Filled, Rests, Cancels}
 use Rattle.rules.specs.declared.Event.{Event}
@@ -33,7 +33,7 @@ use Rattle.rules.specs.Book.{Book, sharesLeft, awayInRange, sound}
 use Rattle.rules.specs.CommandLines.{Fitting, empty, fits, headerForm, orderFormOf, carriedNumbers, commandIn}
 use Rattle.rules.specs.Commands.{does}
 use Rattle.rules.specs.Day.{cut, unendedLine, linesIn, printed, printedOf}
-use Rattle.rules.specs.EventLines.{FitsEvent, eventLines, executedKind, restedKind, cancelledKind, movedKind, iocRemainder, fokKilled, cancelledBack, noPriceInRange, postOnlyMeets}
+use Rattle.rules.specs.EventLines.{FitsEvent, eventLines, executedKind, restedKind, cancelledKind, movedKind, iocRemainder, fokKilled, cancelledBack, noPriceInRange, postOnlyMeets, wouldStillMeet}
 use Rattle.rules.specs.Instructions.{ioc, fok, market, has}
 use Rattle.rules.specs.Refusals.{firstOf, orderPriceInRange, carriedInRange, orderInRange, bodyRefusals}
 use Rattle.rules.specs.declared.Fate.{Fate}
@@ -158,7 +158,7 @@ pub data FitsEnding : Ending → Type 0 where
   rests : (p : HalfCents) → p .0 < 2 ^ 32 → FitsEnding (Rests p)
   cancelled : (reason : ℕ) → reason < 2 ^ 8 → FitsEnding (Cancels reason)
 
--- so the price at which an order rests is its limit or one in range, and the reasons are 2 to 6
+-- so the price at which an order rests is its limit or one in range, and the reasons are 2 to 6, and 8
 pub ending-fits : (o : Order) (met : Met) → limitOf o .0 < 2 ^ 32 → FitsEnding (ending o met)
 unfolding ending endingWith
 ending-fits o met l =
@@ -166,7 +166,8 @@ ending-fits o met l =
     (chosen FitsEnding (has (o .word) fok) (cancelled fokKilled (omega arith))
     (chosen FitsEnding (has (o .word) ioc) (cancelled iocRemainder (omega arith))
     (sought-is FitsEnding (λ p e. rests p (omega (arith, price-small p e))) (cancelled cancelledBack (omega arith))
-    (cancelled noPriceInRange (omega arith)) (cancelled postOnlyMeets (omega arith)) o (met .away) (met .opposite) (rests (limitOf o) l))))
+    (cancelled noPriceInRange (omega arith)) (cancelled postOnlyMeets (omega arith)) (cancelled wouldStillMeet (omega arith))
+    o (met .away) (met .own) (after (met .opposite) (takings o met)) (rests (limitOf o) l))))
 
 -- the last line of an order, of what is left of it
 pub last-line-fits : (n : Number) (left : ℕ) → n .0 < 2 ^ 32 → left < 2 ^ 32 → {e : Ending} → FitsEnding e → All FitsEvent (lastLine n left e)
@@ -179,6 +180,7 @@ pub order-small : (side word price size : ℕ) (x : Carried) → Fitting (orderF
     → (price < 2 ^ 32) × (size < 2 ^ 32)
 order-small side word price size Nothing (fits w a i (fits x b j (fits y c p (fits z d q empty)))) = (p, q)
 order-small side word price size (MaxFloor floor) (fits w a i (fits x b j (fits y c p (fits z d q rest)))) = (p, q)
+order-small side word price size (Minimum least) (fits w a i (fits x b j (fits y c p (fits z d q rest)))) = (p, q)
 
 -- ── An accepted command ──
 

@@ -1,6 +1,6 @@
 -- What each accepted command writes and leaves (01, How an order is worked): an order's lines one by one, a cancel, a close, and what every
 -- command leaves of the number, the time, the away quote and the session. Assumes nothing.
-use Prim.Native.Nat.{ℕ, _+_, _≤_, _<_}
+use Prim.Native.Nat.{ℕ, _+_, _≤_, _<_, min}
 use mathlib.Core.Bool.{Bool, true, false, not, _||_, true≢false}
 use mathlib.Core.List.{List, [], _∷_, _++_, map}
 use mathlib.Core.Logic.{_≢_, ⊎-elim}
@@ -36,7 +36,7 @@ use Rattle.rules.specs.declared.Fate.{Fate}
 use Rattle.rules.specs.Settling.{shownOf, insert, keptBy, toldBy, staying, told, ownSide, oppositeSide, settled, bothSettled}
 use Rattle.rules.specs.Step.{answerTo}
 use Rattle.rules.specs.Holdings.{Holding, holdings, executions, after}
-use Rattle.rules.specs.Working.{Met, buying, metBy, executionPrice, takings, remainder, ending, lastLine, floorOf, remainderOf, withRemainder, worked, refillFate, accept}
+use Rattle.rules.specs.Working.{Met, buying, metBy, executionPrice, takings, remainder, ending, lastLine, floorOf, minimumOf, remainderOf, withRemainder, worked, refillFate, accept}
 use Rattle.rules.proofs.LawsCommands.{cancel-fate, order-does, cancel-does, quote-does, close-does, does-tells, does-number-and-time}
 use Rattle.rules.proofs.LawsFloors.{shown-at-most}
 use Rattle.rules.proofs.LawsRefusals.{none-given}
@@ -50,7 +50,7 @@ use Rattle.demands.specs.Beyond.{NoExecution}
 use Rattle.demands.specs.Once.{acts}
 use Rattle.demands.specs.Told.{executedIn, eventsIn}
 use Rattle.demands.specs.Written.{Executions, ofNobody, ofNone, ofOne, LastLine, filled, rests, isCancelled, OrderWrites, CancelWrites, closeLine, IsOrder}
-use Rattle.demands.proofs.LawsExecutes.{acts-accepted, acts-order, acts-lines, order-side, all-meetable, workLines, lines-tell}
+use Rattle.demands.proofs.LawsExecutes.{acts-accepted, acts-order, acts-lines, acts-new, order-side, all-meetable, workLines, lines-tell}
 use Rattle.demands.proofs.LawsFairly.{every-told}
 use Rattle.demands.proofs.LawsGave.{refills-told}
 use Rattle.demands.proofs.LawsHeld.{NoMore, Leaves, ending-leaves}
@@ -100,7 +100,8 @@ last-line-is n o executed left (Rests price) side f all new =
     let x = remainderOf n o left price in
     let whole : sharesLeft x ≡ left = omega (arith, shown-at-most (floorOf (o .carried)) left) in
     subst (λ (k : ℕ). LastLine n o executed (insert (buying o) x side) (Rested n price (shares k) ∷ [])) whole
-    (rests x (added-new (added-insert (buying o) x side)) refl refl (ap (shownOf (floorOf (o .carried))) (sym whole)) (omega (arith, whole, all)))
+    (rests x (added-new (added-insert (buying o) x side)) refl refl (ap (min (minimumOf (o .carried))) (sym whole))
+    (ap (shownOf (floorOf (o .carried))) (sym whole)) (omega (arith, whole, all)))
 last-line-is n o executed left (Cancels reason) side f all new = isCancelled (shares left) reason all new
 
 -- the other orders of its side stay, and none but itself is new
@@ -178,11 +179,8 @@ order-writes b line c o s t e f =
     let next = header .next in
     let isSide = order-side o (acts-order b c o header f .inRange) in
     let new = none-new b s (c .number) (omega (arith, next)) (buying o) in
-    let sides = sides-of (buying o) b (sound-is b s) in
-    let other : NoneIs (c .number) (oppositeSide (buying o) b) =
-    all-alike (λ h r. λ (z : c .number .0 ≡ h .number .0). omega (arith, z, r .upToLast, next)) (sides .oppositeInRange) in
     rw (line-told b line s, acts-lines b line c o t e f, accepted-does b line c e t .0, f)
-    (accept-writes b s (c .number) (c .time) o isSide new other)
+    (accept-writes b s (c .number) (c .time) o isSide new (acts-new b line c o s t e))
 
 -- ── A cancel ──
 

@@ -28,3 +28,5 @@ pub mod LawsTraded
 pub mod LawsGave
 pub mod LawsRefilled
 pub mod LawsWritten
+pub mod LawsMinimum
+pub mod LawsStillMeets

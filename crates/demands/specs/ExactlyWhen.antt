@@ -16,14 +16,14 @@ use Rattle.kinds.specs.declared.Number.{Number}
 use Rattle.kinds.specs.declared.Shares.{Shares}
 use Rattle.rules.specs.declared.Away.{Away}
 use Rattle.rules.specs.declared.Body.the-variants as body
-use Rattle.rules.specs.declared.Carried.the-variants.{Nothing, MaxFloor}
+use Rattle.rules.specs.declared.Carried.the-variants.{Nothing, MaxFloor, Minimum}
 use Rattle.rules.specs.declared.Command.{Command}
 use Rattle.rules.specs.declared.Ending.the-variants.{Rests}
 use Rattle.rules.specs.declared.Order.{Order}
 use Rattle.rules.specs.declared.Resting.{Resting}
 use Rattle.rules.specs.Book.{Book, BookRecord, bookIn, recordSound}
 use Rattle.rules.specs.CommandLines.{Fits, lineOf}
-use Rattle.rules.specs.Instructions.{market, reserve, has, lawful}
+use Rattle.rules.specs.Instructions.{displayed, market, reserve, has, lawful}
 use Rattle.rules.specs.Working.{metBy, ending}
 
 -- the side that an order would rest on: a buy (side 0) among the buys, a sell among the sells
@@ -53,6 +53,11 @@ pub data AppliesTo (r : BookRecord) (c : Command) : ℕ → Type 0 where
   reserveWithNoFloor : (o : Order) → c .body ≡ body.Order o → o .carried ≡ Nothing → has (o .word) reserve ≡ true → AppliesTo r c 8
   floorWithNoReserve : (o : Order) → c .body ≡ body.Order o → (floor : Shares) → o .carried ≡ MaxFloor floor
       → has (o .word) reserve ≡ false → AppliesTo r c 8
+  reserveWithMinimum : (o : Order) → c .body ≡ body.Order o → (least : Shares) → o .carried ≡ Minimum least
+      → has (o .word) reserve ≡ true → AppliesTo r c 8
+  -- "with Displayed, refusal 8" (02, W7)
+  minimumDisplayed : (o : Order) → c .body ≡ body.Order o → (least : Shares) → o .carried ≡ Minimum least
+      → has (o .word) displayed ≡ true → AppliesTo r c 8
   -- 9 "side not 0 or 1; shares outside 1 to 1,000,000; limit price outside 100 to 200,000; market price not 0; away price neither 0
   -- nor 100 to 200,000"
   noSide : (o : Order) → c .body ≡ body.Order o → o .side ≢ 0 → o .side ≢ 1 → AppliesTo r c 9
@@ -63,6 +68,9 @@ pub data AppliesTo (r : BookRecord) (c : Command) : ℕ → Type 0 where
   -- "the Max Floor .., 1 to the order's shares, else refusal 9" (02, W4)
   floorOutside : (o : Order) → c .body ≡ body.Order o → (floor : Shares) → o .carried ≡ MaxFloor floor
       → (floor .0 < 1) ⊎ (o .shares .0 < floor .0) → AppliesTo r c 9
+  -- "the minimum .., 1 to the order's shares, else refusal 9" (02, W7)
+  minimumOutside : (o : Order) → c .body ≡ body.Order o → (least : Shares) → o .carried ≡ Minimum least
+      → (least .0 < 1) ⊎ (o .shares .0 < least .0) → AppliesTo r c 9
   bidOutside : (away : Away) → c .body ≡ body.Quote away → NeitherNoneNorInRange (away .bid) → AppliesTo r c 9
   offerOutside : (away : Away) → c .body ≡ body.Quote away → NeitherNoneNorInRange (away .offer) → AppliesTo r c 9
   -- 10 "cancel of a number that isn't resting"

@@ -3,6 +3,7 @@ pub mod Run
 pub mod Told
 pub mod ShareOut
 pub mod Locks
+pub mod Minimum
 pub mod Executes
 pub mod ExactlyWhen
 pub mod Refilled

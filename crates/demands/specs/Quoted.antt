@@ -38,6 +38,7 @@ pub record SetAnew (buy : Bool) (n : Number) (away : Away) (h h′ : Resting) : 
   pub back : h′ .back ≡ h .back
   pub reserve : h′ .reserve ≡ h .reserve
   pub floor : h′ .floor ≡ h .floor
+  pub minimum : h′ .minimum ≡ h .minimum
 
 -- an order of the side before is so set anew in the side after it
 pub record IsSetAnew (buy : Bool) (n : Number) (away : Away) (after : List Resting) (h : Resting) : Type 0 where

@@ -28,13 +28,14 @@ pub record Due (es : List Event) (h : Resting) : Type 0 where
 abbrev pub refilledTo : List Event → Resting → ℕ
 refilledTo es h = min (h .floor .0) (sharesLeft h - gave es h)
 
--- the same order, whatever was taken of it
+-- the same order, whatever was taken of it; "When fewer shares remain than the minimum, the minimum becomes what remains" (02, W7)
 pub record SameOrder (h h′ : Resting) : Type 0 where
   pub number : h′ .number ≡ h .number
   pub price : h′ .price ≡ h .price
   pub displayed : h′ .displayed ≡ h .displayed
   pub back : h′ .back ≡ h .back
   pub floor : h′ .floor ≡ h .floor
+  pub minimum : h′ .minimum .0 ≡ min (h .minimum .0) (sharesLeft h′)
 
 -- an order whose shown part was not used up: it keeps its stamp and its reserve
 pub record Keeps (es : List Event) (h h′ : Resting) : Type 0 where

@@ -31,6 +31,7 @@ twoShares k = record {
   stamp = stamp (number k) 0;
   reserve = shares 1;
   floor = shares 1;
+  minimum = shares 0;
 }
 
 -- n of them in rank order, with the numbers from k on

@@ -1,7 +1,7 @@
 -- What each accepted command writes and leaves, in 01's words, said of its own event lines and of the book before and after: an order's
 -- lines one by one, a cancel, a close, and what every command leaves of the number, the time, the away quote and the rest. `LawsWritten`
 -- has the proofs. (What a quote writes and moves stands in `Quoted`.)
-use Prim.Native.Nat.{ℕ, _+_, _≤_}
+use Prim.Native.Nat.{ℕ, _+_, _≤_, min}
 use mathlib.Core.List.{List, [], _∷_, _++_}
 use mathlib.Core.Logic.{_≢_}
 use mathlib.Core.Path.{_≡_}
@@ -19,7 +19,7 @@ use Rattle.rules.specs.declared.Resting.{Resting}
 use Rattle.rules.specs.Book.{Book, sharesLeft}
 use Rattle.rules.specs.Holdings.{Holding, size}
 use Rattle.rules.specs.Settling.{shownOf}
-use Rattle.rules.specs.Working.{floorOf}
+use Rattle.rules.specs.Working.{floorOf, minimumOf}
 use Rattle.demands.specs.ExactlyWhen.{own}
 use Rattle.demands.specs.Refilled.{RefillLines}
 use Rattle.demands.specs.ShareOut.{opposite, against, PriceHere}
@@ -38,10 +38,12 @@ pub data Executions (n : Number) (o : Order) (own : List Resting) : List Holding
 
 -- "then at most one `12` or `13`", of an order of which so many shares are executed: nothing where these are all; or the others rest, as
 -- the line says, on its own side, both parts counted, and it shows its Max Floor, or what is left if that is less, or all of it where it
--- has none (02, W4); or they are cancelled, all of them, and no order of its number rests
+-- has none (02, W4), and it keeps the smaller of its minimum and what is left (02, W7); or they are cancelled, all of them, and no order of
+-- its number rests
 pub data LastLine (n : Number) (o : Order) (executed : ℕ) (own : List Resting) : List Event → Type 0 where
   filled : executed ≡ o .shares .0 → All (λ (h : Resting). h .number ≢ n) own → LastLine n o executed own []
   rests : (h : Resting) → OneOf h own → h .number ≡ n → h .floor .0 ≡ floorOf (o .carried)
+      → h .minimum .0 ≡ min (minimumOf (o .carried)) (sharesLeft h)
       → h .shares .0 ≡ shownOf (h .floor .0) (sharesLeft h) → executed + sharesLeft h ≡ o .shares .0
       → LastLine n o executed own (Rested n (h .price) (shares (sharesLeft h)) ∷ [])
   isCancelled : (left : Shares) (reason : ℕ) → executed + left .0 ≡ o .shares .0 → All (λ (h : Resting). h .number ≢ n) own

@@ -14,7 +14,7 @@ ghost use lib.ListN.{getD, drop};
 ghost use Rattle.basics.specs.Lists.{any};
 ghost use Rattle.kinds.specs.Kinds.{shares, sharesInRange};
 ghost use Rattle.side.specs.Table.{orderOf, loaded};
-ghost use Rattle.rules.specs.Book.{numbers, placesASide, sharesLeft, floorInRange, restingInRange, apart, recordSound};
+ghost use Rattle.rules.specs.Book.{numbers, placesASide, sharesLeft, floorInRange, minimumInRange, restingInRange, apart, recordSound};
 ghost use Rattle.side.specs.Tables.{recordOn};
 ghost use Rattle.inspection.specs.Inspection.{ranksBeforeNext, placeSound, sideSound, headSound};
 
@@ -27,11 +27,17 @@ fn wide(count: u32) -> u64
     count as u64
 }
 
+fn shares_left(o: Resting) -> u64
+    ensures { λ r. ⌜ r ≡ sharesLeft o ⌝ }
+{
+    wide(o.shares.0) + wide(o.reserve.0)
+}
+
 // The shares of both parts are as many as an order may have.
 fn left_in_range(o: Resting) -> bool
     ensures { λ r. ⌜ r ≡ sharesInRange (shares (sharesLeft o)) ⌝ }
 {
-    let left = wide(o.shares.0) + wide(o.reserve.0);
+    let left = shares_left(o);
     (wide(Shares::FEWEST) <= left) & (left <= wide(Shares::MOST))
 }
 
@@ -43,6 +49,13 @@ fn floor_in_range(o: Resting) -> bool
     let none = floor.0 == 0;
     (none & (o.reserve.0 == 0))
         | (!none & (o.displayed & (o.shares.0 <= floor.0) & floor.in_range()))
+}
+
+// No minimum; or no more than what is left of an order that is not displayed (02, W7).
+fn minimum_in_range(o: Resting) -> bool
+    ensures { λ r. ⌜ r ≡ minimumInRange o ⌝ }
+{
+    (o.minimum.0 == 0) | (!o.displayed & (wide(o.minimum.0) <= shares_left(o)))
 }
 
 // Fields in range; numbers from 1 to the last number; a stamp set by a command from the order's own to the last; a share shown at least.
@@ -58,6 +71,7 @@ fn in_range(last: Number, o: Resting) -> bool
         & (1 <= o.shares.0)
         & left_in_range(o)
         & floor_in_range(o)
+        & minimum_in_range(o)
 }
 
 // ── One place ──

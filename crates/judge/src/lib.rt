@@ -11,7 +11,8 @@ use rules::Held;
 use rules::Order;
 ghost use mathlib.Core.Path.{_≡_};
 ghost use Rattle.rules.specs.Book.{awayInRange};
-ghost use Rattle.rules.specs.Refusals.{firstOf, isClose, headerRefusals, carriesFloor, orderLawful, carriedInRange, orderInRange};
+ghost use Rattle.rules.specs.Refusals.{firstOf, isClose, headerRefusals};
+ghost use Rattle.rules.specs.Refusals.{carriesFloor, carriesMinimum, orderLawful, carriedInRange, orderInRange};
 ghost use Rattle.judge.specs.Judge.{bookHolding};
 
 // The session, in milliseconds after midnight Eastern.
@@ -68,25 +69,38 @@ fn carries_floor(carried: Carried) -> bool
     match carried {
         Carried::Nothing => false,
         Carried::MaxFloor(_) => true,
+        Carried::Minimum(_) => false,
     }
 }
 
-// Refusal 8 of an order: its word is lawful, and bit 10 is set just where it carries a Max Floor.
+fn carries_minimum(carried: Carried) -> bool
+    ensures { λ r. ⌜ r ≡ carriesMinimum carried ⌝ }
+{
+    match carried {
+        Carried::Nothing => false,
+        Carried::MaxFloor(_) => false,
+        Carried::Minimum(_) => true,
+    }
+}
+
+// Refusal 8 of an order: its word is lawful, bit 10 is set just where it carries a Max Floor, and no displayed order carries a minimum.
 pub fn order_lawful(o: Order) -> bool
     ensures { λ r. ⌜ r ≡ orderLawful o ⌝ }
 {
     let carried = o.carried;
     instructions::lawful(o.word)
         & (instructions::has(o.word, rules::RESERVE) == carries_floor(carried))
+        & (!carries_minimum(carried) | !instructions::has(o.word, rules::DISPLAYED))
 }
 
-// A Max Floor is 1 to the order's shares.
+// A Max Floor or a minimum is 1 to the order's shares.
 fn carried_in_range(size: Shares, carried: Carried) -> bool
     ensures { λ r. ⌜ r ≡ carriedInRange size carried ⌝ }
 {
     match carried {
         Carried::Nothing => true,
         Carried::MaxFloor(floor) => (1 <= floor.0) & (floor.0 <= size.0),
+        Carried::Minimum(least) => (1 <= least.0) & (least.0 <= size.0),
     }
 }
 

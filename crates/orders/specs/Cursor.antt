@@ -21,10 +21,10 @@ use Rattle.orders.specs.declared.cursor.Following.the-variants.{Is, End}
 -- ── The parts ──
 
 abbrev pub shownAt : ℕ → Resting → Part
-shownAt i o = record { place = i; price = o .price; shares = o .shares }
+shownAt i o = record { place = i; price = o .price; shares = o .shares; minimum = o .minimum }
 
 abbrev pub reserveAt : ℕ → Resting → Part
-reserveAt i o = record { place = i; price = o .price; shares = o .reserve }
+reserveAt i o = record { place = i; price = o .price; shares = o .reserve; minimum = o .minimum }
 
 -- the reserves of the orders from rank i on, in rank order
 unfoldable pub reserves : ℕ → List Resting → List Part
@@ -51,7 +51,12 @@ abbrev pub placedAt : ℕ → Holding → Placed
 placedAt i h = record { place = i; holding = h }
 
 abbrev pub partOf : Placed → Part
-partOf p = record { place = p .place; price = p .holding .of .price; shares = shares (size (p .holding)) }
+partOf p = record {
+  place = p .place;
+  price = p .holding .of .price;
+  shares = shares (size (p .holding));
+  minimum = p .holding .of .minimum;
+}
 
 -- `behindItsPrice` and `holdings` of rules, with places
 unfoldable pub behindPlaced : Placed → List Placed → List Placed

@@ -4,7 +4,7 @@
 use Prim.Native.Nat.{ℕ, _+_, _*_, _-_, _<_, min, max}
 use mathlib.Core.Bool.{Bool, not, _||_}
 use mathlib.Core.List.{List, [], _∷_, _++_, map}
-use lib.Dec.{eqb}
+use lib.Dec.{eqb, ltb}
 use lib.ListN.{length, getD, take, drop}
 use Rattle.basics.specs.Choice.{if_then_else_}
 use Rattle.basics.specs.Lists.{total}
@@ -24,9 +24,12 @@ mostTakings = 2 * placesASide
 abbrev pub isWithin : Bool → HalfCents → Part → Bool
 isWithin buy bound p = not (beyond buy bound (p .price))
 
--- "for the smaller of the two sizes"
+-- "with less left than the smaller of its minimum and its holding, it is skipped" (02, W7); else "for the smaller of the two sizes"
+abbrev pub isPassed : ℕ → Part → Bool
+isPassed left p = ltb left (min (p .minimum .0) (p .shares .0))
+
 abbrev pub partGives : ℕ → Part → ℕ
-partGives left p = min left (p .shares .0)
+partGives left p = if isPassed left p then 0 else min left (p .shares .0)
 
 -- ── Takings ──
 
@@ -51,15 +54,24 @@ reached may at left (p ∷ s) =
     if eqb left 0 || not (may p) then at
     else reached may (max at (p .place + 1)) (left - partGives left p) s
 
+-- the least rank among the orders that a walk skips, or `kept` if that is less
+unfoldable pub firstSkipped : (Part → Bool) → ℕ → ℕ → List Part → ℕ
+firstSkipped may kept left [] = kept
+firstSkipped may kept left (p ∷ s) =
+    if eqb left 0 || not (may p) then kept
+    else firstSkipped may (if isPassed left p then min kept (p .place) else kept) (left - partGives left p) s
+
 -- a walk for some shares over parts: its takings, and how it ends
 abbrev pub takingsOf : (Part → Bool) → ℕ → List Part → List Taking
 takingsOf may want s = takingsFrom s (walk may partGives want s)
 
-abbrev pub walkedWith : List Taking → ℕ → ℕ → Walked
-walkedWith ks left at = record { count = length ks; left = shares left; at = at }
+abbrev pub walkedWith : List Taking → ℕ → ℕ → ℕ → Walked
+walkedWith ks left at skipped = record { count = length ks; left = shares left; at = at; skipped = skipped }
 
 abbrev pub walkedOf : (Part → Bool) → ℕ → List Part → Walked
-walkedOf may want s = walkedWith (takingsOf may want s) (want - total (walk may partGives want s)) (reached may 0 want s)
+walkedOf may want s =
+    walkedWith (takingsOf may want s) (want - total (walk may partGives want s)) (reached may 0 want s)
+    (firstSkipped may placesASide want s)
 
 -- ── Takings in a table ──
 

@@ -12,11 +12,12 @@ ghost use Rattle.rules.specs.Book.{placesASide};
 ghost use Rattle.side.specs.Table.{side, Holds};
 ghost use Rattle.orders.specs.Cursor.{IsAt, Skips, LevelEnds, firstWaiting, Follows};
 
-// What one order can give at one point of a walk: its shown part, or its reserve. The order stands at rank `place`.
+// What one order can give at one point of a walk: its shown part, or its reserve. The order stands at rank `place`, and has a minimum or 0.
 pub struct Part {
     pub place: usize,
     pub price: HalfCents,
     pub shares: Shares,
+    pub minimum: Shares,
 }
 
 // The orders before `at` have been reached. `waits` is the first of them whose reserve has not, `at` where there is none.
@@ -59,11 +60,13 @@ fn next_reserve(x: &Index, t: &Rows, n: usize, c: Cursor) -> Following
     let o = rows::at(x, t, n, waits);
     let price = o.price;
     let reserve = o.reserve;
+    let minimum = o.minimum;
     let more = skip(x, t, n, waits + 1, at);
     let part = Part {
         place: waits,
         price: price,
         shares: reserve,
+        minimum: minimum,
     };
     let next = Cursor {
         at: at,
@@ -101,6 +104,7 @@ pub(crate) fn next(x: &Index, t: &Rows, n: usize, c: Cursor) -> Following
     let o = rows::at(x, t, n, at);
     let price = o.price;
     let shares = o.shares;
+    let minimum = o.minimum;
     if (waits < at) & (price.0 != level.0) {
         return next_reserve(x, t, n, c);
     }
@@ -109,6 +113,7 @@ pub(crate) fn next(x: &Index, t: &Rows, n: usize, c: Cursor) -> Following
         place: at,
         price: price,
         shares: shares,
+        minimum: minimum,
     };
     let next = Cursor {
         at: at + 1,

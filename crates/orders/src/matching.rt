@@ -4,6 +4,7 @@ use crate::fills;
 use crate::pricing;
 use crate::refills;
 use crate::reports;
+use crate::walk;
 use crate::walk::Takings;
 use crate::work;
 use event_lines::writer;
@@ -72,10 +73,11 @@ fn floor_of(carried: Carried) -> Shares
     match carried {
         Carried::Nothing => Shares(0),
         Carried::MaxFloor(floor) => floor,
+        Carried::Minimum(least) => Shares(0),
     }
 }
 
-// What rests of an order: it shows its Max Floor, or what is left if that is less.
+// What rests of an order: it shows its Max Floor, or what is left if that is less, and so of its minimum.
 fn remainder_of(number: Number, o: Order, left: Shares, price: HalfCents) -> Resting
     ensures { λ r. ⌜ r ≡ remainderOf number o (left .0) price ⌝ }
 {
@@ -83,6 +85,8 @@ fn remainder_of(number: Number, o: Order, left: Shares, price: HalfCents) -> Res
     let back = instructions::has(o.word, rules::CANCEL_BACK);
     let carried = o.carried;
     let floor = floor_of(carried);
+    let minimum = work::minimum_of(carried);
+    let least = minimum.smaller(left);
     let shown = refills::shown_of(floor, left);
     let reserve = left.0 - shown.0;
     let stamp = Stamp {
@@ -98,6 +102,7 @@ fn remainder_of(number: Number, o: Order, left: Shares, price: HalfCents) -> Res
         stamp: stamp,
         reserve: Shares(reserve),
         floor: floor,
+        minimum: least,
     }
 }
 
@@ -199,7 +204,8 @@ pub(crate) fn match_order(
     let w = work::walk_of(o, bound, y, opposite, m, took);
     let count = w.count;
     let left = w.left;
-    let end = work::ending_of(o, away, y, opposite, m, left);
+    let kept = walk::first_of(w.skipped, w.at);
+    let end = work::ending_of(o, away, locked, y, opposite, m, kept, left);
     let held = places_after(end, n);
     if PLACES < held {
         return Matched {

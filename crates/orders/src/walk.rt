@@ -9,14 +9,15 @@ use side::prices;
 use side::rows::Index;
 use side::rows::PLACES;
 use side::rows::Rows;
+ghost use mathlib.Core.Bool.{false};
 ghost use mathlib.Core.List.{[], map};
 ghost use mathlib.Core.Path.{_≡_};
-ghost use Prim.Native.Nat.{_+_, _-_, _<_};
+ghost use Prim.Native.Nat.{_+_, _-_, _<_, min};
 ghost use lib.ListN.{length, getD, set};
 ghost use Rattle.side.specs.Table.{side, Holds};
 ghost use Rattle.rules.specs.Book.{placesASide};
 ghost use Rattle.orders.specs.Cursor.{parts};
-ghost use Rattle.orders.specs.Walk.{mostTakings, isWithin, partGives, taking, takingRow, takingIn, laid, laidAt, walkedOf, takingsOf};
+ghost use Rattle.orders.specs.Walk.{mostTakings, isWithin, isPassed, partGives, taking, takingRow, takingIn, laid, laidAt, walkedOf, takingsOf};
 
 // Room for the takings of one walk: an order has two parts at most.
 pub const TAKINGS: usize = 2 * PLACES;
@@ -36,11 +37,13 @@ pub struct Taken {
     pub left: Shares,
 }
 
-// How a walk ended: `count` takings, `left` shares still wanted, and no order from `at` on was reached.
+// How a walk ended: `count` takings, `left` shares still wanted, and no order from `at` on was reached. `skipped` is the first order that
+// was skipped (02, W7), or past all places; of an order that takes nothing both are 0.
 pub struct Walked {
     pub count: usize,
     pub left: Shares,
     pub at: usize,
+    pub skipped: usize,
 }
 
 // ── Takings in a table ──
@@ -82,9 +85,24 @@ pub(crate) fn taking_at(took: &Takings, i: usize) -> Taking
 
 // ── The walk ──
 
-// Takes from a part what it gives, as the next taking. One that gives nothing is no taking.
+// Whether a part is skipped: fewer shares are left than the smaller of its order's minimum and what it holds.
+fn is_passed(left: Shares, p: Part) -> bool
+    ensures { λ r. ⌜ r ≡ isPassed (left .0) p ⌝ }
+{
+    let minimum = p.minimum;
+    let least = minimum.smaller(p.shares);
+    left.0 < least.0
+}
+
+pub(crate) fn first_of(a: usize, b: usize) -> usize
+    ensures { λ r. ⌜ r ≡ min a b ⌝ }
+{
+    if a < b { a } else { b }
+}
+
+// Takes from a part that is not skipped what it gives, as the next taking. One that gives nothing is no taking.
 fn take_from(took: &mut Takings, count: usize, left: Shares, p: Part) -> Taken
-    requires { ⌜ (count < mostTakings) × (p .place < placesASide) ⌝ }
+    requires { ⌜ (count < mostTakings) × (p .place < placesASide) × (isPassed (left .0) p ≡ false) ⌝ }
     ensures { λ r. ⌜ r ≡ record {
       count = count + length (taking p (partGives (left .0) p));
       left = record { 0 = left .0 - partGives (left .0) p };
@@ -114,7 +132,7 @@ fn take_from(took: &mut Takings, count: usize, left: Shares, p: Part) -> Taken
 }
 
 // Walks the parts of a side's orders in their order, for `want` shares. The walk ends at the first part whose price is beyond the bound, or
-// with nothing left. The takings go to the front of `took`, in the order of the walk.
+// with nothing left; one that is skipped is passed. The takings go to the front of `took`, in the order of the walk.
 pub(crate) fn walk(
     x: &Index,
     t: &Rows,
@@ -136,6 +154,7 @@ pub(crate) fn walk(
     };
     let mut count = 0;
     let mut left = want;
+    let mut skipped = PLACES;
     loop {
         if left.0 == 0 {
             break;
@@ -146,14 +165,19 @@ pub(crate) fn walk(
         if !prices::within(buying, bound, part.price) {
             break;
         }
-        let taken = take_from(took, count, left, part);
-        count = taken.count;
-        left = taken.left;
+        if is_passed(left, part) {
+            skipped = first_of(skipped, part.place);
+        } else {
+            let taken = take_from(took, count, left, part);
+            count = taken.count;
+            left = taken.left;
+        }
         c = next;
     }
     Walked {
         count: count,
         left: left,
         at: c.at,
+        skipped: skipped,
     }
 }

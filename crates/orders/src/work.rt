@@ -8,25 +8,47 @@ use judge::instructions;
 use kinds::HalfCents;
 use kinds::Shares;
 use rules::Away;
+use rules::Carried;
 use rules::Ending;
 use rules::Order;
+use rules::Resting;
 use side::prices;
 use side::rows;
 use side::rows::Index;
 use side::rows::Rows;
-ghost use mathlib.Core.Bool.{true, not};
 ghost use mathlib.Core.Path.{_≡_};
 ghost use Prim.Native.Nat.{_-_, _≤_, _<_};
-ghost use Rattle.basics.specs.Lists.{any};
-ghost use Rattle.kinds.specs.Kinds.{largest};
+ghost use lib.ListN.{drop};
+ghost use Rattle.kinds.specs.Kinds.{shares, largest};
 ghost use Rattle.side.specs.Table.{side, Holds};
-ghost use Rattle.rules.specs.Book.{inRankOrder};
-ghost use Rattle.rules.specs.Instructions.{has, postOnly};
-ghost use Rattle.rules.specs.Working.{buying, limitOf, lockingPrice, meetsOrPasses, unlessPostOnlyMeets};
+ghost use Rattle.rules.specs.Working.{buying, limitOf, lockingPrice, meetsOrPasses, minimumOf, leastOf};
 ghost use Rattle.orders.specs.Walk.{takingsIn};
-ghost use Rattle.orders.specs.Walking.{walkFor, takingsFor, Ends};
+ghost use Rattle.orders.specs.Walking.{walkFor, takingsFor, restsUnlessBestMeets, endingByBest};
 
-// The walk of an order up to a bound, with its takings: Post Only takes nothing, nor does a Fill-or-Kill that would leave a remainder.
+// The minimum of an order, 0 for none (02, W7).
+pub(crate) fn minimum_of(carried: Carried) -> Shares
+    ensures { λ r. ⌜ r ≡ shares (minimumOf carried) ⌝ }
+{
+    match carried {
+        Carried::Nothing => Shares(0),
+        Carried::MaxFloor(floor) => Shares(0),
+        Carried::Minimum(least) => least,
+    }
+}
+
+// The least that an order's walk must give, or nothing executes: all its shares where it is a Fill-or-Kill, else its minimum, 0 for none.
+fn least_of(o: Order) -> Shares
+    ensures { λ r. ⌜ r ≡ shares (leastOf o) ⌝ }
+{
+    if instructions::has(o.word, rules::FOK) {
+        return o.shares;
+    }
+    let carried = o.carried;
+    minimum_of(carried)
+}
+
+// The walk of an order up to a bound, with its takings: Post Only takes nothing, nor does an order whose walk gives less than the least
+// that it must.
 pub(crate) fn walk_of(
     o: Order,
     bound: HalfCents,
@@ -44,55 +66,74 @@ pub(crate) fn walk_of(
         count: 0,
         left: shares,
         at: 0,
+        skipped: 0,
     };
     if instructions::has(o.word, rules::POST_ONLY) {
         return nothing;
     }
+    let least = least_of(o);
     let w = walk::walk(x, t, n, o.side == 0, bound, shares, took);
-    if instructions::has(o.word, rules::FOK) & (0 < w.left.0) {
+    if shares.0 - w.left.0 < least.0 {
         return nothing;
     }
     w
 }
 
-// Whether a price equals or passes a displayed order of the opposite side, or passes a hidden one: the best of them tells (02, W6).
-fn meets(x: &Index, t: &Rows, n: usize, buy: bool, price: HalfCents) -> bool
-    requires { ⌜ Holds n (now x) (now t) × (inRankOrder (not buy) (side n (now x) (now t)) ≡ true) ⌝ }
-    ensures { λ r. ⌜ r ≡ any (meetsOrPasses buy price) (side n (now (x .entry)) (now (t .entry))) ⌝ }
+// Whether a Post Only order at a price meets or passes an opposite order (02, W6).
+fn meets(buy: bool, price: HalfCents, best: Resting) -> bool
+    ensures { λ r. ⌜ r ≡ meetsOrPasses buy price best ⌝ }
 {
-    if n == 0 {
-        return false;
-    }
-    let best = rows::at(x, t, n, 0);
     if best.displayed {
         return prices::within(buy, price, best.price);
     }
     !prices::within(buy, best.price, price)
 }
 
-// Step 5, of an order that is Post Only.
-fn unless_meets(o: Order, x: &Index, t: &Rows, n: usize, end: Ending) -> Ending
-    requires { ⌜ Holds n (now x) (now t) × (inRankOrder (not (buying o)) (side n (now x) (now t)) ≡ true)
-        × (has (o .word) postOnly ≡ true) ⌝ }
-    ensures { λ r. ⌜ r ≡ unlessPostOnlyMeets o (side n (now (x .entry)) (now (t .entry))) end ⌝ }
+// Steps 5 and 6, of an order that seeks to rest at a price: Post Only is cancelled where it meets or passes the best opposite order that is
+// left, any other where it equals or passes it, but at the locked price (02, W7). With shares left over, the best of those left stands at
+// rank `kept`.
+fn rest_unless_meets(
+    o: Order,
+    locked: HalfCents,
+    x: &Index,
+    t: &Rows,
+    n: usize,
+    kept: usize,
+    price: HalfCents,
+) -> Ending
+    requires { ⌜ Holds n (now x) (now t) × (kept ≤ n) ⌝ }
+    ensures { λ r. ⌜ r ≡ restsUnlessBestMeets o locked (drop kept (side n (now (x .entry)) (now (t .entry)))) price ⌝ }
 {
-    match end {
-        Ending::Filled => Ending::Filled,
-        Ending::Cancels(reason) => Ending::Cancels(reason),
-        Ending::Rests(price) => {
-            if meets(x, t, n, o.side == 0, price) {
-                return Ending::Cancels(6);
-            }
-            Ending::Rests(price)
-        }
+    if n <= kept {
+        return Ending::Rests(price);
     }
+    let buy = o.side == 0;
+    let best = rows::at(x, t, n, kept);
+    if instructions::has(o.word, rules::POST_ONLY) {
+        if meets(buy, price, best) {
+            return Ending::Cancels(6);
+        }
+        return Ending::Rests(price);
+    }
+    if prices::within(buy, price, best.price) & (price.0 != locked.0) {
+        return Ending::Cancels(8);
+    }
+    Ending::Rests(price)
 }
 
 // What becomes of an order of which `left` shares are left after the walk.
-pub(crate) fn ending_of(o: Order, away: Away, x: &Index, t: &Rows, n: usize, left: Shares) -> Ending
-    requires { ⌜ Holds n (now x) (now t) × (inRankOrder (not (buying o)) (side n (now x) (now t)) ≡ true)
-        × ((limitOf o .0 ≤ largest) × (lockingPrice (buying o) away .0 < largest - 1)) ⌝ }
-    ensures { λ r. ⌜ Ends o (left .0) away (side n (now (x .entry)) (now (t .entry))) r ⌝ }
+pub(crate) fn ending_of(
+    o: Order,
+    away: Away,
+    locked: HalfCents,
+    x: &Index,
+    t: &Rows,
+    n: usize,
+    kept: usize,
+    left: Shares,
+) -> Ending
+    requires { ⌜ Holds n (now x) (now t) × (kept ≤ n) × ((limitOf o .0 ≤ largest) × (lockingPrice (buying o) away .0 < largest - 1)) ⌝ }
+    ensures { λ r. ⌜ r ≡ endingByBest (left .0) o away locked (drop kept (side n (now (x .entry)) (now (t .entry)))) ⌝ }
 {
     if left.0 == 0 {
         return Ending::Filled;
@@ -103,9 +144,9 @@ pub(crate) fn ending_of(o: Order, away: Away, x: &Index, t: &Rows, n: usize, lef
     if instructions::has(o.word, rules::IOC) {
         return Ending::Cancels(2);
     }
-    let end = pricing::seek(o, away);
-    if !instructions::has(o.word, rules::POST_ONLY) {
-        return end;
+    match pricing::seek(o, away) {
+        Ending::Filled => Ending::Filled,
+        Ending::Cancels(reason) => Ending::Cancels(reason),
+        Ending::Rests(price) => rest_unless_meets(o, locked, x, t, n, kept, price),
     }
-    unless_meets(o, x, t, n, end)
 }

@@ -2,14 +2,14 @@
 -- believe these a reader needs the definitions that they name: 01 itself in `rules/specs`, the customer's words in `demands/specs`; for the
 -- tally `tally/specs/Tally`, for the program `day/specs/Turns` with `Feed` and `Pieces` beside it and `command_lines/specs/Pieces`. What else holds of a day, and
 -- of the lent table, stands in `Beyond` beside this file, and what the code itself is proved to do in `Entries`. Assumes nothing.
-use Prim.Native.Nat.{ℕ, _+_, _%_, _≤_, _<_}
+use Prim.Native.Nat.{ℕ, _+_, _-_, _%_, _≤_, _<_, min}
 use mathlib.Core.Bool.{Bool, true, false, not}
 use mathlib.Core.List.{List, [], _∷_, _++_, map}
 use mathlib.Core.Logic.{_⊎_, _≢_}
 use mathlib.Core.Path.{_≡_, refl}
 use lib.ListN.{length}
 use Rattle.basics.specs.Lists.{distinct, All, OneOf}
-use Rattle.kinds.specs.Kinds.{inHalfCents}
+use Rattle.kinds.specs.Kinds.{inHalfCents, shares}
 use Rattle.kinds.specs.declared.HalfCents.{HalfCents}
 use Rattle.kinds.specs.declared.Number.{Number}
 use Rattle.kinds.specs.declared.Shares.{Shares}
@@ -29,13 +29,13 @@ use Rattle.rules.specs.Commands.{does}
 use Rattle.rules.specs.Day.{printed, bookAfter, printedOf, output}
 use Rattle.rules.specs.EventLines.{FitsEvent, eventLine, eventLines, refusalLine}
 use Rattle.rules.specs.EventReading.{eventIn}
-use Rattle.rules.specs.Examples.{DeskExamples, QuoteExamples, ReserveExamples, LockExamples}
+use Rattle.rules.specs.Examples.{DeskExamples, QuoteExamples, ReserveExamples, LockExamples, MinimumExamples}
 use Rattle.rules.specs.Holdings.{holdings, InWalkOrder, ordersOf}
 use Rattle.rules.specs.Instructions.{has, ioc, fok, iso, market, postOnly}
 use Rattle.rules.specs.Refusals.{leastRoom}
 use Rattle.rules.specs.Step.{answerTo, step, stepOn}
-use Rattle.rules.specs.Working.{buying, seeks}
-use Rattle.rules.proofs.Examples.{desk-examples, quote-examples, reserve-examples, lock-examples}
+use Rattle.rules.specs.Working.{buying, minimumOf, seeks}
+use Rattle.rules.proofs.Examples.{desk-examples, quote-examples, reserve-examples, lock-examples, minimum-examples}
 use Rattle.rules.proofs.LawsEventReading.{eventIn-eventLine, eventIn-is}
 use Rattle.rules.proofs.LawsLines.{commandIn-lineOf, commandIn-is, lineOf-once}
 use Rattle.rules.proofs.LawsHoldings.{holdings-shown, holdings-reserves}
@@ -45,23 +45,26 @@ use Rattle.demands.specs.Beyond.{oneTo, repeated}
 use Rattle.demands.specs.ExactlyWhen.{own, Applies, NoLower}
 use Rattle.demands.specs.Executes.{executionsIn, Executes}
 use Rattle.demands.specs.Locks.{ExecutesWith, MeetsOrPasses, PostOnlyMeets, SaysOfPostOnly, StandApart, RestsAtWholeCents}
+use Rattle.demands.specs.Minimum.{NoMinimum, ExecutesInRank, StillMeets, SaysOfReason8, MinimumIs, BecomesWhatRemains}
 use Rattle.demands.specs.Once.{EventLines, Refused, endOf, eventLinesOf, actingNumbers, struckOut, noneRefused, acts, byLine, readingOf, lineAsked, Call, returned, byCall, linesWithRoom}
 use Rattle.demands.specs.Quoted.{Crosses, Quoted, WritesBoth}
-use Rattle.demands.specs.Refilled.{Refills}
+use Rattle.demands.specs.Refilled.{Stands, Refills}
 use Rattle.demands.specs.Room.{worstLines, fullOfReserves, nextLine}
 use Rattle.demands.specs.Run.{eventsOf, Enters}
 use Rattle.demands.specs.ShareOut.{opposite, Locked, PriceHere, Fair}
-use Rattle.demands.specs.Told.{eventsIn, executedIn, givenIn, cancelledIn, restingOf}
+use Rattle.demands.specs.Told.{eventsIn, isKilled, executedIn, givenIn, cancelledIn, restingOf}
 use Rattle.demands.specs.Written.{OrderWrites, CancelWrites, closeLine, IsOrder}
 use Rattle.demands.proofs.LawsBeyond as beyond
 use Rattle.demands.proofs.LawsCalls as calling
 use Rattle.demands.proofs.LawsFills as fills
 use Rattle.demands.proofs.LawsLocks as locks
+use Rattle.demands.proofs.LawsMinimum as minimum
 use Rattle.demands.proofs.LawsOnce as once
 use Rattle.demands.proofs.LawsQuoted as quoted
 use Rattle.demands.proofs.LawsRefilled as refilled
 use Rattle.demands.proofs.LawsRoom as room
 use Rattle.demands.proofs.LawsRun as run
+use Rattle.demands.proofs.LawsStillMeets as still
 use Rattle.demands.proofs.LawsWorst as worst
 use Rattle.demands.proofs.LawsWritten as written
 use Rattle.command_lines.specs.Pieces.{allOf}
@@ -233,6 +236,9 @@ examples-of-a-reserve = reserve-examples
 pub examples-of-a-lock : LockExamples
 examples-of-a-lock = lock-examples
 
+pub examples-of-a-minimum : MinimumExamples
+examples-of-a-minimum = minimum-examples
+
 -- every call keeps a sound record sound, so the record of a day is always sound, and so is the book of a day of lines
 pub sound-after-a-call : (r : BookRecord) (c : Call) → recordSound r ≡ true → recordSound (returned r c .book) ≡ true
 sound-after-a-call = calling.call-sound
@@ -262,18 +268,20 @@ no-shared-line = lineOf-once
 -- no resting order gives a share while a better-ranked one that could lawfully give keeps one.": said of the lines that the order
 -- itself prints, read back from their bytes; with W4 a resting order with reserve counts as two, its shown part and its reserve, "each as an
 -- order of its own at its rank in the walk"; with W6 "that order's price" is the one given there (`PriceHere`), so that "a hidden order barred
--- here isn't one that could give"
+-- here isn't one that could give"; where neither it nor one that it meets has a minimum (`NoMinimum`): else W7 has its own words, below
 pub executes-the-greatest : (lines : List (List ℕ)) (stood : Book) (line : List ℕ) (c : Command) (o : Order)
-    → Enters byLine fresh lines stood line c o → has (o .word) postOnly ≡ false → Executes stood c o (eventsIn (printed (answerTo stood line)))
+    → Enters byLine fresh lines stood line c o → has (o .word) postOnly ≡ false → NoMinimum o stood
+    → Executes stood c o (eventsIn (printed (answerTo stood line)))
 executes-the-greatest = run.run-executes
 
 -- the same of any run of lines from a sound book, and of any run of calls from any record lent: on one that is not sound no order enters
 pub executes-the-greatest-from : (b : Book) (lines : List (List ℕ)) (stood : Book) (line : List ℕ) (c : Command) (o : Order) → sound b ≡ true
-    → Enters byLine b lines stood line c o → has (o .word) postOnly ≡ false → Executes stood c o (eventsIn (printed (answerTo stood line)))
+    → Enters byLine b lines stood line c o → has (o .word) postOnly ≡ false → NoMinimum o stood
+    → Executes stood c o (eventsIn (printed (answerTo stood line)))
 executes-the-greatest-from b lines stood line c o = run.executes-from
 
 pub executes-the-greatest-by-call : (r : BookRecord) (calls : List Call) (stood : BookRecord) (call : Call) (c : Command) (o : Order)
-    → Enters byCall r calls stood call c o → has (o .word) postOnly ≡ false
+    → Enters byCall r calls stood call c o → has (o .word) postOnly ≡ false → NoMinimum o (bookIn stood)
     → Executes (bookIn stood) c o (eventsIn (byCall .tells stood call))
 executes-the-greatest-by-call = calling.calls-execute
 
@@ -493,3 +501,84 @@ sound-prices = locks.record-prices
 pub stand-apart-all-day : (lines : List (List ℕ)) (buy sell : Resting) → OneOf buy (bookAfter fresh lines .buys)
     → OneOf sell (bookAfter fresh lines .sells) → StandApart buy sell
 stand-apart-all-day lines = locks.stand-apart (bookAfter fresh lines) (sound-all-day-by-line lines)
+
+-- ── W7: minimum execution quantity ──
+
+-- "For such books and orders demand 3, its conserved sums kept, reads: FOK is killed exactly if the walk in rank order falls short, and then
+-- executes nothing, nor does an incoming order whose walk gives less than its minimum. In every other walk an order reached is skipped exactly
+-- in the case above, and any other gives the smaller of its holding and what is left.": of every accepted order that isn't Post Only, with
+-- minimums or without, in any run from a fresh book ..
+pub executes-in-rank : (lines : List (List ℕ)) (stood : Book) (line : List ℕ) (c : Command) (o : Order)
+    → Enters byLine fresh lines stood line c o → has (o .word) postOnly ≡ false
+    → ExecutesInRank stood c o (eventsIn (printed (answerTo stood line)))
+executes-in-rank = minimum.run-executes-in-rank
+
+-- .. from a sound book, and by calls from any record lent; the conserved sums above (`no-share-lost`) ask nothing of minimums
+pub executes-in-rank-from : (b : Book) (lines : List (List ℕ)) (stood : Book) (line : List ℕ) (c : Command) (o : Order) → sound b ≡ true
+    → Enters byLine b lines stood line c o → has (o .word) postOnly ≡ false
+    → ExecutesInRank stood c o (eventsIn (printed (answerTo stood line)))
+executes-in-rank-from b lines stood line c o = minimum.executes-in-rank-from
+
+pub executes-in-rank-by-call : (r : BookRecord) (calls : List Call) (stood : BookRecord) (call : Call) (c : Command) (o : Order)
+    → Enters byCall r calls stood call c o → has (o .word) postOnly ≡ false
+    → ExecutesInRank (bookIn stood) c o (eventsIn (byCall .tells stood call))
+executes-in-rank-by-call = minimum.calls-execute-in-rank
+
+-- these words determine the fills too: two outcomes that meet them kill alike, and tell the same execution lines, one after the other
+pub fills-in-rank-determined : (stood : Book) (c : Command) (o : Order) (es fs : List Event) → ExecutesInRank stood c o es
+    → ExecutesInRank stood c o fs
+    → ((n : Number) → givenIn n es ≡ givenIn n fs) × ((n : Number) → executedIn n es ≡ executedIn n fs)
+    × (isKilled (c .number) es ≡ isKilled (c .number) fs) × (executionsIn es ≡ executionsIn fs)
+fills-in-rank-determined = fills.in-rank-fills-determined
+
+-- "a least size per execution": no execution line takes less of a resting order than its minimum, or its holding if that is less; an order
+-- with a minimum has no reserve, so its shares are all that it holds
+pub never-below-a-minimum : {b : Book} {line : List ℕ} {o : Order} {h : Resting} {price : HalfCents} (e : ExecutesWith b line o h price)
+    → min (h .minimum .0) (h .shares .0) ≤ e .shares .0
+never-below-a-minimum = minimum.gives-its-least
+
+-- "An incoming one whose whole walk gives less than its minimum executes nothing": in all it executes nothing, or its minimum at least
+pub nothing-or-its-minimum : (b : Book) (line : List ℕ) (c : Command) (o : Order) → sound b ≡ true → acts b line ≡ true
+    → commandIn line ≡ reading.Is c → c .body ≡ body.Order o
+    → (executedIn (c .number) (eventsIn (printed (answerTo b line))) ≡ 0)
+    ⊎ (minimumOf (o .carried) ≤ executedIn (c .number) (eventsIn (printed (answerTo b line))))
+nothing-or-its-minimum = minimum.executes-its-least
+
+-- whoever gives nothing to an order, for it was skipped, or not reached, or the walk was undone, stands as before, stamp and minimum with it,
+-- and so in the same rank among those that stay
+pub who-gives-nothing-stays : (b : Book) (line : List ℕ) (c : Command) (o : Order) → sound b ≡ true → acts b line ≡ true
+    → commandIn line ≡ reading.Is c → c .body ≡ body.Order o → (h : Resting) → OneOf h (opposite o b)
+    → givenIn (h .number) (eventsIn (printed (answerTo b line))) ≡ 0 → OneOf h (opposite o (answerTo b line .book))
+who-gives-nothing-stays = minimum.untouched-stays
+
+-- "When fewer shares remain than the minimum, the minimum becomes what remains": of each order that is left of the side that an order meets,
+-- by what it was before. (What rests of an incoming one says the same in `an-order-writes`.)
+pub a-minimum-becomes-what-remains : (b : Book) (line : List ℕ) (c : Command) (o : Order) → sound b ≡ true → acts b line ≡ true
+    → commandIn line ≡ reading.Is c → c .body ≡ body.Order o → (h : Resting) → OneOf h (opposite o (answerTo b line .book))
+    → Stands (BecomesWhatRemains h) (opposite o b)
+a-minimum-becomes-what-remains = minimum.becomes-what-remains
+
+-- a record is sound only if each minimum is 0, or 1 to what is left of a non-displayed order without reserve; so one that is lent with
+-- another gets refusal 2 (`refused-exactly-when`)
+pub sound-minimums : (r : BookRecord) → recordSound r ≡ true → All MinimumIs (bookIn r .buys ++ bookIn r .sells)
+sound-minimums = minimum.record-minimums
+
+-- "A remainder that would still equal or pass an opposite order, save Post Only or at W6's locked price, is cancelled, new reason 8.": reason 8
+-- is given only to such a one, and whoever rests and isn't Post Only is none
+pub reason-8-as-it-meets : (b : Book) (line : List ℕ) (c : Command) (o : Order) → sound b ≡ true → acts b line ≡ true
+    → commandIn line ≡ reading.Is c → c .body ≡ body.Order o → All (SaysOfReason8 o b (answerTo b line .book)) (eventsIn (printed (answerTo b line)))
+reason-8-as-it-meets = still.reason-8
+
+-- .. and to every such one, of all that did not execute
+pub reason-8-is-given : (b : Book) (line : List ℕ) (c : Command) (o : Order) → sound b ≡ true → acts b line ≡ true
+    → commandIn line ≡ reading.Is c → c .body ≡ body.Order o
+    → executedIn (c .number) (eventsIn (printed (answerTo b line))) < o .shares .0 → StillMeets o b (answerTo b line .book)
+    → OneOf (Cancelled (c .number) (shares (o .shares .0 - executedIn (c .number) (eventsIn (printed (answerTo b line))))) 8)
+    (eventsIn (printed (answerTo b line)))
+reason-8-is-given = still.reason-8-given
+
+-- where neither the order nor one opposite has a minimum, no line has reason 8
+pub no-reason-8-without-a-minimum : (b : Book) (line : List ℕ) (c : Command) (o : Order) → sound b ≡ true → acts b line ≡ true
+    → commandIn line ≡ reading.Is c → c .body ≡ body.Order o → NoMinimum o b → (n : Number) (left : Shares)
+    → OneOf (Cancelled n left 8) (eventsIn (printed (answerTo b line))) → ⊥
+no-reason-8-without-a-minimum = still.no-reason-8

@@ -1,5 +1,5 @@
 -- The promises are not empty: a night that trades, is refused, is sent again, is killed and is refilled (`specs/Night`) is computed, and
--- demand 3's and W4's are read at it; and so is a locked night for W6's. Assumes nothing.
+-- demand 3's and W4's are read at it; and so is a locked night for W6's, and a night of minimums for W7's. Assumes nothing.
 use Prim.Native.Nat.{ℕ, _%_, _≤_, _<_}
 use mathlib.Core.Bool.{true, false}
 use mathlib.Core.List.{List, [], _∷_}
@@ -8,13 +8,15 @@ use lib.Count.{ones, onesIn}
 use lib.ListN.{take}
 use native.Mathlib.Omega.{arith}
 use Rattle.basics.specs.Bytes.{onto}
-use Rattle.basics.specs.Lists.{every, any, distinct, total, sumOf, gathered, OneOf, first}
+use Rattle.basics.specs.Lists.{every, any, distinct, total, sumOf, gathered, All, none, also, OneOf, first}
 use Rattle.digits.specs.Digits.{digits, nibbleOf, allDigits, numberAfter, numberIn}
-use Rattle.kinds.specs.Kinds.{number, shares, halfAbove}
+use Rattle.kinds.specs.Kinds.{cents, number, shares, inHalfCents, halfAbove}
 use Rattle.kinds.specs.declared.HalfCents.{HalfCents}
 use Rattle.rules.specs.declared.Event.{Event}
-use Rattle.rules.specs.declared.Event.the-variants.{Executed}
+use Rattle.rules.specs.declared.Event.the-variants.{Executed, Cancelled}
+use Rattle.rules.specs.declared.Ending.the-variants.{Rests}
 use Rattle.rules.specs.declared.Reading.the-variants as reading
+use Rattle.rules.specs.declared.Resting.{Resting}
 use Rattle.rules.specs.Book.{Book, fresh, ranksBefore, inRankOrder, apart, sound, sharesLeft}
 use Rattle.rules.specs.CommandLines.{written, lineOf, numbersFrom, kinds, bodyOfForm, bodyFrom, bodyIn, commandIn}
 use Rattle.rules.specs.Commands.{cancel, quote, close, carriedOut, does}
@@ -28,13 +30,15 @@ use Rattle.rules.specs.Settling.{insert, insertAll, staying, setAnew, told, sta
 use Rattle.rules.specs.Step.{doneBy, answer, answerTo}
 use Rattle.rules.specs.Working.{walked, takings, remainder, seeks, endingWith, ending, worked, accept}
 use Rattle.demands.specs.Locks.{ExecutesWith}
+use Rattle.demands.specs.Minimum.{NoMinimum, aBuy, StillMeets}
 use Rattle.demands.specs.Once.{actingNumbers, struckOut, byLine, acts}
 use Rattle.demands.specs.Refilled.{Due, Stands, IsRefilled}
 use Rattle.demands.specs.Run.{Enters, now, later}
 use Rattle.demands.specs.ShareOut.{Given, given, Lawful, Fills, Locked}
 use Rattle.demands.specs.Told.{eventsOn, eventsIn, isKilled, executedIn, givenIn, cancelledIn, restingOf}
-use Rattle.promises.proofs.Promises.{sound-all-day-by-line, executes-the-greatest, no-share-lost, an-order-refills, half-a-cent-under-a-lock, whole-cents-without-a-lock}
+use Rattle.promises.proofs.Promises.{sound-all-day-by-line, executes-the-greatest, no-share-lost, an-order-refills, half-a-cent-under-a-lock, whole-cents-without-a-lock, who-gives-nothing-stays, reason-8-is-given}
 use Rattle.promises.specs.Night.{night, nightStruckOut, nightEvents, reservedRests, lockedNight, lockedEvents, lockedSell, lockingBuy, sweeping, theSweeping}
+use Rattle.promises.specs.Night.{minimumNight, minimumEvents, largeRests, small, theSmall}
 use Rattle.promises.specs.Night.{killed, greedy, resting, reserved, taking, theKilled, theGreedy, theResting, theReserved, theTaking}
 
 -- ── What the night is computed by ──
@@ -90,9 +94,18 @@ kills : isKilled (number 5) (eventsIn (printed (answerTo (bookAfter fresh (take 
 unfolding lines-read bookAfter
 kills = refl
 
+-- no order of the night has a minimum
+plain-to-kill : NoMinimum killed (bookAfter fresh (take 5 night))
+unfolding lines-answered bookAfter
+plain-to-kill = record { incoming = refl; resting = also refl (also refl none) }
+
+plain-to-greedy : NoMinimum greedy (bookAfter fresh (take 6 night))
+unfolding lines-answered bookAfter
+plain-to-greedy = record { incoming = refl; resting = also refl (also refl none) }
+
 pub away-price-kills : Fills killed (bookAfter fresh (take 5 night) .held .away) (bookAfter fresh (take 5 night) .buys) (holdings (bookAfter fresh (take 5 night) .sells)) → ⊥
 away-price-kills =
-    executes-the-greatest night (bookAfter fresh (take 5 night)) (lineOf theKilled) theKilled killed killed-enters refl .killedOnly kills
+    executes-the-greatest night (bookAfter fresh (take 5 night)) (lineOf theKilled) theKilled killed killed-enters refl plain-to-kill .killedOnly kills
 
 -- the next order executes 200 shares, and no lawful share-out gives it more
 takes-200 : executedIn (number 6) (eventsIn (printed (answerTo (bookAfter fresh (take 6 night)) (lineOf theGreedy)))) ≡ 200
@@ -107,7 +120,7 @@ pub nobody-gives-more : (gs : List Given)
     → Lawful greedy (bookAfter fresh (take 6 night) .held .away) (bookAfter fresh (take 6 night) .buys) (holdings (bookAfter fresh (take 6 night) .sells)) gs → given gs ≤ 200
 nobody-gives-more gs l =
     subst (λ (k : ℕ). given gs ≤ k) takes-200
-    (executes-the-greatest night (bookAfter fresh (take 6 night)) (lineOf theGreedy) theGreedy greedy greedy-enters refl .greatest lives
+    (executes-the-greatest night (bookAfter fresh (take 6 night)) (lineOf theGreedy) theGreedy greedy greedy-enters refl plain-to-greedy .greatest lives
     gs l)
 
 -- 150 shares are entered: 100 are executed, 50 rest and are cancelled at the close, none rests then
@@ -248,3 +261,75 @@ pays-2011 e = half-a-cent-under-a-lock e is-locked .0 refl
 
 pub pays-no-whole-cents : (halfAbove (lockedSell .price) .0 % 2 ≡ 0) → ⊥
 pays-no-whole-cents even = whole-cents-without-a-lock sweeping-executes .0 even is-locked
+
+-- ── W7 ──
+
+-- a buy of 80 skips the order that wants 100 at least, takes 50 behind it and is cancelled with reason 8; one that wants 400 itself gets none of
+-- the 300; one of 250 takes of the first, whose minimum is then the 50 that are left
+minimum-night-tells : eventsIn (printedOf fresh minimumNight) ≡ minimumEvents
+unfolding lines-read bookAfter printedOf
+minimum-night-tells = refl
+
+minimum-night-leaves : bookAfter fresh minimumNight .sells ≡ largeRests 50 50 ∷ []
+unfolding lines-answered bookAfter
+minimum-night-leaves = refl
+
+-- the order that was skipped stands as before, by the promise
+abbrev skipping : Book
+skipping = bookAfter fresh (take 2 minimumNight)
+
+stands-first : OneOf (largeRests 300 100) (skipping .sells)
+unfolding lines-answered bookAfter
+stands-first = first
+
+small-acts : acts skipping (lineOf theSmall) ≡ true
+unfolding lines-answered bookAfter
+small-acts = refl
+
+small-reads : commandIn (lineOf theSmall) ≡ reading.Is theSmall
+unfolding lines-answered
+small-reads = refl
+
+gives-nothing : givenIn (number 1) (eventsIn (printed (answerTo skipping (lineOf theSmall)))) ≡ 0
+unfolding lines-read bookAfter sumOf
+gives-nothing = refl
+
+pub skipped-it-stays : OneOf (largeRests 300 100) (answerTo skipping (lineOf theSmall) .book .sells)
+skipped-it-stays =
+    who-gives-nothing-stays skipping (lineOf theSmall) theSmall small (sound-all-day-by-line (take 2 minimumNight)) small-acts small-reads refl
+    (largeRests 300 100) stands-first gives-nothing
+
+-- and so is it cancelled for reason 8: at 10.06 it would still pass that order, and no buy is displayed there
+executes-50 : executedIn (number 3) (eventsIn (printed (answerTo skipping (lineOf theSmall)))) ≡ 50
+unfolding lines-read bookAfter sumOf
+executes-50 = refl
+
+no-buys : skipping .buys ≡ []
+unfolding lines-answered bookAfter
+no-buys = refl
+
+seeks-its-limit : seeks small (skipping .held .away) ≡ Rests (inHalfCents (cents 1006))
+unfolding lines-answered bookAfter
+seeks-its-limit = refl
+
+none-of-none : {h : Resting} → OneOf h [] → ⊥
+none-of-none = elim [ ]
+
+small-still-meets : StillMeets small skipping (answerTo skipping (lineOf theSmall) .book)
+small-still-meets = record {
+  notPostOnly = refl;
+  notFok = refl;
+  notIoc = refl;
+  price = inHalfCents (cents 1006);
+  sought = seeks-its-limit;
+  whom = largeRests 300 100;
+  there = skipped-it-stays;
+  meets = aBuy refl (omega arith);
+  unlocked = λ l. none-of-none (subst (OneOf (l .by)) no-buys (l .there));
+}
+
+pub is-cancelled-for-8 : OneOf (Cancelled (number 3) (shares 30) 8) (eventsIn (printed (answerTo skipping (lineOf theSmall))))
+is-cancelled-for-8 =
+    let sound-there = sound-all-day-by-line (take 2 minimumNight) in
+    let some = subst (λ (k : ℕ). k < 80) (sym executes-50) (omega arith) in
+    rw executes-50 at (reason-8-is-given skipping (lineOf theSmall) theSmall small sound-there small-acts small-reads refl some small-still-meets)

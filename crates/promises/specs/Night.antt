@@ -1,6 +1,6 @@
 -- A night worth looking at: it trades, it is refused, a line is sent again with a newer time, two Fill-or-Kills are killed, one of
 -- them by the away price alone, an order with reserve gives of both its parts and is refilled, and the close cancels what is left. And
--- behind it a short one in which a lock stands (02, W6).
+-- behind it a short one in which a lock stands (02, W6), and one in which orders ask for a least size (W7).
 use Prim.Native.Nat.{ℕ, _+_}
 use mathlib.Core.Bool.{Bool, true, false}
 use mathlib.Core.List.{List, [], _∷_}
@@ -8,7 +8,7 @@ use Rattle.kinds.specs.Kinds.{cents, inHalfCents, halfAbove, shares, number}
 use Rattle.rules.specs.declared.Body.{Body}
 use Rattle.rules.specs.declared.Body.the-variants as body
 use Rattle.rules.specs.declared.Carried.{Carried}
-use Rattle.rules.specs.declared.Carried.the-variants.{Nothing, MaxFloor}
+use Rattle.rules.specs.declared.Carried.the-variants.{Nothing, MaxFloor, Minimum}
 use Rattle.rules.specs.declared.Command.{Command}
 use Rattle.rules.specs.declared.Event.{Event}
 use Rattle.rules.specs.declared.Event.the-variants.{Executed, Rested, Cancelled, Moved}
@@ -142,6 +142,7 @@ reservedRests = record {
   stamp = stamp (number 9) 0;
   reserve = shares 200;
   floor = shares 100;
+  minimum = shares 0;
 }
 
 -- ── A locked night ──
@@ -179,6 +180,7 @@ restsAt1005 shown n count = record {
   stamp = stamp (number n) 0;
   reserve = shares 0;
   floor = shares 0;
+  minimum = shares 0;
 }
 
 abbrev pub lockedSell : Resting
@@ -186,3 +188,55 @@ lockedSell = restsAt1005 false 1 100
 
 abbrev pub lockingBuy : Resting
 lockingBuy = restsAt1005 true 2 50
+
+-- ── A night of minimums ──
+
+-- a sell hidden at 10.05 asks for at least 100 shares in an execution, and one is displayed behind it (02, W7)
+abbrev pub large : Order
+large = orderWith (Minimum (shares 100)) 1 (day + nonDisplayed + priceAdjust) 300 1005
+
+-- a buy of 80 at 10.06 skips the first and takes 50 of the second; at its price it would still pass the first
+abbrev pub small : Order
+small = order 0 (day + displayed + priceAdjust) 80 1006
+
+-- a buy that wants no less than 400, where 300 rest
+abbrev pub choosy : Order
+choosy = orderWith (Minimum (shares 400)) 0 (ioc + nonDisplayed + priceAdjust) 500 1006
+
+abbrev pub theSmall : Command
+theSmall = command 3 20 (body.Order small)
+
+abbrev pub theChoosy : Command
+theChoosy = command 4 30 (body.Order choosy)
+
+abbrev pub minimumNight : List (List ℕ)
+minimumNight =
+    lineOf (command 1 0 (body.Order large))
+    ∷ lineOf (command 2 10 (body.Order (order 1 (day + displayed + priceAdjust) 50 1006)))
+    ∷ lineOf theSmall ∷ lineOf theChoosy
+    ∷ lineOf (command 5 40 (body.Order (order 0 (ioc + displayed + priceAdjust) 250 1006)))
+    ∷ []
+
+abbrev pub minimumEvents : List Event
+minimumEvents =
+    Rested (number 1) (inHalfCents (cents 1005)) (shares 300)
+    ∷ Rested (number 2) (inHalfCents (cents 1006)) (shares 50)
+    ∷ Executed (number 3) (number 2) (inHalfCents (cents 1006)) (shares 50)
+    ∷ Cancelled (number 3) (shares 30) 8
+    ∷ Cancelled (number 4) (shares 500) 2
+    ∷ Executed (number 5) (number 1) (inHalfCents (cents 1005)) (shares 250)
+    ∷ []
+
+-- what is left of it then: fewer shares than its minimum was, and so its minimum too
+abbrev pub largeRests : ℕ → ℕ → Resting
+largeRests count least = record {
+  number = number 1;
+  price = inHalfCents (cents 1005);
+  shares = shares count;
+  displayed = false;
+  back = false;
+  stamp = stamp (number 1) 0;
+  reserve = shares 0;
+  floor = shares 0;
+  minimum = shares least;
+}

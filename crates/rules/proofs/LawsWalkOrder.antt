@@ -158,11 +158,15 @@ pub parts-there : {Claim : Resting → ℕ → ℕ → Type 0} {s : List Resting
 parts-there Parts.none = Parts.none
 parts-there (Parts.also c a) = Parts.also (first, c) (parts-alike (λ o t r p. (later (p .0), p .1)) (parts-there a))
 
+-- an order with a minimum has no reserve
+abbrev pub NotBoth : Resting → Type 0
+NotBoth o = 0 < o .minimum .0 → o .reserve .0 ≡ 0
+
 -- neither part gives more than it holds, and the reserve gives only when the shown part gave all
 pub record Gives (o : Resting) (t r : ℕ) : Type 0 where
   pub shown : t ≤ o .shares .0
   pub reserve : r ≤ o .reserve .0
-  pub shownFirst : t < o .shares .0 → r ≡ 0
+  pub shownFirst : NotBoth o → t < o .shares .0 → r ≡ 0
 
 pub parts-both : {P Q : Resting → ℕ → ℕ → Type 0} {s : List Resting} {ts rs : List ℕ} → Parts P s ts rs → Parts Q s ts rs
     → Parts (λ (o : Resting) (t r : ℕ). P o t r × Q o t r) s ts rs
@@ -207,7 +211,11 @@ module _ (o : Order) (m : Met) where
       (λ h t r c. record {
         shown = c .0 .0;
         reserve = c .0 .1;
-        shownFirst = λ l. ⊎-elim (λ (e : t ≡ h .shares .0). let z : ⊥ = omega (arith, l) in absurd z) (λ (e : r ≡ 0). e) (c .1);
+        shownFirst = λ alone l.
+            ⊎-elim
+            (λ (e : t ≡ h .shares .0). let z : ⊥ = omega (arith, l) in absurd z)
+            (λ d. ⊎-elim (λ (e : r ≡ 0). e) (λ (k : 0 < h .minimum .0). omega (arith, alone k, c .0 .1)) d)
+            (c .1);
       })
       (parts-both (parts-within o m) (in-turn-parts met (takings-in-turn o m)))
 

@@ -1,10 +1,10 @@
 -- What a side holds for a walk (01, How an order is worked, 1; 02, W4): its holdings in the order in which a walk reaches them, what each
 -- gives, and what is left of the orders then.
-use Prim.Native.Nat.{ℕ, _-_, min}
+use Prim.Native.Nat.{ℕ, _+_, _-_, min}
 use mathlib.Core.Bool.{Bool, true, false, not, _&&_, Bool·beq}
 use mathlib.Core.List.{List, [], _∷_}
 use mathlib.Core.Path.{_≡_}
-use lib.Dec.{eqb}
+use lib.Dec.{eqb, ltb}
 use Rattle.basics.specs.Choice.{if_then_else_}
 use Rattle.basics.specs.Lists.{All}
 use Rattle.kinds.specs.declared.HalfCents.{HalfCents}
@@ -82,9 +82,13 @@ walk may gives left (h ∷ s) =
     if may h then gives left h ∷ walk may gives (left - gives left h) s
     else nothing (h ∷ s)
 
--- "for the smaller of the two sizes"
+-- "When a walk reaches it with less left than the smaller of its minimum and its holding, it is skipped and the walk goes on." (02, W7)
+abbrev pub isSkipped : ℕ → Holding → Bool
+isSkipped left h = ltb left (min (h .of .minimum .0) (size h))
+
+-- "for the smaller of the two sizes", unless it is skipped
 abbrev pub smaller : ℕ → Holding → ℕ
-smaller left h = min left (size h)
+smaller left h = if isSkipped left h then 0 else min left (size h)
 
 -- ── After the walk ──
 
@@ -103,9 +107,13 @@ takenOf reserves (h ∷ s) [] = []
 takenOf reserves (h ∷ s) (t ∷ ts) =
     if Bool·beq (h .isReserve) reserves then t ∷ takenOf reserves s ts else takenOf reserves s ts
 
--- a resting order with fewer shares, so many of its shown part and so many of its reserve
+-- a resting order with fewer shares, so many of its shown part and so many of its reserve; "When fewer shares remain than the minimum, the
+-- minimum becomes what remains" (02, W7)
 abbrev pub reducedBy : ℕ → ℕ → Resting → Resting
-reducedBy t r h = amended (h .price) (h .stamp) (h .shares .0 - t) (h .reserve .0 - r) h
+reducedBy t r h =
+    let shown = h .shares .0 - t in
+    let reserve = h .reserve .0 - r in
+    amended (h .price) (h .stamp) shown reserve (min (h .minimum .0) (shown + reserve)) h
 
 -- the resting orders with the shares that each keeps; whoever keeps none leaves the book
 unfoldable pub keeping : List Resting → List ℕ → List ℕ → List Resting

@@ -22,9 +22,9 @@ use Rattle.rules.specs.Book.{Book, stamp, ranksBefore, sharesLeft}
 
 -- ── A resting order ──
 
--- a resting order with another price, stamp, shown part and reserve; all else stays
-abbrev pub amended : HalfCents → Stamp → ℕ → ℕ → Resting → Resting
-amended price anew shown reserve h = record {
+-- a resting order with another price, stamp, shown part, reserve and minimum; all else stays
+abbrev pub amended : HalfCents → Stamp → ℕ → ℕ → ℕ → Resting → Resting
+amended price anew shown reserve minimum h = record {
   number = h .number;
   price = price;
   shares = shares shown;
@@ -33,14 +33,15 @@ amended price anew shown reserve h = record {
   stamp = anew;
   reserve = shares reserve;
   floor = h .floor;
+  minimum = shares minimum;
 }
 
 -- a resting order set at a price, and one with a new stamp
 abbrev pub setAt : HalfCents → Resting → Resting
-setAt price h = amended price (h .stamp) (h .shares .0) (h .reserve .0) h
+setAt price h = amended price (h .stamp) (h .shares .0) (h .reserve .0) (h .minimum .0) h
 
 abbrev pub stampedAs : Stamp → Resting → Resting
-stampedAs anew h = amended (h .price) anew (h .shares .0) (h .reserve .0) h
+stampedAs anew h = amended (h .price) anew (h .shares .0) (h .reserve .0) (h .minimum .0) h
 
 -- the shares that an order shows of those left, by its Max Floor: "refilled to the Max Floor .., or to what is left if that is less"
 -- (02, W4). With no Max Floor, which is 0, it shows them all.
@@ -51,7 +52,7 @@ shownOf floor left = if eqb floor 0 then left else min floor left
 abbrev pub refilled : Resting → Resting
 refilled h =
     let shown = shownOf (h .floor .0) (sharesLeft h) in
-    amended (h .price) (h .stamp) shown (sharesLeft h - shown) h
+    amended (h .price) (h .stamp) shown (sharesLeft h - shown) (h .minimum .0) h
 
 -- a resting order takes its place by rank
 unfoldable pub insert : Bool → Resting → List Resting → List Resting

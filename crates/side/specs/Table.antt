@@ -28,7 +28,7 @@ levelOf buy o =
 abbrev pub rowOf : Resting → List ℕ
 rowOf o =
     o .number .0 ∷ o .price .0 ∷ o .shares .0 ∷ levelOf true o ∷ levelOf false o ∷ flagOf (o .back)
-    ∷ o .stamp .command .0 ∷ o .stamp .place ∷ o .reserve .0 ∷ o .floor .0 ∷ []
+    ∷ o .stamp .command .0 ∷ o .stamp .place ∷ o .reserve .0 ∷ o .floor .0 ∷ o .minimum .0 ∷ []
 
 abbrev pub orderOf : List ℕ → Resting
 orderOf r = record {
@@ -40,6 +40,7 @@ orderOf r = record {
   stamp = stamp (number (getD r 6 0)) (getD r 7 0);
   reserve = shares (getD r 8 0);
   floor = shares (getD r 9 0);
+  minimum = shares (getD r 10 0);
 }
 
 -- the level in a row

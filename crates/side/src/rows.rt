@@ -18,7 +18,7 @@ ghost use Rattle.side.specs.Table.{flagOf, levelOf, levelIn, orderOf, ro
 pub const PLACES: usize = 256;
 
 // How many words a row has.
-pub const WORDS: usize = 10;
+pub const WORDS: usize = 11;
 
 // How many hints an index has, from an order's number to its row.
 pub const HINTS: usize = 4096;
@@ -114,6 +114,7 @@ pub const UNUSED: Resting = Resting {
     },
     reserve: Shares(0),
     floor: Shares(0),
+    minimum: Shares(0),
 };
 
 // Whether a record is that of an unused place.
@@ -130,6 +131,7 @@ pub fn is_unused(o: Resting) -> bool
         & (stamp.place == 0)
         & (o.reserve.0 == 0)
         & (o.floor.0 == 0)
+        & (o.minimum.0 == 0)
 }
 
 // The shares of an order, shown and in reserve (02, W4).
@@ -157,6 +159,7 @@ fn order_of(r: [u32; WORDS]) -> Resting
         },
         reserve: Shares(r[8]),
         floor: Shares(r[9]),
+        minimum: Shares(r[10]),
     }
 }
 
@@ -193,6 +196,7 @@ fn row_of(o: Resting) -> [u32; WORDS]
         stamp.place,
         o.reserve.0,
         o.floor.0,
+        o.minimum.0,
     ]
 }
 

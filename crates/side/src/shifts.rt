@@ -7,7 +7,7 @@ use kinds::Shares;
 use rules::Resting;
 ghost use mathlib.Core.Bool.{_&&_};
 ghost use mathlib.Core.Path.{_≡_};
-ghost use Prim.Native.Nat.{_-_, _≤_, _<_, min};
+ghost use Prim.Native.Nat.{_+_, _-_, _≤_, _<_, min};
 ghost use lib.Dec.{ltb, leb};
 ghost use lib.ListN.{getD, set};
 ghost use Rattle.basics.specs.Choice.{if_then_else_};
@@ -115,6 +115,20 @@ fn without(all: u32, gone: u32) -> u32
     if gone < all { all - gone } else { 0 }
 }
 
+// A minimum, or what is left of its order where that is less (02, W7): the shown part and the reserve, whose sum may be more than a word
+// holds.
+fn cut(minimum: u32, shown: u32, reserve: u32) -> u32
+    ensures { λ r. ⌜ r ≡ min minimum (shown + reserve) ⌝ }
+{
+    if minimum <= shown {
+        return minimum;
+    }
+    if minimum - shown <= reserve {
+        return minimum;
+    }
+    shown + reserve
+}
+
 // The side with `part` shares fewer in the order at rank `at`: of its shown part first, and then of its reserve.
 pub fn reduce(x: &Index, t: &mut Rows, n: usize, at: usize, part: Shares)
     requires { ⌜ Holds n (now x) (now t) × (at < n) ⌝ }
@@ -127,12 +141,14 @@ pub fn reduce(x: &Index, t: &mut Rows, n: usize, at: usize, part: Shares)
     let shown = without(o.shares.0, part.0);
     let more = without(part.0, o.shares.0);
     let reserve = without(o.reserve.0, more);
+    let minimum = cut(o.minimum.0, shown, reserve);
     rows::put_row(
         t,
         slot,
         Resting {
             shares: Shares(shown),
             reserve: Shares(reserve),
+            minimum: Shares(minimum),
             ..o
         },
     );

@@ -12,9 +12,9 @@ use Rattle.rules.specs.declared.Body.the-variants as body
 use Rattle.rules.specs.declared.Command.{Command}
 use Rattle.rules.specs.declared.Order.{Order}
 use Rattle.rules.specs.declared.Reading.the-variants as reading
-use Rattle.rules.specs.Instructions.{reserve, has, lawful}
+use Rattle.rules.specs.Instructions.{displayed, reserve, has, needs, lawful}
 use Rattle.rules.specs.Book.{Book, opening, closing, awayInRange}
-use Rattle.rules.specs.Refusals.{firstOf, isClose, untimely, carriesFloor, orderLawful, orderInRange, restsOnFullSide, headerRefusals, bodyRefusals, lineRefusals}
+use Rattle.rules.specs.Refusals.{firstOf, isClose, untimely, carriesFloor, carriesMinimum, orderLawful, orderInRange, restsOnFullSide, headerRefusals, bodyRefusals, lineRefusals}
 use Rattle.rules.proofs.LawsRefusals.{none-given}
 
 -- ── By the header ──
@@ -57,6 +57,7 @@ accepted b c e =
 pub record AcceptedOrder (b : Book) (o : Order) : Type 0 where
   pub isLawful : lawful (o .word) ≡ true
   pub carries : Bool·beq (has (o .word) reserve) (carriesFloor (o .carried)) ≡ true
+  pub hides : needs (carriesMinimum (o .carried)) (not (has (o .word) displayed)) ≡ true
   pub inRange : orderInRange o ≡ true
   pub room : restsOnFullSide o b ≡ false
 
@@ -68,9 +69,12 @@ accepted-order b o e =
     let full = none-given 11 (restsOnFullSide o b) _ (omega arith) (fields .1) in
     let both = not-false (orderLawful o) (word .0) in
     let tied = Bool·beq (has (o .word) reserve) (carriesFloor (o .carried)) in
+    let hides = needs (carriesMinimum (o .carried)) (not (has (o .word) displayed)) in
+    let first = and-left (lawful (o .word) && tied) hides both in
     record {
-      isLawful = and-left (lawful (o .word)) tied both;
-      carries = and-right (lawful (o .word)) tied both;
+      isLawful = and-left (lawful (o .word)) tied first;
+      carries = and-right (lawful (o .word)) tied first;
+      hides = and-right (lawful (o .word) && tied) hides both;
       inRange = not-false (orderInRange o) (fields .0);
       room = full .0;
     }

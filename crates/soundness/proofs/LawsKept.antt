@@ -84,6 +84,7 @@ sound-fates b c accepted last buy opposite h r apart =
           apart;
       shows = r .holding;
       floored = r .floored;
+      least = r .least;
     }))
   where
     left-if-set : (f : Fate) → IfSet (SetSound buy opposite) f → LeftSound buy opposite h f
@@ -100,7 +101,7 @@ module _ (b : Book) (s : Sound b) (n : Number) (time : ℕ) (next : n .0 ≡ b .
   accept-sound o a =
       rw (order-does n time b o .0)
       (sides-sound (withAccepted n time (b .held)) opened inTime (s .bid) (s .offer) isOpen (buying o)
-      (accept-sides n o (metBy o b) (sides-of (buying o) b s) next (a .isLawful) (a .carries) (a .inRange) (a .room) firstMove
+      (accept-sides n o (metBy o b) (sides-of (buying o) b s) next (a .isLawful) (a .carries) (a .hides) (a .inRange) (a .room) firstMove
       (ending o (metBy o b)) refl))
 
   -- both sides, settled by the fates of a command

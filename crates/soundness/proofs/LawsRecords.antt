@@ -25,7 +25,9 @@ unused-is o e =
     let stamped = chosen && eqb (o .stamp .command .0) 0 in
     let placed = stamped && eqb (o .stamp .place) 0 in
     let plain = placed && eqb (o .reserve .0) 0 in
-    let byPlain : plain ≡ true = and-left plain (eqb (o .floor .0) 0) e in
+    let floored = plain && eqb (o .floor .0) 0 in
+    let byFloored : floored ≡ true = and-left floored (eqb (o .minimum .0) 0) e in
+    let byPlain : plain ≡ true = and-left plain (eqb (o .floor .0) 0) byFloored in
     let byPlaced : placed ≡ true = and-left placed (eqb (o .reserve .0) 0) byPlain in
     let byStamped : stamped ≡ true = and-left stamped (eqb (o .stamp .place) 0) byPlaced in
     let byChosen : chosen ≡ true = and-left chosen (eqb (o .stamp .command .0) 0) byStamped in
@@ -41,9 +43,10 @@ unused-is o e =
     (eqb-true (o .stamp .command .0) 0 (and-right chosen (eqb (o .stamp .command .0) 0) byStamped))
     (eqb-true (o .stamp .place) 0 (and-right stamped (eqb (o .stamp .place) 0) byPlaced))
     (eqb-true (o .reserve .0) 0 (and-right placed (eqb (o .reserve .0) 0) byPlain))
-    (eqb-true (o .floor .0) 0 (and-right plain (eqb (o .floor .0) 0) e))
+    (eqb-true (o .floor .0) 0 (and-right plain (eqb (o .floor .0) 0) byFloored))
+    (eqb-true (o .minimum .0) 0 (and-right floored (eqb (o .minimum .0) 0) e))
   where
-    made : {n p s c k r f : ℕ} {d b : Bool} → n ≡ 0 → p ≡ 0 → s ≡ 0 → d ≡ false → b ≡ false → c ≡ 0 → k ≡ 0 → r ≡ 0 → f ≡ 0
+    made : {n p s c k r f l : ℕ} {d b : Bool} → n ≡ 0 → p ≡ 0 → s ≡ 0 → d ≡ false → b ≡ false → c ≡ 0 → k ≡ 0 → r ≡ 0 → f ≡ 0 → l ≡ 0
         → record {
           number = number n;
           price = halfCents p;
@@ -53,8 +56,9 @@ unused-is o e =
           stamp = stamp (number c) k;
           reserve = shares r;
           floor = shares f;
+          minimum = shares l;
         } ≡ unused
-    made e f g h i j l m o = rw (e, f, g, h, i, j, l, m, o)
+    made e f g h i j l m o p = rw (e, f, g, h, i, j, l, m, o, p)
 
 -- so places that all pass for unused are nothing but such
 pub all-unused : (s : List Resting) → every isUnused s ≡ true → s ≡ replicate (length s) unused

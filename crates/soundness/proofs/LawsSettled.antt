@@ -14,7 +14,7 @@ use Rattle.kinds.specs.declared.Number.{Number}
 use Rattle.kinds.specs.Kinds.{restingPriceInRange}
 use Rattle.rules.specs.declared.Resting.{Resting}
 use Rattle.rules.specs.declared.Stamp.{Stamp}
-use Rattle.rules.specs.Book.{stamp, earlier, inRankOrder, floorInRange}
+use Rattle.rules.specs.Book.{stamp, earlier, inRankOrder, floorInRange, minimumInRange}
 use Rattle.rules.specs.declared.Fate.{Fate}
 use Rattle.rules.specs.declared.Fate.the-variants.{Stays, IsCancelled, IsSet}
 use Rattle.rules.specs.Settling.{keptBy, setBy, stampedAs, insert, insertAll, staying, setAnew, stampedFrom, settledSide}
@@ -198,12 +198,13 @@ module _ (n : Number) (buy : Bool) (fate : Resting → Fate) where
 -- ── A side ──
 
 -- what is left of an order by its fate keeps its side sound: it shows a share; and whoever is set anew has a price in range, apart from the
--- opposite side, and a Max Floor in range
+-- opposite side, and Max Floor and minimum in range
 pub record SetSound (buy : Bool) (opposite : List Resting) (new : Resting) : Type 0 where
   pub priced : restingPriceInRange (new .price) ≡ true
   pub isApart : Clear buy (new .displayed) (new .price) opposite
   pub shows : 1 ≤ new .shares .0
   pub floored : floorInRange new ≡ true
+  pub least : minimumInRange new ≡ true
 
 abbrev pub LeftSound : Bool → List Resting → Resting → Fate → Type 0
 LeftSound buy opposite h Stays = 1 ≤ h .shares .0
@@ -249,6 +250,7 @@ sides-settled {mine = mine} {buy = buy} {own = own} {opposite = opposite} n k fa
           stampedFrom = r .stampedFrom;
           stampedUpTo = r .stampedUpTo;
           floored = r .floored;
+          least = r .least;
         }
 
     set-in-range : {j : ℕ} {h new : Resting} → OneOf h own → fate h ≡ IsSet new → InRange n (stampedAs (stamp n j) new)
@@ -265,6 +267,7 @@ sides-settled {mine = mine} {buy = buy} {own = own} {opposite = opposite} n k fa
           stampedFrom = omega (arith, numbered, r .upToLast);
           stampedUpTo = omega arith;
           floored = left p e .floored;
+          least = left p e .least;
         }
 
     fewer : (m : ℕ) → sumOf (oneIf m) (bothSides buy (settledSide n k buy fate own) opposite) ≤ sumOf (oneIf m) (bothSides buy own opposite)

@@ -1,6 +1,6 @@
 -- The resting orders of a sound book, seen from the side of an order: its own side and the opposite one. What is thinned, and what
 -- gets one order more, stays sound, but that an order may show nothing until it is refilled (02, W4). Assumes nothing.
-use Prim.Native.Nat.{ℕ, _+_, _≤_, _<_}
+use Prim.Native.Nat.{ℕ, _+_, _≤_, _<_, min}
 use mathlib.Core.Bool.{Bool, true, false, not, _&&_, _||_}
 use mathlib.Core.List.{List, [], _∷_, _++_}
 use mathlib.Core.Path.{_≡_, refl}
@@ -18,9 +18,9 @@ use Rattle.kinds.proofs.LawsRanges.{shares-most, shares-ranged}
 use Rattle.rules.specs.declared.Held.{Held}
 use Rattle.rules.specs.declared.Resting.{Resting}
 use Rattle.rules.specs.declared.Stamp.{Stamp}
-use Rattle.rules.specs.Book.{sharesLeft, numbers, Book, placesASide, opening, closing, earlier, inRankOrder, stampInRange, floorInRange, restingInRange, awayInRange}
+use Rattle.rules.specs.Book.{sharesLeft, numbers, Book, placesASide, opening, closing, earlier, inRankOrder, stampInRange, floorInRange, minimumInRange, restingInRange, awayInRange}
 use Rattle.rules.specs.Settling.{ownSide, oppositeSide, insert}
-use Rattle.rules.proofs.LawsFloors.{lowered-floored}
+use Rattle.rules.proofs.LawsFloors.{lowered-floored, lowered-least, least-within}
 use Rattle.soundness.proofs.LawsApart.{Clear, Apart, apart-all, apart-best, apart-flip}
 use Rattle.soundness.proofs.LawsInsert.{Added, added-insert, added-before, added-behind, added-length, added-all, added-distinct, ranked-insert}
 use Rattle.soundness.proofs.LawsNumbers.{oneIf, fewer-distinct}
@@ -40,6 +40,7 @@ pub record Ranged (count : Resting → ℕ) (last : Number) (h : Resting) : Type
   pub stampedFrom : h .number .0 ≤ h .stamp .command .0
   pub stampedUpTo : h .stamp .command .0 ≤ last .0
   pub floored : floorInRange h ≡ true
+  pub least : minimumInRange h ≡ true
 
 -- an order of a sound book shows a share; between a walk and the refills it may have one in reserve alone
 abbrev pub shownIn : Resting → ℕ
@@ -54,7 +55,8 @@ range-is last h e =
     let stamped = numbered && restingPriceInRange (h .price) && stampInRange last h in
     let shown = stamped && leb 1 (h .shares .0) in
     let counted = shown && sharesInRange (shares (sharesLeft h)) in
-    let byCounted = and-left counted (floorInRange h) e in
+    let byFloored = and-left (counted && floorInRange h) (minimumInRange h) e in
+    let byCounted = and-left counted (floorInRange h) byFloored in
     let byShown = and-left shown (sharesInRange (shares (sharesLeft h))) byCounted in
     let byStamped = and-left stamped (leb 1 (h .shares .0)) byShown in
     let t = and-right (numbered && restingPriceInRange (h .price)) (stampInRange last h) byStamped in
@@ -68,7 +70,8 @@ range-is last h e =
       atMost = shares-most (shares (sharesLeft h)) (and-right shown (sharesInRange (shares (sharesLeft h))) byCounted);
       stampedFrom = leb-true (h .number .0) (h .stamp .command .0) (and-left (leb (h .number .0) (h .stamp .command .0)) (leb (h .stamp .command .0) (last .0)) t);
       stampedUpTo = leb-true (h .stamp .command .0) (last .0) (and-right (leb (h .number .0) (h .stamp .command .0)) (leb (h .stamp .command .0) (last .0)) t);
-      floored = and-right counted (floorInRange h) e;
+      floored = and-right counted (floorInRange h) byFloored;
+      least = and-right (counted && floorInRange h) (minimumInRange h) e;
     }
 
 is-range : (last : Number) (h : Resting) → InRange last h → restingInRange last h ≡ true
@@ -81,8 +84,9 @@ is-range last h r =
       le-leb (h .stamp .command .0) (last .0) (r .stampedUpTo),
       le-leb 1 (h .shares .0) (r .holding),
       shares-ranged (shares (sharesLeft h)) (omega (arith, r .holding)) (r .atMost),
+      r .floored,
     )
-    (r .floored)
+    (r .least)
 
 ranges-first : (last : Number) (s u : List Resting) → every (restingInRange last) (s ++ u) ≡ true → All (InRange last) s
 unfolding every
@@ -212,7 +216,7 @@ module _ (h : Held) (opened : leb opening (h .time) ≡ true) (inTime : leb (h .
 -- ── What keeps them ──
 
 pub all-holding : (last : Number) {s : List Resting} → All (InRange last) s → Standing s
-all-holding last a = all-alike (λ h r. omega (arith, r .holding)) a
+all-holding last a = all-alike (λ h r. record { isLeft = omega (arith, r .holding); least = least-within h (r .least) }) a
 
 -- lower shares stay in range, but for what is shown
 fewer : {count : Resting → ℕ} {last : Number} (h : Resting) (shown reserve : ℕ) → shown ≤ h .shares .0 → reserve ≤ h .reserve .0 → 1 ≤ shown + reserve
@@ -225,7 +229,8 @@ fewer h shown reserve l m some r = record {
   atMost = omega (arith, r .atMost);
   stampedFrom = r .stampedFrom;
   stampedUpTo = r .stampedUpTo;
-  floored = lowered-floored h (r .floored) (h .price) (h .stamp) shown reserve l m;
+  floored = lowered-floored h (r .floored) (h .price) (h .stamp) shown reserve (min (h .minimum .0) (shown + reserve)) l m;
+  least = lowered-least h (r .least) (h .price) (h .stamp) shown reserve;
 }
 
 added-sides : (buy : Bool) {x : Resting} {own own′ : List Resting} (opposite : List Resting) → Added x own own′ → Added x (bothSides buy own opposite) (bothSides buy own′ opposite)
@@ -252,6 +257,7 @@ later-range l h r = record {
   stampedFrom = r .stampedFrom;
   stampedUpTo = omega (arith, r .stampedUpTo);
   floored = r .floored;
+  least = r .least;
 }
 
 -- a stamp of a command above the last is later than all

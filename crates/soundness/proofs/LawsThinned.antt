@@ -1,11 +1,11 @@
 -- Executions do nothing to resting orders but take some away and lower the shares of others, of the shown part and of the reserve. Whatever
 -- does no more keeps what a sound book says of them: rank, numbers, the distance between the sides, and ranges, but that an order may show
 -- nothing for a while. Assumes nothing.
-use Prim.Native.Nat.{ℕ, _+_, _-_, _≤_}
+use Prim.Native.Nat.{ℕ, _+_, _-_, _≤_, min}
 use mathlib.Core.Bool.{Bool, true, false}
 use mathlib.Core.List.{List, [], _∷_}
 use mathlib.Core.Logic.{⊎-elim}
-use mathlib.Core.Path.{_≡_, refl, sym, _∙_}
+use mathlib.Core.Path.{_≡_, refl, sym, subst, _∙_}
 use lib.Dec.{eqb}
 use lib.ListN.{length}
 use native.Mathlib.Omega.{arith}
@@ -20,9 +20,9 @@ use Rattle.rules.specs.Settling.{amended}
 use Rattle.soundness.proofs.LawsNumbers.{timesIn}
 use Rattle.rules.proofs.LawsRank.{ranked-first, ranked-rest, ranked-more}
 
--- an order of which so much is left, of its shown part and of its reserve
+-- an order of which so much is left, of its shown part and of its reserve; its minimum becomes what remains, if that is less
 abbrev pub withParts : ℕ → ℕ → Resting → Resting
-withParts shown reserve h = amended (h .price) (h .stamp) shown reserve h
+withParts shown reserve h = amended (h .price) (h .stamp) shown reserve (min (h .minimum .0) (shown + reserve)) h
 
 -- orders of which some are taken away and others keep some of their shares
 pub data Thinned : List Resting → List Resting → Type 0 where
@@ -31,15 +31,22 @@ pub data Thinned : List Resting → List Resting → Type 0 where
   keeps : {h : Resting} {s r : List Resting} (shown reserve : ℕ) → shown ≤ h .shares .0 → reserve ≤ h .reserve .0 → 1 ≤ shown + reserve → Thinned s r
       → Thinned (h ∷ s) (withParts shown reserve h ∷ r)
 
--- orders that have a share each
+-- an order that has a share, and a minimum of no more than it has
+pub record Stands (h : Resting) : Type 0 where
+  pub isLeft : 1 ≤ sharesLeft h
+  pub least : h .minimum .0 ≤ sharesLeft h
+
 abbrev pub Standing : List Resting → Type 0
-Standing s = All (λ (h : Resting). 1 ≤ sharesLeft h) s
+Standing s = All Stands s
 
 -- ── What thins ──
 
 pub thinned-same : {s : List Resting} → Standing s → Thinned s s
 thinned-same none = empty
-thinned-same (also {x = h} p a) = keeps {h = h} (h .shares .0) (h .reserve .0) (omega arith) (omega arith) p (thinned-same a)
+thinned-same (also {x = h} {s = s} p a) =
+    let cut : min (h .minimum .0) (sharesLeft h) ≡ h .minimum .0 = omega (arith, p .least) in
+    subst (λ (k : ℕ). Thinned (h ∷ s) (amended (h .price) (h .stamp) (h .shares .0) (h .reserve .0) k h ∷ s)) cut
+    (keeps {h = h} (h .shares .0) (h .reserve .0) (omega arith) (omega arith) (p .isLeft) (thinned-same a))
 
 pub thinned-none : (s : List Resting) → Thinned s []
 thinned-none [] = empty

@@ -15,7 +15,7 @@ use Rattle.digits.specs.Digits.{digits}
 use Rattle.rules.specs.declared.Body.{Body}
 use Rattle.rules.specs.declared.Body.the-variants.{Order, Cancel, Quote, Close}
 use Rattle.rules.specs.declared.Carried.{Carried}
-use Rattle.rules.specs.declared.Carried.the-variants.{Nothing, MaxFloor}
+use Rattle.rules.specs.declared.Carried.the-variants.{Nothing, MaxFloor, Minimum}
 use Rattle.rules.specs.declared.Command.{Command}
 use Rattle.rules.specs.declared.Reading.{Reading}
 use Rattle.rules.specs.declared.Reading.the-variants as reading
@@ -73,6 +73,7 @@ second-tells c = by-body (c .body)
         → digitsAfter (getD (written headerForm (orderKindOf x ∷ c .number .0 ∷ c .time ∷ []) ++ rest) 1 0) ≡ digitsWithHeader (orderFormOf x)
     by-carried Nothing rest = refl
     by-carried (MaxFloor floor) rest = refl
+    by-carried (Minimum least) rest = refl
 
     by-body : (b : Body) → digitsAfter (getD (lineOf (record { number = c .number; time = c .time; body = b })) 1 0) ≡ digitsWithHeader (formOf b)
     by-body (Order o) = by-carried (o .carried) (line (formOf (Order o)) (numbersOf (Order o)))

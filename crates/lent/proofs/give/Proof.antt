@@ -7,7 +7,7 @@
 --     more, ends   a turn that copies a record, and the turn that leaves the loop, with the rest of the body
 --     walk         the MIR up to the loop, and the loop by `loops`
 -- `turn-1` and `t-3` are generated: the loop's body, and the function's body from its third statement on, which is what runs after the loop.
--- 32 is the size of a record. A new field of `Resting` changes it, and nothing else here.
+-- 36 is the size of a record. A new field of `Resting` changes it, and nothing else here.
 use mathlib.Core.Path.{_≡_, refl, sym, _∙_, ap, subst}
 use Prim.Native.Nat.{ℕ, _+_, _-_, _≤_, _<_, zero-le}
 use native.Mathlib.Nat.{le-antisymm}
@@ -169,9 +169,9 @@ module _ {M : Type 1} (𝓤 : URA M) (H : Heap 𝓤) (A : Atoms 𝓤) (W : Given
           -- [what the record owns; the row; the open borrow; obs; auth; _7; …; and so on]
           peeks ! T.the-row (Is T.the-row) (shows 𝓤 H A T.the-row) r (u ∷ []) (λ is. land ! (from ! (stop !)) (init ! 9 refl (record-typed 𝓤 H A W r u is)) $
           -- the offset of element i, and its place
-          assigns ! (bin ! (load ! (from ! (stop !)) (look ! 13 refl)) (lit ! tt) (scaled-fits i (length ys) 32 inside (gn .1))) (from ! (stop !)) (init ! 7 refl (tt, scaled-fits i (length ys) 32 inside (gn .1))) $
+          assigns ! (bin ! (load ! (from ! (stop !)) (look ! 13 refl)) (lit ! tt) (scaled-fits i (length ys) 36 inside (gn .1))) (from ! (stop !)) (init ! 7 refl (tt, scaled-fits i (length ys) 36 inside (gn .1))) $
           assigns ! (bin ! (load ! (from ! (fld ! refl (stop !))) (look-in ! 17 (sub ! 0 refl (whole !)))) (load ! (from ! (stop !)) (look ! 7 refl)) tt) (from ! (stop !)) (init ! 5 refl (tt, tt)) $
-          rewrite ! 5 (λ (p : ℕ). ‵ (fat fullShare tyPtr l₇ 0 (vptr b p))) (sym (place-is 32 o i)) refl $
+          rewrite ! 5 (λ (p : ℕ). ‵ (fat fullShare tyPtr l₇ 0 (vptr b p))) (sym (place-is 36 o i)) refl $
           move ! (1 ∷ []) $ elem-out ! T.the-row (Is T.the-row) (shows 𝓤 H A T.the-row) (LL.vals T.the-type T′.the-laws) (LL.tells T.the-type T′.the-laws) fullShare zs i unused b o inside-zs (λ _.
           -- [s[i]; what it owns; the others; what the record owns; the open borrow; obs; auth; _7; …; and so on]
           assigns ! (of-opd ! (load ! (from ! (stop !)) (look ! 11 refl))) (from ! (hop ! (look ! 7 refl) (stop !))) (store-raw ! 0 refl (record-typed 𝓤 H A W r u is)) $

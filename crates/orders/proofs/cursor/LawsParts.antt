@@ -23,7 +23,7 @@ use Rattle.rules.proofs.LawsTakings.{nothing-total}
 use Rattle.orders.specs.declared.cursor.Part.{Part}
 use Rattle.orders.specs.declared.walk.Taking.{Taking}
 use Rattle.orders.specs.Cursor.{shownAt, reserves, partsFrom, parts, Placed, placedAt, partOf, behindPlaced, placedFrom}
-use Rattle.orders.specs.Walk.{isWithin, partGives, taking, takingsFrom, takingsOf}
+use Rattle.orders.specs.Walk.{isWithin, isPassed, partGives, taking, takingsFrom, takingsOf}
 use Rattle.orders.proofs.walk.LawsTaken.{taking-none, takings-nothing}
 
 -- ── Holdings at their places ──
@@ -223,24 +223,26 @@ module _ (may : Part → Bool) where
         same = rw (e, f) (takings-nothing (map partOf (p ∷ s)) ∙ sym (takings-nothing (presentParts (p ∷ s))));
         inAll = rw (e, f) (nothing-total (map partOf (p ∷ s)) ∙ sym (nothing-total (presentParts (p ∷ s))));
       })
-      (λ (t : may (partOf p) ≡ true). touched t (walk-present left s closed) (walk-present (left - min left (size (p .holding))) s closed))
+      (λ (t : may (partOf p) ≡ true). touched t (walk-present left s closed) (walk-present (left - partGives left (partOf p)) s closed))
       (⊎-elim (λ (t : may (partOf p) ≡ true). inr t) (λ (t : may (partOf p) ≡ false). inl t) (holds-or-not (may (partOf p))))
     where
       touched : may (partOf p) ≡ true → Alike (map partOf s) (presentParts s) left
-          → Alike (map partOf s) (presentParts s) (left - min left (size (p .holding))) → Alike (map partOf (p ∷ s)) (presentParts (p ∷ s)) left
+          → Alike (map partOf s) (presentParts s) (left - partGives left (partOf p)) → Alike (map partOf (p ∷ s)) (presentParts (p ∷ s)) left
       touched t idle rest =
           ⊎-elim
           (λ (e : isEmpty p ≡ true).
           let is : p .holding .isReserve ≡ true = and-left (p .holding .isReserve) (eqb (p .holding .of .reserve .0) 0) e in
           let z : p .holding .of .reserve .0 ≡ 0 = eqb-true _ 0 (and-right (p .holding .isReserve) (eqb (p .holding .of .reserve .0) 0) e) in
-          let g : min left (size (p .holding)) ≡ 0 = rw (is, z) (omega arith) in
+          let size-none : size (p .holding) ≡ 0 = rw (is, z) refl in
+          let g : partGives left (partOf p) ≡ 0 =
+          by-choice (λ (k : ℕ). k ≡ 0) (isPassed left (partOf p)) (λ u. refl) (λ u. omega (arith, size-none)) in
           let l : left - 0 ≡ left = omega arith in
           record {
             same = rw (t, g, l, e, taking-none (partOf p)) (idle .same);
             inAll = rw (t, g, l, e) (omega (arith, idle .inAll));
           })
           (λ (e : isEmpty p ≡ false).
-          let g = min left (size (p .holding)) in
+          let g = partGives left (partOf p) in
           record {
             same = rw (t, e, t) (ap (λ (l : List Taking). taking (partOf p) g ++ l) (rest .same));
             inAll = rw (t, e, t) (omega (arith, rest .inAll));

@@ -1,11 +1,13 @@
 -- `orders::enter` meets its contract: the match of an order, on whichever side of the market, is what 01 does. Assumes nothing.
-use mathlib.Core.Bool.{true, false}
+use mathlib.Core.Bool.{true, false, not, _&&_, Bool·beq}
 use mathlib.Core.Path.{_≡_, sym, _∙_}
 use borrow.Author.Needs.{needs}
 use borrow.Author.Tests.{eq-eqb, ne-eqb, not-false, not-true}
 use denote.Ref.{now}
 use Rattle.rules.specs.Book.{Book}
-use Rattle.rules.specs.Refusals.{orderLawful, orderInRange}
+use Rattle.basics.proofs.LawsChoice.{and-left}
+use Rattle.rules.specs.Instructions.{displayed, reserve, has, needs as needs-of, lawful}
+use Rattle.rules.specs.Refusals.{carriesFloor, carriesMinimum, orderLawful, orderInRange}
 use Rattle.rules.specs.Working.{buying}
 use Rattle.side.specs.Tables.{bookOn}
 use Rattle.side.proofs.tables.LawsAnswers.{left-refused}
@@ -42,6 +44,13 @@ refuse-requires-2 c κs = search needs
 isLawful : (c : tie.Else1) → orderLawful (c .before .before .before .args .o) ≡ true
 isLawful c = sym (c .before .order-lawful .ensures) ∙ not-false _ (c .if1 .left)
 
+word-lawful : (c : tie.Else1) → lawful (c .before .before .before .args .o .word) ≡ true
+word-lawful c =
+    let o = c .before .before .before .args .o in
+    let tied = Bool·beq (has (o .word) reserve) (carriesFloor (o .carried)) in
+    and-left (lawful (o .word)) tied
+    (and-left (lawful (o .word) && tied) (needs-of (carriesMinimum (o .carried)) (not (has (o .word) displayed))) (isLawful c))
+
 returns-2 : tie.Need-returns-2
 returns-2 c =
     let start = c .before .before .before .before .before .before in
@@ -62,7 +71,7 @@ match-order-requires c κs =
     let a = start .args in
     let p = start .pre in
     let q : buying (a .o) ≡ true = eq-eqb _ _ (c .before .before .before .before .before .before .if3 .taken) in
-    (p .0 .buys, p .0 .sells, ready (a .o) (a .number) true (book start) (p .0 .isSound) (p .2) (inRange (c .before .before .before .before .before .before .before .before .before .before)) q, p .1)
+    (p .0 .buys, p .0 .sells, ready (a .o) (a .number) true (book start) (p .0 .isSound) (p .2) (word-lawful (c .before .before .before .before .before .before .before .before .before .before .before .before)) (inRange (c .before .before .before .before .before .before .before .before .before .before)) q, p .1)
 
 step-after-requires : tie.Need-step-after-requires
 step-after-requires c κs = search needs
@@ -87,7 +96,7 @@ match-order-requires-2 c κs =
     let a = start .args in
     let p = start .pre in
     let q : buying (a .o) ≡ false = ne-eqb _ _ (c .before .before .before .before .before .before .if3 .left) in
-    (p .0 .sells, p .0 .buys, ready (a .o) (a .number) false (book start) (p .0 .isSound) (p .2) (inRange (c .before .before .before .before .before .before .before .before .before .before)) q, p .1)
+    (p .0 .sells, p .0 .buys, ready (a .o) (a .number) false (book start) (p .0 .isSound) (p .2) (word-lawful (c .before .before .before .before .before .before .before .before .before .before .before .before)) (inRange (c .before .before .before .before .before .before .before .before .before .before)) q, p .1)
 
 step-after-requires-2 : tie.Need-step-after-requires-2
 step-after-requires-2 c κs = search needs

@@ -1,5 +1,5 @@
 -- Laws of a side after a walk: taking by taking, and that it is the side after a walk of 01. Assumes nothing.
-use Prim.Native.Nat.{ℕ, zero, suc, _+_, _-_, _≤_, _<_}
+use Prim.Native.Nat.{ℕ, zero, suc, _+_, _-_, _≤_, _<_, min}
 use mathlib.Core.Bool.{Bool, true, false, not, Bool·beq}
 use mathlib.Core.List.{List, [], _∷_, _++_, map}
 use mathlib.Core.Logic.{_⊎_, ⊎-elim}
@@ -27,23 +27,23 @@ use Rattle.orders.specs.Cursor.{Placed, partOf, placedFrom}
 use Rattle.orders.specs.Walk.{taking, takingsFrom, isBelow}
 use Rattle.orders.proofs.cursor.LawsParts.{placesOf, upFrom, placed-holdings, placed-places}
 use Rattle.orders.proofs.walk.LawsTaken.{noTaking}
-use Rattle.orders.specs.Fills.{takenAt, lessened, keeps, keepers, afterTakings}
+use Rattle.orders.specs.Fills.{Least, takenAt, lessened, keeps, keepers, afterTakings}
 
 -- ── What was taken from one order ──
 
-taken-both : (i : ℕ) (ks ls : List Taking) → takenAt i (ks ++ ls) ≡ takenAt i ks + takenAt i ls
+pub taken-both : (i : ℕ) (ks ls : List Taking) → takenAt i (ks ++ ls) ≡ takenAt i ks + takenAt i ls
 unfolding takenAt
 taken-both i [] ls = omega arith
 taken-both i (k ∷ ks) ls = omega (arith, taken-both i ks ls)
 
 -- by takings from orders before it, nothing
-taken-before : (i : ℕ) {ks : List Taking} → All (isBelow i) ks → takenAt i ks ≡ 0
+pub taken-before : (i : ℕ) {ks : List Taking} → All (isBelow i) ks → takenAt i ks ≡ 0
 unfolding takenAt
 taken-before i none = refl
 taken-before i (also {x = k} p a) = rw (ne-eqb (k .place) i (λ e. omega arith)) (omega (arith, taken-before i a))
 
 -- what a part gives comes off its order
-taken-one : (j : ℕ) (p : Part) (t : ℕ) → takenAt j (taking p t) ≡ (if eqb (p .place) j then t else 0)
+pub taken-one : (j : ℕ) (p : Part) (t : ℕ) → takenAt j (taking p t) ≡ (if eqb (p .place) j then t else 0)
 unfolding taking takenAt
 taken-one j p t =
     ⊎-elim
@@ -57,11 +57,12 @@ taken-one j p t =
 
 -- ── Taking by taking ──
 
-less-none : (h : Resting) → lessBy 0 h ≡ h
-less-none h =
+less-none : (h : Resting) → Least h → lessBy 0 h ≡ h
+less-none h least =
     let e : h .shares .0 - 0 ≡ h .shares .0 = omega arith in
     let f : h .reserve .0 - (0 - h .shares .0) ≡ h .reserve .0 = omega arith in
-    rw (e, f)
+    let g : min (h .minimum .0) (sharesLeft h) ≡ h .minimum .0 = omega (arith, least) in
+    rw (e, f, g)
 
 reserve-more : (shown reserve a b : ℕ) → reserve - (a - shown) - (b - (shown - a)) ≡ reserve - (a + b - shown)
 reserve-more shown reserve a b =
@@ -79,20 +80,33 @@ reserve-more shown reserve a b =
     twice : (n k m : ℕ) → n - k - m ≡ n - (k + m)
     twice n k m = omega arith
 
+cut-twice : (m x y : ℕ) → y ≤ x → min (min m x) y ≡ min m y
+cut-twice m x y l = omega (arith, l)
+
+fewer-left : (shown reserve a b : ℕ) → shown - (a + b) + (reserve - (a + b - shown)) ≤ shown - a + (reserve - (a - shown))
+fewer-left shown reserve a b =
+    let p : shown - (a + b) ≤ shown - a = omega arith in
+    let q : reserve - (a + b - shown) ≤ reserve - (a - shown) = omega arith in
+    omega (arith, p, q)
+
 less-more : (a b : ℕ) (h : Resting) → lessBy b (lessBy a h) ≡ lessBy (a + b) h
 less-more a b h =
     let e : h .shares .0 - a - b ≡ h .shares .0 - (a + b) = omega arith in
-    rw (reserve-more (h .shares .0) (h .reserve .0) a b, e)
+    let left = h .shares .0 - (a + b) + (h .reserve .0 - (a + b - h .shares .0)) in
+    let before = h .shares .0 - a + (h .reserve .0 - (a - h .shares .0)) in
+    let cut : min (min (h .minimum .0) before) left ≡ min (h .minimum .0) left =
+    cut-twice (h .minimum .0) before left (fewer-left (h .shares .0) (h .reserve .0) a b) in
+    rw (reserve-more (h .shares .0) (h .reserve .0) a b, e, cut)
 
 length-lessened : (i : ℕ) (ks : List Taking) (s : List Resting) → length (lessened i ks s) ≡ length s
 unfolding lessened
 length-lessened i ks [] = refl
 length-lessened i ks (h ∷ s) = ap suc (length-lessened (i + 1) ks s)
 
-pub lessened-none : (i : ℕ) (s : List Resting) → lessened i [] s ≡ s
+pub lessened-none : (i : ℕ) {s : List Resting} → All Least s → lessened i [] s ≡ s
 unfolding lessened takenAt
-lessened-none i [] = refl
-lessened-none i (h ∷ s) = let e = less-none h in let r = lessened-none (i + 1) s in cc
+lessened-none i none = refl
+lessened-none i (also {x = h} l a) = let e = less-none h l in let r = lessened-none (i + 1) a in cc
 
 -- it matters only what was taken from them
 lessened-alike : (i : ℕ) (ks ls : List Taking) (s : List Resting) → ((j : ℕ) → i ≤ j → takenAt j ks ≡ takenAt j ls) → lessened i ks s ≡ lessened i ls s
@@ -146,33 +160,34 @@ keepers-all (h ∷ s) e =
     rw (and-left (keeps h) (every keeps s) e) (ap (λ (r : List Resting). h ∷ r) (keepers-all s (and-right (keeps h) (every keeps s) e)))
 
 -- the orders from rank `at` on keep all, where no taking is from there on
-pub keep-behind : (i at : ℕ) (ks : List Taking) (s : List Resting) → All (isBelow (i + at)) ks → every keeps s ≡ true
+pub keep-behind : (i at : ℕ) (ks : List Taking) {s : List Resting} → All Least s → All (isBelow (i + at)) ks → every keeps s ≡ true
     → every keeps (drop at (lessened i ks s)) ≡ true
 unfolding every lessened
-keep-behind i zero ks [] a e = refl
-keep-behind i (suc at) ks [] a e = refl
-keep-behind i zero ks (h ∷ s) a e =
+keep-behind i zero ks none a e = refl
+keep-behind i (suc at) ks none a e = refl
+keep-behind i zero ks (also {x = h} {s = s} l more) a e =
     let b : All (isBelow i) ks = all-alike (λ k l. omega arith) a in
-    let k : keeps (lessBy 0 h) ≡ true = ap keeps (less-none h) ∙ and-left (keeps h) (every keeps s) e in
+    let k : keeps (lessBy 0 h) ≡ true = ap keeps (less-none h l) ∙ and-left (keeps h) (every keeps s) e in
     rw (taken-before i b, k)
-    (keep-behind (i + 1) zero ks s (all-alike (λ k l. omega arith) a) (and-right (keeps h) (every keeps s) e))
-keep-behind i (suc at) ks (h ∷ s) a e = keep-behind (i + 1) at ks s (all-alike (λ k l. omega arith) a) (and-right (keeps h) (every keeps s) e)
+    (keep-behind (i + 1) zero ks more (all-alike (λ k l. omega arith) a) (and-right (keeps h) (every keeps s) e))
+keep-behind i (suc at) ks (also {x = h} {s = s} l more) a e = keep-behind (i + 1) at ks more (all-alike (λ k l. omega arith) a) (and-right (keeps h) (every keeps s) e)
 
 -- ── The orders that were not reached ──
 
-lessened-same : (i : ℕ) {ks : List Taking} → All (isBelow i) ks → (s : List Resting) → lessened i ks s ≡ s
+lessened-same : (i : ℕ) {ks : List Taking} → All (isBelow i) ks → {s : List Resting} → All Least s → lessened i ks s ≡ s
 unfolding lessened
-lessened-same i a [] = refl
-lessened-same i {ks = ks} a (h ∷ s) =
-    let here : lessBy (takenAt i ks) h ≡ h = ap (λ (k : ℕ). lessBy k h) (taken-before i a) ∙ less-none h in
-    let rest = lessened-same (i + 1) (all-alike (λ k l. omega (arith, l)) a) s in
+lessened-same i a none = refl
+lessened-same i {ks = ks} a (also {x = h} {s = s} l more) =
+    let here : lessBy (takenAt i ks) h ≡ h = ap (λ (k : ℕ). lessBy k h) (taken-before i a) ∙ less-none h l in
+    let rest = lessened-same (i + 1) (all-alike (λ k m. omega (arith, m)) a) more in
     cc
 
-lessened-behind : (i at : ℕ) {ks : List Taking} → All (isBelow (i + at)) ks → (s : List Resting) → drop at (lessened i ks s) ≡ drop at s
+lessened-behind : (i at : ℕ) {ks : List Taking} → All (isBelow (i + at)) ks → {s : List Resting} → All Least s
+    → drop at (lessened i ks s) ≡ drop at s
 unfolding lessened
-lessened-behind i zero a s = lessened-same i (all-alike (λ k l. omega (arith, l)) a) s
-lessened-behind i (suc at) a [] = refl
-lessened-behind i (suc at) a (h ∷ s) = lessened-behind (i + 1) at (all-alike (λ k l. omega (arith, l)) a) s
+lessened-behind i zero a more = lessened-same i (all-alike (λ k l. omega (arith, l)) a) more
+lessened-behind i (suc at) a none = refl
+lessened-behind i (suc at) a (also m more) = lessened-behind (i + 1) at (all-alike (λ k l. omega (arith, l)) a) more
 
 keepers-append : (s u : List Resting) → keepers (s ++ u) ≡ keepers s ++ keepers u
 unfolding keepers
@@ -190,13 +205,13 @@ every-dropped (suc at) [] e = e
 every-dropped (suc at) (h ∷ s) e = every-dropped at s (and-right (keeps h) (every keeps s) e)
 
 -- where no taking is from rank `at` on, the orders from there on stand as they were, behind those of the others that keep something
-module _ (at : ℕ) {ks : List Taking} (a : All (isBelow at) ks) (s : List Resting) (keep : every keeps s ≡ true) where
+module _ (at : ℕ) {ks : List Taking} (a : All (isBelow at) ks) (s : List Resting) (least : All Least s) (keep : every keeps s ≡ true) where
   parted : afterTakings ks s ≡ keepers (take at (lessened 0 ks s)) ++ drop at s
   parted =
       let less = lessened 0 ks s in
       let b : All (isBelow (0 + at)) ks = all-alike (λ k l. omega (arith, l)) a in
       ap keepers (sym (take-append-drop at less)) ∙ keepers-append (take at less) (drop at less)
-      ∙ ap (λ (u : List Resting). keepers (take at less) ++ keepers u) (lessened-behind 0 at b s)
+      ∙ ap (λ (u : List Resting). keepers (take at less) ++ keepers u) (lessened-behind 0 at b least)
       ∙ ap (λ (u : List Resting). keepers (take at less) ++ u) (keepers-all (drop at s) (every-dropped at s keep))
 
   long-parted : length (afterTakings ks s) ≡ length (keepers (take at (lessened 0 ks s))) + (length s - at)

@@ -1,7 +1,7 @@
 -- What an order's walk takes and what becomes of the order together are 01's match. Assumes nothing.
 use Prim.Native.Nat.{ℕ, zero, suc, _+_, _-_, _≤_, _<_}
 use mathlib.Core.Bool.{Bool, true, false, not, _&&_, _||_, true≢false}
-use mathlib.Core.List.{List, [], _++_}
+use mathlib.Core.List.{List, [], _∷_, _++_}
 use mathlib.Core.Logic.{⊎-elim}
 use mathlib.Core.Path.{_≡_, refl, sym, ap, subst, _∙_}
 use lib.Dec.{eqb}
@@ -20,7 +20,7 @@ use Rattle.rules.specs.declared.Ending.{Ending}
 use Rattle.rules.specs.declared.Ending.the-variants.{Filled, Rests, Cancels}
 use Rattle.rules.specs.declared.Order.{Order}
 use Rattle.rules.specs.declared.Resting.{Resting}
-use Rattle.basics.specs.Lists.{All, any, none, also}
+use Rattle.basics.specs.Lists.{All, none, also}
 use Rattle.basics.proofs.LawsLists.{all-alike}
 use Rattle.rules.specs.Book.{placesASide, stamp, inRankOrder}
 use Rattle.soundness.proofs.LawsThinned.{thinned-after, thinned-all, thinned-ranked}
@@ -29,12 +29,12 @@ use Rattle.orders.specs.declared.walk.Taking.{Taking}
 use Rattle.orders.specs.Fills.{afterTakings}
 use Rattle.orders.specs.Refills.{MayRefill}
 use Rattle.orders.specs.Walk.{isBelow}
-use Rattle.orders.specs.Walking.{metWith, Workable}
+use Rattle.orders.specs.Walking.{Workable, restsUnlessBestMeets, unlessBestMeets, endingByBest}
 use Rattle.orders.proofs.fills.LawsTakenOff.{all-keep, after-unreached}
-use Rattle.rules.specs.EventLines.{iocRemainder, fokKilled, cancelledBack, noPriceInRange, postOnlyMeets}
+use Rattle.rules.specs.EventLines.{iocRemainder, fokKilled, cancelledBack, noPriceInRange, postOnlyMeets, wouldStillMeet}
 use Rattle.rules.specs.Instructions.{ioc, fok, displayed, cancelBack, postOnly, iso, has}
 use Rattle.rules.specs.Refusals.{isRest}
-use Rattle.rules.specs.Working.{buying, limitOf, lockingPrice, Met, executionPrice, absent, beyond, oneCentLessAggressive, meetsOrPasses, adjusted, seeks, unlessPostOnlyMeets, takings, remainder, endingWith, ending, lastLine, remainderOf, withRemainder, refillFate}
+use Rattle.rules.specs.Working.{buying, limitOf, lockingPrice, Met, executionPrice, absent, beyond, oneCentLessAggressive, reaches, meetsOrPasses, adjusted, seeks, takings, remainder, ending, lastLine, remainderOf, withRemainder, refillFate}
 use Rattle.rules.specs.Holdings.{holdings, executions, after}
 use Rattle.rules.specs.Settling.{firstMove, told, settledSide}
 use Rattle.orders.specs.declared.matching.Matched.{Matched}
@@ -91,20 +91,28 @@ module _ (o : Order) (away : Away) (limited : limitOf o .0 < priceBound) where
       (below-either (has (o .word) displayed && (locks || crosses)) (adjusted o farther) else-limit (adjusted-below o farther)
       (below-either (not (has (o .word) displayed) && crosses) (adjusted o locking) (Rests (limitOf o)) (adjusted-below o locking) limited))
 
-  unless-below : (opposite : List Resting) (end : Ending) → restsBelow end → restsBelow (unlessPostOnlyMeets o opposite end)
-  unless-below opposite Filled b = tt
-  unless-below opposite (Rests price) b = below-either (has (o .word) postOnly && any (meetsOrPasses (buying o) price) opposite) (Cancels postOnlyMeets) (Rests price) tt b
-  unless-below opposite (Cancels reason) b = tt
+  unless-below : (locked : HalfCents) (left : List Resting) (end : Ending) → restsBelow end → restsBelow (unlessBestMeets o locked left end)
+  unfolding restsUnlessBestMeets
+  unless-below locked left Filled b = tt
+  unless-below locked [] (Rests price) b = b
+  unless-below locked (best ∷ s) (Rests price) b =
+      let post = if meetsOrPasses (buying o) price best then Cancels postOnlyMeets else Rests price in
+      let still = reaches (buying o) price (best .price) && not (eqb (price .0) (locked .0)) in
+      let other = if still then Cancels wouldStillMeet else Rests price in
+      below-either (has (o .word) postOnly) post other
+      (below-either (meetsOrPasses (buying o) price best) (Cancels postOnlyMeets) (Rests price) tt b)
+      (below-either still (Cancels wouldStillMeet) (Rests price) tt b)
+  unless-below locked left (Cancels reason) b = tt
 
   -- an order rests at its limit, or at a price in range
-  pub ending-below : (left : ℕ) (own opposite : List Resting) → restsBelow (endingWith left o (metWith away own opposite))
-  unfolding endingWith
-  ending-below left own opposite =
-      let rests = unlessPostOnlyMeets o opposite (seeks o away) in
+  pub ending-below : (left : ℕ) (locked : HalfCents) (opposite : List Resting) → restsBelow (endingByBest left o away locked opposite)
+  unfolding endingByBest
+  ending-below left locked opposite =
+      let rests = unlessBestMeets o locked opposite (seeks o away) in
       let else-ioc = if has (o .word) ioc then Cancels iocRemainder else rests in
       below-either (eqb left 0) Filled (if has (o .word) fok then Cancels fokKilled else else-ioc) tt
       (below-either (has (o .word) fok) (Cancels fokKilled) else-ioc tt
-      (below-either (has (o .word) ioc) (Cancels iocRemainder) rests tt (unless-below opposite (seeks o away) seeks-below)))
+      (below-either (has (o .word) ioc) (Cancels iocRemainder) rests tt (unless-below locked opposite (seeks o away) seeks-below)))
 
 -- ── The refills that are due then ──
 
@@ -118,9 +126,9 @@ pub may-refill : (buy : Bool) (n : Number) (at : ℕ) {ks : List Taking} → All
     → afterTakings ks s ≡ after s ts → inRankOrder buy s ≡ true → All Workable s → All (Older (stamp n firstMove)) s
     → MayRefill buy n (length (after s ts) - (length s - at)) (after s ts)
 may-refill buy n at {ks = ks} below s ts is ranked workable older =
-    let thinned = thinned-after ts (all-alike (λ h w. omega (arith, w .holds)) workable) in
+    let thinned = thinned-after ts (all-alike (λ h w. record { isLeft = omega (arith, w .holds); least = w .least }) workable) in
     let unreached : drop (length (after s ts) - (length s - at)) (after s ts) ≡ drop at s =
-    ap (λ (u : List Resting). drop (length u - (length s - at)) u) (sym is) ∙ after-unreached at below s (all-keep (all-alike (λ h w. w .holds) workable)) in
+    ap (λ (u : List Resting). drop (length u - (length s - at)) u) (sym is) ∙ after-unreached at below s (all-alike (λ h w. w .least) workable) (all-keep (all-alike (λ h w. w .holds) workable)) in
     record {
       within = omega arith;
       ranked = thinned-ranked buy thinned ranked;
@@ -137,11 +145,7 @@ module _ (o : Order) (number : Number) (met : Met) where
   refused f = rw f
 
   -- by what the walk leaves, and the ending that follows from it
-  module _ (left : ℕ) (end : Ending) (leaves : left ≡ remainder o met) (ends : end ≡ endingWith left o met) where
-    pub ending-is : end ≡ ending o met
-    unfolding ending
-    ending-is = ends ∙ ap (λ (k : ℕ). endingWith k o met) leaves
-
+  module _ (left : ℕ) (end : Ending) (leaves : left ≡ remainder o met) (ends : end ≡ ending o met) where
     pub ended-is : isFull end (met .own) ≡ false → matchOf o number met ≡ record {
       refusal = 0;
       events = (executions number (executionPrice o met) (holdings (met .opposite)) (takings o met) ++ lastLine number left end)
@@ -151,8 +155,8 @@ module _ (o : Order) (number : Number) (met : Met) where
     }
     unfolding matchOf
     ended-is f =
-        let g : isFull (ending o met) (met .own) ≡ false = ap (λ (e : Ending). isFull e (met .own)) (sym ending-is) ∙ f in
-        rw (g, ending-is, leaves)
+        let g : isFull (ending o met) (met .own) ≡ false = ap (λ (e : Ending). isFull e (met .own)) (sym ends) ∙ f in
+        rw (g, ends, leaves)
 
 -- ── The answer ──
 

@@ -10,13 +10,13 @@ use lib.Seq.{take-at, length-take-le, getD-take}
 use native.Mathlib.Omega.{arith}
 use borrow.Author.Tests.{ne-eqb, eqb-true}
 use Rattle.basics.specs.Lists.{All, none, also}
-use Rattle.basics.proofs.LawsChoice.{holds-or-not}
+use Rattle.basics.proofs.LawsChoice.{holds-or-not, by-choice}
 use Rattle.basics.proofs.LawsLists.{all-at, all-both}
 use Rattle.kinds.specs.Kinds.{shares}
 use Rattle.rules.specs.Holdings.{nothing, walk}
 use Rattle.orders.specs.declared.cursor.Part.{Part}
 use Rattle.orders.specs.declared.walk.Taking.{Taking}
-use Rattle.orders.specs.Walk.{partGives, taking, takingsFrom, isBelow, reached, takingsOf, takingRow, takingIn, takingsIn, laid}
+use Rattle.orders.specs.Walk.{isPassed, partGives, taking, takingsFrom, isBelow, reached, takingsOf, takingRow, takingIn, takingsIn, laid}
 
 -- ── What one part gives ──
 
@@ -52,11 +52,14 @@ takings-nothing [] = refl
 takings-nothing (p ∷ s) = rw (taking-none p) (takings-nothing s)
 
 -- with nothing left
+gives-nothing : (p : Part) → partGives 0 p ≡ 0
+gives-nothing p = by-choice (λ (k : ℕ). k ≡ 0) (isPassed 0 p) (λ t. refl) (λ t. omega arith)
+
 pub walk-nothing : (may : Part → Bool) (s : List Part) → walk may partGives 0 s ≡ nothing s
 unfolding walk nothing
 walk-nothing may [] = refl
 walk-nothing may (p ∷ s) =
-    let e : min 0 (p .shares .0) ≡ 0 = omega arith in
+    let e : partGives 0 p ≡ 0 = gives-nothing p in
     ⊎-elim
     (λ (t : may p ≡ true). rw (t, e) (ap (λ (l : List ℕ). 0 ∷ l) (walk-nothing may s)))
     (λ (t : may p ≡ false). rw t)

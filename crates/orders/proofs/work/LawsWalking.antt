@@ -8,10 +8,9 @@ use mathlib.Core.Path.{_≡_, refl, sym, ap, subst, _∙_}
 use lib.Dec.{ltb}
 use lib.ListN.{length, getD}
 use native.Mathlib.Omega.{arith}
-use borrow.Author.Tests.{lt-ltb, le-ltb}
 use Rattle.basics.specs.Choice.{if_then_else_}
 use Rattle.basics.specs.Lists.{total, All, none, also}
-use Rattle.basics.proofs.LawsChoice.{holds-or-not, lt-or-le, or-neither}
+use Rattle.basics.proofs.LawsChoice.{holds-or-not, by-choice, or-neither}
 use Rattle.basics.proofs.LawsLists.{all-at, all-alike}
 use Rattle.kinds.specs.declared.HalfCents.{HalfCents}
 use Rattle.rules.specs.declared.Order.{Order}
@@ -19,15 +18,15 @@ use Rattle.rules.specs.declared.Resting.{Resting}
 use Rattle.rules.specs.Book.{unused}
 use Rattle.rules.specs.Holdings.{Holding, holdings, nothing, walk, smaller}
 use Rattle.rules.specs.Instructions.{fok, postOnly, has}
-use Rattle.rules.specs.Working.{buying, Met, halfACentTheIncomingWay, executionPrice, mayTouch, walked, takings, remainder}
+use Rattle.rules.specs.Working.{buying, leastOf, Met, halfACentTheIncomingWay, executionPrice, mayTouch, walked, takings, remainder}
 use Rattle.rules.proofs.LawsBest.{HoldingsBest, ranked-best, holdings-best}
-use Rattle.rules.proofs.LawsTakings.{nothing-total}
+use Rattle.rules.proofs.LawsTakings.{nothing-total, walk-at-most}
 use Rattle.orders.specs.Locks.{lockedPrice, executesAt}
 use Rattle.orders.specs.declared.walk.Walked.{Walked}
 use Rattle.orders.specs.declared.cursor.Part.{Part}
 use Rattle.orders.specs.declared.walk.Taking.{Taking}
 use Rattle.orders.specs.Cursor.{parts, Placed, partOf, placedFrom}
-use Rattle.orders.specs.Walk.{mostTakings, isWithin, partGives, takingsFrom, takingsIn, takingsOf}
+use Rattle.orders.specs.Walk.{mostTakings, isWithin, isPassed, partGives, takingsFrom, takingsIn, takingsOf}
 use Rattle.orders.specs.Walking.{Walkable, untouched, boundWalk, isIdle, walkFor, takingsFor, walkBound, takingsBy, Walks}
 use Rattle.orders.proofs.cursor.LawsAhead.{length-parts}
 use Rattle.orders.proofs.cursor.LawsParts.{placed-holdings, all-placed, parts-present, Alike, walk-present, best-closed, parts-within}
@@ -49,6 +48,10 @@ module _ {A B : Type 0} (f : A → B) (may : B → Bool) (gives : ℕ → B → 
   walk-map left (also {x = x} {s = s} e a) =
       rw (e, same left x, nothing-map f (x ∷ s))
       (ap (λ (l : List ℕ). if may′ x then gives′ left x ∷ l else nothing (x ∷ s)) (walk-map (left - gives′ left x) a))
+
+-- no part gives more than is left
+part-at-most : (left : ℕ) (p : Part) → partGives left p ≤ left
+part-at-most left p = by-choice (λ (k : ℕ). k ≤ left) (isPassed left p) (λ t. omega arith) (λ t. omega arith)
 
 -- ── An order's walk ──
 
@@ -77,13 +80,23 @@ module _ (o : Order) (met : Met) where
       }
 
   -- "Post Only executes nothing."
-  post-nothing : has (o .word) postOnly ≡ true → takings o met ≡ nothing (holdings side)
+  pub post-nothing : has (o .word) postOnly ≡ true → takings o met ≡ nothing (holdings side)
   unfolding takings walked
-  post-nothing p = rw p (either (has (o .word) fok && ltb (total (nothing (holdings side))) (o .shares .0)))
+  post-nothing p = rw p (either (ltb (total (nothing (holdings side))) (leastOf o)))
     where
       either : (t : Bool) → (if t then nothing (holdings side) else nothing (holdings side)) ≡ nothing (holdings side)
       either true = refl
       either false = refl
+
+  -- no walk goes past the side
+  pub walk-within : (bound : HalfCents) → walkFor o bound side .at ≤ length side
+  unfolding walkFor
+  walk-within bound =
+      ⊎-elim
+      (λ (t : isIdle o bound side ≡ true). rw t (omega arith))
+      (λ (t : isIdle o bound side ≡ false).
+      rw t (reached-within (isWithin (buying o) bound) (length side) 0 (o .shares .0) (parts side) (parts-within side) (omega arith)))
+      (holds-or-not (isIdle o bound side))
 
   module _ (w : Walkable o met) where
     abbrev bound : HalfCents
@@ -100,6 +113,9 @@ module _ (o : Order) (met : Met) where
         let best = subst (HoldingsBest (not (buying o))) (sym (placed-holdings 0 side)) (holdings-best (not (buying o)) (ranked-best (not (buying o)) side (w .ranked))) in
         subst (λ (u : List Part). Alike may whole u (o .shares .0)) (sym (parts-present side))
         (walk-present may (o .shares .0) (placedFrom 0 side) (best-closed (buying o) bound (placedFrom 0 side) best))
+
+    gifts-most : total gifts ≤ o .shares .0
+    gifts-most = walk-at-most may partGives part-at-most (o .shares .0) (parts side)
 
     -- the price of an order alone tells at which it would execute
     pub executes-at : All (λ (h : Resting). executesAt (buying o) (lockedPrice (met .own)) (h .price) ≡ executionPrice o met h) side
@@ -125,26 +141,22 @@ module _ (o : Order) (met : Met) where
           ∙ walk-map (λ (p : Placed). p .holding) reach smaller touch give (λ left p. refl) (o .shares .0) (all-alike (λ p e. refl) priced)
           ∙ sym (walk-map partOf may partGives touch give (λ left p. refl) (o .shares .0) priced))
 
-      -- the walk falls short of the order exactly where shares are left
-      short-left : ltb (total (walk may partGives (o .shares .0) whole)) (o .shares .0) ≡ ltb 0 (o .shares .0 - total gifts)
-      short-left =
-          ap (λ (k : ℕ). ltb k (o .shares .0)) (alike .inAll) ∙ ⊎-elim
-          (λ (l : total gifts < o .shares .0). lt-ltb (total gifts) (o .shares .0) l ∙ sym (lt-ltb 0 (o .shares .0 - total gifts) (omega arith)))
-          (λ (l : o .shares .0 ≤ total gifts). le-ltb (total gifts) (o .shares .0) l ∙ sym (le-ltb 0 (o .shares .0 - total gifts) (omega arith)))
-          (lt-or-le (total gifts) (o .shares .0))
+      -- what the walk gives is what is not left
+      gave-all : total (walk may partGives (o .shares .0) whole) ≡ o .shares .0 - (o .shares .0 - total gifts)
+      gave-all = omega (arith, alike .inAll, gifts-most)
 
       takings-are : takings o met
-          ≡ (if has (o .word) fok && ltb 0 (o .shares .0 - total gifts) then nothing (holdings side) else walk may partGives (o .shares .0) whole)
+          ≡ (if ltb (o .shares .0 - (o .shares .0 - total gifts)) (leastOf o) then nothing (holdings side) else walk may partGives (o .shares .0) whole)
       unfolding takings
-      takings-are = rw (bound-walk, short-left)
+      takings-are = rw (bound-walk, gave-all)
 
-    -- Post Only, or "FOK: if the walk would leave a remainder, nothing executes"
+    -- Post Only, or one whose walk gives less than the least that it must
     idle-nothing : isIdle o bound side ≡ true → takings o met ≡ nothing (holdings side)
     idle-nothing idle =
         ⊎-elim
         (λ (p : has (o .word) postOnly ≡ true). post-nothing p)
         (λ (p : has (o .word) postOnly ≡ false).
-        let killed : (has (o .word) fok && ltb 0 (o .shares .0 - total gifts)) ≡ true = rw p at idle in
+        let killed : ltb (o .shares .0 - (o .shares .0 - total gifts)) (leastOf o) ≡ true = rw p at idle in
         takings-are p ∙ rw killed)
         (holds-or-not (has (o .word) postOnly))
 
@@ -152,8 +164,8 @@ module _ (o : Order) (met : Met) where
         → takingsIn (boundWalk o bound side .count) took ≡ takingsOf may (o .shares .0) (parts side) → Walks o met (boundWalk o bound side) took
     unfolding remainder
     walks-on took m busy e =
-        let neither = or-neither (has (o .word) postOnly) (has (o .word) fok && ltb 0 (o .shares .0 - total gifts)) busy in
-        let alive : (has (o .word) fok && ltb 0 (o .shares .0 - total gifts)) ≡ false = neither .1 in
+        let neither = or-neither (has (o .word) postOnly) (ltb (o .shares .0 - (o .shares .0 - total gifts)) (leastOf o)) busy in
+        let alive : ltb (o .shares .0 - (o .shares .0 - total gifts)) (leastOf o) ≡ false = neither .1 in
         let is : takings o met ≡ walk may partGives (o .shares .0) whole = takings-are (neither .0) ∙ rw alive in
         let by : takingsBy o met ≡ takingsOf may (o .shares .0) (parts side) = ap (takingsFrom whole) is ∙ alike .same in
         record {

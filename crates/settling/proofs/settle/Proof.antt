@@ -27,6 +27,10 @@ use Rattle.settling.proofs.settle.Tie as tie
 behind : (len size : ℕ) (out : List ℕ) → len + size ≤ length out → size ≤ length (take (length out - len) (drop len out))
 behind len size out room = simp (length-take, length-drop) (omega arith)
 
+-- the length of the buffer is a number of 64 bits; a search behind the calls does not reach back to where that is known
+buffer-fits : (c : tie.Start) → length (now (c .args .out)) < 18446744073709551616
+buffer-fits c = c .good .1 .1 .1 .1 .1 .1 .1 .1 .0 .0
+
 -- ── It stays ──
 
 enum-told : tie.Need-enum-told
@@ -82,7 +86,9 @@ sub-t24 : tie.Need-sub-t24
 sub-t24 c = search needs
 
 add-t27 : tie.Need-add-t27
-add-t27 c = search needs
+add-t27 c =
+    let k = c .before .before .before .before .before .before .before .before in
+    omega (arith, c .before .before .write-cancelled .ensures .0, cancelled-at k .1, buffer-fits (k .before .before .before .before))
 
 same-length : tie.Need-same-length
 same-length c = search needs
@@ -188,9 +194,7 @@ add-t38 c = search needs
 add-t33 : tie.Need-add-t33
 add-t33 c =
     let k = c .before .before .before .before .before .before .before .before .before .before .before in
-    let start = k .before .before .before .before in
-    let most : length (now (start .args .out)) < 18446744073709551616 = start .good .1 .1 .1 .1 .1 .1 .1 .1 .0 .0 in
-    omega (arith, c .before .before .write-moved .ensures .0, set-at k .1, most)
+    omega (arith, c .before .before .write-moved .ensures .0, set-at k .1, buffer-fits (k .before .before .before .before))
 
 same-length-2 : tie.Need-same-length-2
 same-length-2 c = search needs

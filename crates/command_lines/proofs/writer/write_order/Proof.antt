@@ -8,8 +8,8 @@ use native.Mathlib.Omega.{arith}
 use borrow.Author.Needs.{needs}
 use denote.Ref.{now}
 use Rattle.rules.specs.declared.Carried.{Carried}
-use Rattle.rules.specs.declared.Carried.the-variants.{Nothing, MaxFloor}
-use Rattle.rules.specs.CommandLines.{digitsIn, orderForm, orderFormOf, reserveForm}
+use Rattle.rules.specs.declared.Carried.the-variants.{Nothing, MaxFloor, Minimum}
+use Rattle.rules.specs.CommandLines.{digitsIn, orderForm, orderFormOf, reserveForm, minimumForm}
 use Rattle.rules.proofs.LawsWriting.{Wrote, nothing, field, wrote-line}
 use Rattle.command_lines.proofs.writer.write_order.Statement.{statement}
 use Rattle.command_lines.proofs.writer.write_order.Tie as tie
@@ -20,6 +20,7 @@ use Rattle.command_lines.proofs.writer.write_order.Tie as tie
 long : (x : Carried) → digitsIn orderForm ≤ digitsIn (orderFormOf x)
 long Nothing = omega arith
 long (MaxFloor floor) = omega arith
+long (Minimum least) = omega arith
 
 as-carried : {x y : Carried} → x ≡ y → (n : ℕ) → digitsIn (orderFormOf x) < n → digitsIn (orderFormOf y) < n
 as-carried e n l = rw e at l
@@ -88,11 +89,11 @@ returns c =
 enum-known-carried : tie.Need-enum-known-carried
 enum-known-carried c = search needs
 
-abbrev at-shares : tie.After-carried → tie.After-write-four2
-at-shares c = c .before .before .before .before
+abbrev before-floor : tie.After-carried → tie.After-write-four2
+before-floor c = c .before .before .before .before
 
-reserve-roomy : (c : tie.After-carried) → digitsIn reserveForm < length (now (start (at-shares c) .args .out))
-reserve-roomy c = as-carried (c .carried .given .1) _ (start (at-shares c) .pre)
+reserve-roomy : (c : tie.After-carried) → digitsIn reserveForm < length (now (start (before-floor c) .args .out))
+reserve-roomy c = as-carried (c .carried .given .1) _ (start (before-floor c) .pre)
 
 write-four-requires-3 : tie.Need-write-four-requires-3
 write-four-requires-3 c κs = omega (arith, reserve-roomy (c .before .before))
@@ -108,7 +109,34 @@ returns-2 c =
     let f = c .before .before .before .before .before in
     let floor = f .carried .given .0 .0 in
     rw (f .carried .given .1)
-    (wrote-line (field 4 (floor .0) (fields-written (at-shares f)) (c .before .before .write-four3 .ensures)) (reserve-roomy f))
+    (wrote-line (field 4 (floor .0) (fields-written (before-floor f)) (c .before .before .write-four3 .ensures)) (reserve-roomy f))
+
+-- ── A minimum ──
+
+enum-known-carried-2 : tie.Need-enum-known-carried-2
+enum-known-carried-2 c = search needs
+
+abbrev before-minimum : tie.After-carried2 → tie.After-write-four2
+before-minimum c = c .before .before .before .before
+
+minimum-roomy : (c : tie.After-carried2) → digitsIn minimumForm < length (now (start (before-minimum c) .args .out))
+minimum-roomy c = as-carried (c .carried2 .given .1) _ (start (before-minimum c) .pre)
+
+write-four-requires-4 : tie.Need-write-four-requires-4
+write-four-requires-4 c κs = omega (arith, minimum-roomy (c .before .before))
+
+slice-write-out-3 : tie.Need-slice-write-out-3
+slice-write-out-3 c = omega (arith, minimum-roomy (c .before .before .before .before .before))
+
+same-length-3 : tie.Need-same-length-3
+same-length-3 c = simp length-set (omega arith)
+
+returns-3 : tie.Need-returns-3
+returns-3 c =
+    let f = c .before .before .before .before .before in
+    let least = f .carried2 .given .0 .0 in
+    rw (f .carried2 .given .1)
+    (wrote-line (field 4 (least .0) (fields-written (before-minimum f)) (c .before .before .write-four4 .ensures)) (minimum-roomy f))
 
 pub write-order-spec : {M : Type 1} → statement M
 write-order-spec =
@@ -123,7 +151,12 @@ write-order-spec =
     enum-known-carried
     write-four-requires-3
     slice-write-out-2
+    enum-known-carried-2
+    write-four-requires-4
+    slice-write-out-3
     same-length
     returns
     same-length-2
-    returns-2)
+    returns-2
+    same-length-3
+    returns-3)

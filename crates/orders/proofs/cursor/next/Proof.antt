@@ -42,8 +42,8 @@ at-requires c κs = search needs
 
 next-reserve-requires-2 : tie.Need-next-reserve-requires-2
 next-reserve-requires-2 c κs =
-    let r = c .before .before .before .before .before .at in
-    let start = c .before .before .before .before .before .before .before .before in
+    let r = c .before .before .before .before .before .before .at in
+    let start = c .before .before .before .before .before .before .before .before .before in
     let a = start .args in
     let s = side (a .n) (now (a .x)) (now (a .t)) in
     let k : length s ≡ a .n = length-side (a .n) (now (a .x)) (now (a .t)) in
@@ -53,7 +53,7 @@ next-reserve-requires-2 c κs =
     let d : eqb (r .result .price .0) (a .c .level .0) ≡ false =
     not-true _ (and-right (ltb (a .c .waits) (a .c .at)) (not (eqb (r .result .price .0) (a .c .level .0))) test) in
     let e : eqb (getD s (a .c .at) unused .price .0) (a .c .level .0) ≡ false = rw o at d in
-    let l : a .c .at < length s = omega (arith, c .before .before .before .before .before .before .if1 .left) in
+    let l : a .c .at < length s = omega (arith, c .before .before .before .before .before .before .before .if1 .left) in
     (start .pre .0, start .pre .1, ltb-true _ _ w, ends-at-price s (a .c) l (eqb-false _ _ e))
 
 returns-3 : tie.Need-returns-3
@@ -61,23 +61,23 @@ returns-3 c = search needs
 
 first-waiting-requires : tie.Need-first-waiting-requires
 first-waiting-requires c κs =
-    let start = c .before .before .before .before .before .before .before .before in
-    omega (arith, start .pre .0 .fits, c .before .before .before .before .before .before .if1 .left)
-
-add-t18 : tie.Need-add-t18
-add-t18 c =
     let start = c .before .before .before .before .before .before .before .before .before in
     omega (arith, start .pre .0 .fits, c .before .before .before .before .before .before .before .if1 .left)
 
+add-t19 : tie.Need-add-t19
+add-t19 c =
+    let start = c .before .before .before .before .before .before .before .before .before .before in
+    omega (arith, start .pre .0 .fits, c .before .before .before .before .before .before .before .before .if1 .left)
+
 returns-4 : tie.Need-returns-4
 returns-4 c =
-    let r = c .before .before .before .before .before .before .at in
-    let start = c .before .before .before .before .before .before .before .before .before in
+    let r = c .before .before .before .before .before .before .before .at in
+    let start = c .before .before .before .before .before .before .before .before .before .before in
     let a = start .args in
     let is-at = start .pre .1 in
     let s = side (a .n) (now (a .x)) (now (a .t)) in
     let k : length s ≡ a .n = length-side (a .n) (now (a .x)) (now (a .t)) in
-    let l : a .c .at < length s = omega (arith, c .before .before .before .before .before .before .before .if1 .left) in
+    let l : a .c .at < length s = omega (arith, c .before .before .before .before .before .before .before .before .if1 .left) in
     let o : r .result ≡ getD s (a .c .at) unused = r .ensures in
     let level : a .c .waits < a .c .at → getD s (a .c .at) unused .price .0 ≡ a .c .level .0 =
     λ p. rw (← o) (same-level _ _ _ _ (c .before .if3 .left) p) in
@@ -108,5 +108,5 @@ next-spec =
     next-reserve-requires-2
     returns-3
     first-waiting-requires
-    add-t18
+    add-t19
     returns-4)

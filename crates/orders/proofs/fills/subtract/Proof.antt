@@ -30,7 +30,7 @@ loop-holds : tie.Need-loop-holds Inv-loop μ-loop
 loop-holds c =
     let start = c .before in
     let a = start .args in
-    (omega arith, rw (lessened-none 0 (side (a .n) (now (a .x)) (now (a .t)))) (holds-shows (a .n) (now (a .x)) (now (a .t)) (start .pre .0)))
+    (omega arith, rw (lessened-none 0 (start .pre .3)) (holds-shows (a .n) (now (a .x)) (now (a .t)) (start .pre .0)))
 
 taking-at-requires : tie.Need-taking-at-requires Inv-loop μ-loop
 taking-at-requires c κs = search needs

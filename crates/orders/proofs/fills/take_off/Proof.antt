@@ -14,7 +14,7 @@ use Rattle.orders.proofs.fills.take_off.Tie as tie
 subtract-requires : tie.Need-subtract-requires
 subtract-requires c κs =
     let p = c .before .before .pre in
-    (p .0, p .2, all-alike (λ k l. omega (arith, l, p .1)) (p .3))
+    (p .0, p .2, all-alike (λ k l. omega (arith, l, p .1)) (p .3), p .5)
 
 close-up-requires : tie.Need-close-up-requires
 close-up-requires c κs =
@@ -28,7 +28,7 @@ close-up-requires c κs =
     let shows : Shows (lessened 0 ks s) (now (a .x)) t = taken .subtract .ensures in (
       lessened-holds (a .n) (now (a .x)) (now (a .t)) t ks shows,
       p .1,
-      rw (lessened-side (a .n) (now (a .x)) (now (a .t)) t ks shows) (keep-behind 0 (a .at) ks s (all-alike (λ k l. omega (arith, l)) (p .3)) (p .4)),
+      rw (lessened-side (a .n) (now (a .x)) (now (a .t)) t ks shows) (keep-behind 0 (a .at) ks (p .5) (all-alike (λ k l. omega (arith, l)) (p .3)) (p .4)),
     )
 
 returns : tie.Need-returns

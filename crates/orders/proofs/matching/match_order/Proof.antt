@@ -1,7 +1,6 @@
 -- `orders::matching::match_order` meets its contract: the takings of the walk, and the ending, are together 01's match. Assumes nothing.
-use Prim.Native.Nat.{ℕ, _+_, _-_, _*_, _≤_, _<_}
+use Prim.Native.Nat.{ℕ, _+_, _-_, _*_, _≤_, min}
 use mathlib.Core.Bool.{true, false, not}
-use mathlib.Core.Logic.{inl, inr, ⊎-elim}
 use mathlib.Core.List.{List, _++_, map, append-assoc}
 use mathlib.Core.Path.{_≡_, refl, sym, ap, subst, _∙_}
 use lib.ListN.{length, take, drop, length-take, length-drop, length-append}
@@ -12,10 +11,9 @@ use Rattle.basics.specs.Bytes.{onto}
 use Rattle.basics.specs.Choice.{if_then_else_}
 use Rattle.basics.specs.Lists.{All, every}
 use Rattle.basics.proofs.LawsBytes.{onto-none}
-use Rattle.basics.proofs.LawsChoice.{lt-or-le}
 use Rattle.basics.proofs.LawsLists.{all-alike}
 use Rattle.orders.specs.Fills.{keeps, afterTakings}
-use Rattle.orders.proofs.fills.LawsTakenOff.{Orderly, takings-after, all-keep, after-long}
+use Rattle.orders.proofs.fills.LawsTakenOff.{all-keep, after-long}
 use Rattle.orders.specs.Reports.{executionOf}
 use Rattle.orders.proofs.reports.LawsReports.{lines-length, takings-executed}
 use Rattle.side.specs.Table.{side, Holds, Shows}
@@ -24,25 +22,26 @@ use Rattle.kinds.specs.declared.HalfCents.{HalfCents}
 use Rattle.rules.specs.declared.Ending.{Ending}
 use Rattle.rules.specs.declared.Event.{Event}
 use Rattle.rules.specs.declared.Resting.{Resting}
+use Rattle.rules.specs.Book.{placesASide}
 use Rattle.rules.specs.EventLines.{eventLines}
 use Rattle.rules.specs.Refusals.{isRest}
-use Rattle.rules.specs.Holdings.{holdings, takenOf, executions, after}
+use Rattle.rules.specs.Holdings.{holdings, executions, after}
 use Rattle.rules.specs.Settling.{firstMove, told, settledSide}
-use Rattle.rules.specs.Working.{buying, Met, executionPrice, takings, endingWith, ending, lastLine, refillFate}
-use Rattle.rules.proofs.LawsHoldings.{Parts, parts-alike}
-use Rattle.rules.proofs.LawsWalkOrder.{takings-give}
+use Rattle.rules.specs.Working.{buying, Met, executionPrice, takings, ending, lastLine, refillFate}
 use Rattle.rules.proofs.LawsEvents.{executed-length, eventLines-append, lines-behind, last-long, told-long}
 use Rattle.orders.specs.declared.walk.Taking.{Taking}
 use Rattle.orders.specs.declared.walk.Walked.{Walked}
 use Rattle.orders.specs.Walk.{isBelow, takingsIn}
-use Rattle.orders.specs.Walking.{metWith, Walkable, walkBound, walkFor, takingsFor, takingsBy, Walks}
+use Rattle.orders.specs.Walking.{metWith, Walkable, walkBound, walkFor, takingsFor, takingsBy, Walks, endingByBest}
 use Rattle.orders.specs.Bound.{boundOf, boundUnder}
 use Rattle.orders.specs.Locks.{lockedPrice, executesAt}
-use Rattle.orders.proofs.work.LawsWalking.{executes-at, walks as walks-bound}
+use Rattle.orders.proofs.work.LawsWalking.{executes-at, walk-within, walks as walks-bound}
+use Rattle.orders.proofs.work.LawsLeft.{bestLeft, post-first, taken-left, best-tells}
+use Rattle.orders.proofs.work.LawsEnding.{ending-by-best}
 use Rattle.orders.specs.declared.matching.Finished.{Finished}
 use Rattle.orders.specs.Matching.{isFull, finished, restsBelow}
 use Rattle.orders.specs.Refills.{MayRefill}
-use Rattle.orders.proofs.matching.LawsMatched.{length-remainder, full-more, full-not, rest-fits, ending-below, refused, ending-is, ended-is, may-refill, answer-is}
+use Rattle.orders.proofs.matching.LawsMatched.{length-remainder, full-more, full-not, rest-fits, ending-below, refused, ended-is, may-refill, answer-is}
 use Rattle.orders.proofs.matching.match_order.Statement.{statement}
 use Rattle.orders.proofs.matching.match_order.Tie as tie
 
@@ -66,19 +65,29 @@ bound-under-requires c κs =
 walk-of-requires : tie.Need-walk-of-requires
 walk-of-requires c κs = c .before .before .before .before .before .before .before .before .pre .1
 
+first-of-requires : tie.Need-first-of-requires
+first-of-requires c κs = search needs
+
 ending-of-requires : tie.Need-ending-of-requires
 ending-of-requires c κs =
-    let start = c .before .before .before .before .before .before .before .before .before .before .before .before in
+    let start = c .before .before .before .before .before .before .before .before .before .before .before .before .before in
+    let a = start .args in
+    let opposite = side (a .m) (now (a .y)) (now (a .opposite)) in
     let w = is-walkable start in
-    (start .pre .1, w .ranked, (omega (arith, w .limited), w .lockingPriced))
+    let made = c .before .before .before .before .walk-of in
+    let at : made .result .at ≤ length opposite =
+    rw (ap (λ (r : Walked). r .at) (made .ensures .0))
+    (walk-within (a .o) (metWith (a .away) opposite opposite) (c .before .before .before .before .before .before .before .before .bound-under .result)) in
+    let long = length-side (a .m) (now (a .y)) (now (a .opposite)) in
+    (start .pre .1, omega (arith, c .before .before .first-of .ensures, at, long), (omega (arith, w .limited), w .lockingPriced))
 
 places-after-requires : tie.Need-places-after-requires
-places-after-requires c κs = c .before .before .before .before .before .before .before .before .before .before .before .before .before .pre .0 .fits
+places-after-requires c κs = c .before .before .before .before .before .before .before .before .before .before .before .before .before .before .pre .0 .fits
 
 -- what is known of the walk and the ending
 module _ (c : tie.After-places-after) where
   start : tie.Start
-  start = c .before .before .before .before .before .before .before .before .before .before .before .before .before .before
+  start = c .before .before .before .before .before .before .before .before .before .before .before .before .before .before .before
 
   own : List Resting
   own = side (start .args .n) (now (start .args .x)) (now (start .args .own))
@@ -90,42 +99,66 @@ module _ (c : tie.After-places-after) where
   met = metWith (start .args .away) own opposite
 
   walk : Walked
-  walk = c .before .before .before .before .before .walk-of .result
+  walk = c .before .before .before .before .before .before .walk-of .result
 
   took : List (List ℕ)
-  took = c .before .before .before .before .before .walk-of .last .1 .1 .1 .1 .1 .0
+  took = c .before .before .before .before .before .before .walk-of .last .1 .1 .1 .1 .1 .0
 
   end : Ending
   end = c .before .ending-of .result
 
   -- the price that locks, and the bound with it
-  locked-is : c .before .before .before .before .before .before .before .before .before .before .locked-price .result ≡ lockedPrice own
+  locked-is : c .before .before .before .before .before .before .before .before .before .before .before .locked-price .result ≡ lockedPrice own
   unfolding start own
-  locked-is = c .before .before .before .before .before .before .before .before .before .before .locked-price .ensures
+  locked-is = c .before .before .before .before .before .before .before .before .before .before .before .locked-price .ensures
 
-  bound-is : c .before .before .before .before .before .before .before .before .before .bound-under .result ≡ walkBound (start .args .o) met
+  bound-is : c .before .before .before .before .before .before .before .before .before .before .bound-under .result ≡ walkBound (start .args .o) met
   unfolding start
   bound-is =
-      c .before .before .before .before .before .before .before .before .before .bound-under .ensures
+      c .before .before .before .before .before .before .before .before .before .before .bound-under .ensures
       ∙ ap (λ (p : HalfCents). boundUnder (buying (start .args .o)) p (boundOf (start .args .o) (start .args .away))) locked-is
 
   can-walk : Walkable (start .args .o) met
   unfolding start own opposite
   can-walk = is-walkable start
 
-  walks : Walks (start .args .o) met walk took
-  unfolding start opposite walk took
-  walks =
-      let w = c .before .before .before .before .before .walk-of in
-      let fits = start .pre .1 .fits in
-      walks-bound (start .args .o) met can-walk walk took
-      (omega (arith, fits, length-side (start .args .m) (now (start .args .y)) (now (start .args .opposite))))
-      (w .ensures .0 ∙ ap (λ (b : HalfCents). walkFor (start .args .o) b opposite) bound-is)
-      (w .ensures .1 ∙ ap (λ (b : HalfCents). takingsFor (start .args .o) b opposite) bound-is)
+  fits : length opposite ≤ placesASide
+  unfolding start opposite
+  fits = omega (arith, start .pre .1 .fits, length-side (start .args .m) (now (start .args .y)) (now (start .args .opposite)))
 
-  ends : end ≡ endingWith (walk .left .0) (start .args .o) met
-  unfolding start opposite walk end
-  ends = c .before .ending-of .ensures own
+  walk-is : walk ≡ walkFor (start .args .o) (walkBound (start .args .o) met) opposite
+  unfolding start opposite walk
+  walk-is = c .before .before .before .before .before .before .walk-of .ensures .0 ∙ ap (λ (b : HalfCents). walkFor (start .args .o) b opposite) bound-is
+
+  took-is : takingsIn (walk .count) took ≡ takingsFor (start .args .o) (walkBound (start .args .o) met) opposite
+  unfolding start opposite walk took
+  took-is = c .before .before .before .before .before .before .walk-of .ensures .1 ∙ ap (λ (b : HalfCents). takingsFor (start .args .o) b opposite) bound-is
+
+  walks : Walks (start .args .o) met walk took
+  walks = walks-bound (start .args .o) met can-walk walk took (omega (arith, fits)) walk-is took-is
+
+  -- the rank of the best of those that the walk leaves
+  kept : ℕ
+  kept = c .before .before .before .before .first-of .result
+
+  kept-is : kept ≡ bestLeft (start .args .o) met
+  unfolding walk kept
+  kept-is = c .before .before .before .before .first-of .ensures ∙ ap (λ (w : Walked). min (w .skipped) (w .at)) walk-is
+
+  ends-by-best : end ≡ endingByBest (walk .left .0) (start .args .o) (start .args .away) (lockedPrice own) (drop kept opposite)
+  unfolding start opposite walk end kept
+  ends-by-best =
+      c .before .ending-of .ensures
+      ∙ ap (λ (p : HalfCents). endingByBest (walk .left .0) (start .args .o) (start .args .away) p (drop kept opposite)) locked-is
+
+  ends : end ≡ ending (start .args .o) met
+  ends =
+      let o = start .args .o in
+      let tells = best-tells o met can-walk fits (sym took-is ∙ walks .takes) (ap (λ (w : Walked). w .left .0) (sym walk-is) ∙ walks .leaves) in
+      ends-by-best
+      ∙ ap (λ (k : ℕ). endingByBest (walk .left .0) o (start .args .away) (lockedPrice own) (drop k opposite)) kept-is
+      ∙ ap (λ (k : ℕ). endingByBest k o (start .args .away) (lockedPrice own) (drop (bestLeft o met) opposite)) (walks .leaves)
+      ∙ sym (ending-by-best o met can-walk (bestLeft o met) (λ some other. tells some) (post-first o met))
 
   held : c .places-after .result ≡ length own + (if isRest end then 1 else 0)
   unfolding start own end
@@ -144,7 +177,7 @@ module _ (c : tie.After-places-after) where
 
   -- at the price of the execution against its order
   abbrev here : HalfCents → HalfCents
-  here = executesAt (buying (start .args .o)) (c .before .before .before .before .before .before .before .before .before .before .locked-price .result)
+  here = executesAt (buying (start .args .o)) (c .before .before .before .before .before .before .before .before .before .before .before .locked-price .result)
 
   executed-is : map (executionOf (start .args .number) here opposite) (takingsIn (walk .count) took) ≡ executed
   unfolding executed
@@ -169,11 +202,10 @@ unfolding eventLines start own opposite walk took end
 returns c =
     let k = c .before in
     let a = start k .args in
-    let e = ending-is (a .o) (a .number) (met k) (walk k .left .0) (end k) (walks k .leaves) (ends k) in
     let n = length-side (a .n) (now (a .x)) (now (a .own)) in
     let m = length-side (a .m) (now (a .y)) (now (a .opposite)) in
     let f : isFull (end k) (own k) ≡ true = full-more (end k) (own k) (omega (arith, n, start k .pre .0 .fits)) (omega (arith, held k, c .if1 .taken)) in
-    let g : isFull (ending (a .o) (met k)) (own k) ≡ true = ap (λ (x : Ending). isFull x (own k)) (sym e) ∙ f in
+    let g : isFull (ending (a .o) (met k)) (own k) ≡ true = ap (λ (x : Ending). isFull x (own k)) (sym (ends k)) ∙ f in
     rw (refused (a .o) (a .number) (met k) g) (
       answer-is (sym n) (sym m) refl,
       (holds-shows (a .n) (now (a .x)) (now (a .own)) (start k .pre .0), (holds-shows (a .m) (now (a .y)) (now (a .opposite)) (start k .pre .1), onto-none (now (a .out)))),
@@ -196,7 +228,7 @@ unfolding start own opposite walk took end
 take-off-requires c κs =
     let k = c .before .before .before .before .before .before .before .before .before .before .before .before in
     let p = start k .pre in
-    (p .1, reached k, walks k .fits, below k, all-keep (all-alike (λ h w. w .holds) (can-walk k .workable)))
+    (p .1, reached k, walks k .fits, below k, all-keep (all-alike (λ h w. w .holds) (can-walk k .workable)), all-alike (λ h w. w .least) (can-walk k .workable))
 
 -- what the walk leaves of the opposite side
 module _ (c : tie.After-take-off) where
@@ -210,13 +242,8 @@ module _ (c : tie.After-take-off) where
   unfolding start opposite
   keep-all = all-keep (all-alike (λ h w. w .holds) (can-walk known .workable))
 
-  orderly : Parts Orderly (opposite known) (takenOf false (holdings (opposite known)) given) (takenOf true (holdings (opposite known)) given)
-  orderly =
-      parts-alike (λ h t r g. (g .shown, ⊎-elim (λ (l : t < h .shares .0). inr (g .shownFirst l)) (λ (l : h .shares .0 ≤ t). inl (omega (arith, l, g .shown))) (lt-or-le t (h .shares .0))))
-      (takings-give (start known .args .o) (met known))
-
   taken : afterTakings (takingsIn (walk known .count) (took known)) (opposite known) ≡ after (opposite known) given
-  taken = ap (λ (ks : List Taking). afterTakings ks (opposite known)) (walks known .takes) ∙ takings-after (opposite known) given orderly
+  taken = ap (λ (ks : List Taking). afterTakings ks (opposite known)) (walks known .takes) ∙ taken-left (start known .args .o) (met known) (can-walk known) (fits known)
 
   stay-is : c .take-off .result ≡ length (after (opposite known) given)
   unfolding start opposite walk took
@@ -238,7 +265,7 @@ module _ (c : tie.After-take-off) where
   unreached-stay =
       omega (
         arith,
-        after-long (walk known .at) (below known) (opposite known) keep-all,
+        after-long (walk known .at) (below known) (opposite known) (all-alike (λ h w. w .least) (can-walk known .workable)) keep-all,
         ap length taken,
         stay-is,
         length-side (start known .args .m) (now (start known .args .y)) (now (start known .args .opposite)),
@@ -294,7 +321,7 @@ finish-requires c κs =
       p .0,
       rest-fits (end k) (start k .args .n) (omega (arith, k .places-after .ensures, d .before .before .before .before .before .before .before .before .before .before .before .before .if1 .left)),
       record {
-        priced = subst restsBelow (sym (ends k)) (ending-below (start k .args .o) (start k .args .away) (can-walk k .limited) (walk k .left .0) (own k) (opposite k));
+        priced = subst restsBelow (sym (ends-by-best k)) (ending-below (start k .args .o) (start k .args .away) (can-walk k .limited) (walk k .left .0) (lockedPrice (own k)) (drop (kept k) (opposite k)));
         ranked = p .2 .ownRanked;
         older = p .2 .older;
       },
@@ -316,9 +343,9 @@ module _ (c : tie.After-finish) where
       c .finish .ensures .0
       ∙ ap (λ (s : List Resting). finished (a .number) (walk (known off) .left) (end (known off)) (not (buying (a .o))) s) (stay-side off)
 
-add-t39 : tie.Need-add-t39
+add-t40 : tie.Need-add-t40
 unfolding start own opposite walk took end
-add-t39 c =
+add-t40 c =
     let k = known (off (c .before .before .before)) in
     let a = start k .args in
     let s = after (opposite k) (given (off (c .before .before .before))) in
@@ -386,6 +413,7 @@ match-order-spec =
     locked-price-requires
     bound-under-requires
     walk-of-requires
+    first-of-requires
     ending-of-requires
     places-after-requires
     returns
@@ -397,6 +425,6 @@ match-order-spec =
     part-finish-start
     part-finish-end
     finish-requires
-    add-t39
+    add-t40
     same-length
     returns-2)

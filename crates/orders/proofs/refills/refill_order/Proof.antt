@@ -23,7 +23,7 @@ sub-reserve c =
 
 returns : tie.Need-returns
 returns c =
-    let k = c .before .before .before .before .before .before in
+    let k = c .before .before .before .before .before .before .before in
     let o = k .before .before .args .o in
     let left : k .before .shares-left .result ≡ shares (sharesLeft o) = k .before .shares-left .ensures in
     let shown : k .shown-of .result ≡ shares (shownOf (o .floor .0) (k .before .shares-left .result .0)) = k .shown-of .ensures in

@@ -1,6 +1,6 @@
 -- `orders::walk::take_from` meets its contract. Assumes nothing.
-use Prim.Native.Nat.{_+_, _-_}
-use mathlib.Core.Path.{_≡_, sym, ap, _∙_}
+use Prim.Native.Nat.{_+_, _-_, min}
+use mathlib.Core.Path.{_≡_, refl, sym, ap, _∙_}
 use lib.ListN.{length, take-append-drop}
 use native.Mathlib.Omega.{arith}
 use borrow.Author.Needs.{needs}
@@ -20,7 +20,7 @@ smaller-requires c κs = search needs
 
 -- what the part gives
 gives : (c : tie.After-smaller) → c .smaller .result .0 ≡ partGives (c .before .before .before .before .args .left .0) (c .before .before .before .before .args .p)
-gives c = ap (λ (n : Shares). n .0) (c .smaller .ensures)
+gives c = ap (λ (n : Shares). n .0) (c .smaller .ensures) ∙ sym (rw (c .before .before .before .before .pre .2) refl)
 
 returns : tie.Need-returns
 returns c =
@@ -39,7 +39,11 @@ add-t13 : tie.Need-add-t13
 add-t13 c = search needs
 
 sub-t14 : tie.Need-sub-t14
-sub-t14 c = omega (arith, gives (c .before .before .before .before .before .before .before))
+sub-t14 c =
+    let k = c .before .before .before .before .before .before .before in
+    let a = k .before .before .before .before .args in
+    let given : partGives (a .left .0) (a .p) ≡ min (a .left .0) (a .p .shares .0) = rw (k .before .before .before .before .pre .2) refl in
+    omega (arith, gives k, given)
 
 returns-2 : tie.Need-returns-2
 returns-2 c =

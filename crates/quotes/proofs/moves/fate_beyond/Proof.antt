@@ -8,7 +8,10 @@ returns : tie.Need-returns
 returns c = let back : c .before .args .o .back ≡ true = c .if1 .taken in rw back
 
 returns-2 : tie.Need-returns-2
-returns-2 c = let back : c .before .before .before .before .before .before .args .o .back ≡ false = c .before .before .before .before .before .if1 .left in rw back
+returns-2 c =
+    let test = c .before .before .before .before .before .before in
+    let back : test .before .args .o .back ≡ false = test .if1 .left in
+    rw back
 
 pub fate-beyond-spec : {M : Type 1} → statement M
 fate-beyond-spec = tie.close (tie.spec returns returns-2)

@@ -1,5 +1,5 @@
 -- `side::shifts::reduce` meets its contract: the order at the rank is put back with the shares that it keeps. Assumes nothing.
-use Prim.Native.Nat.{ℕ, _-_}
+use Prim.Native.Nat.{ℕ, _+_, _-_, min}
 use mathlib.Core.List.{[]}
 use mathlib.Core.Path.{_≡_, ap, _∙_}
 use lib.ListN.{getD, set}
@@ -28,12 +28,16 @@ without-requires-2 c κs = search needs
 without-requires-3 : tie.Need-without-requires-3
 without-requires-3 c κs = search needs
 
+cut-requires : tie.Need-cut-requires
+cut-requires c κs = search needs
+
 put-row-requires : tie.Need-put-row-requires
 put-row-requires c κs = search needs
 
 returns : tie.Need-returns
 returns c =
-    let third = c .before .before .before .before .before .before in
+    let last = c .before .before .before .before .before .before in
+    let third = last .before in
     let second = third .before in
     let first = second .before in
     let r = first .before in
@@ -48,10 +52,12 @@ returns c =
     let shown : first .without .result ≡ h .shares .0 - a .part .0 = first .without .ensures in
     let more : second .without2 .result ≡ a .part .0 - h .shares .0 = second .without2 .ensures in
     let reserve : third .without3 .result ≡ h .reserve .0 - second .without2 .result = third .without3 .ensures in
+    let least : last .cut .result ≡ min (h .minimum .0) (first .without .result + third .without3 .result) = last .cut .ensures in
     let put : c .put-row .last .0
-    ≡ set t (r .before .before .slot-at .result) (rowOf (amended (h .price) (h .stamp) (first .without .result) (third .without3 .result) h)) =
+    ≡ set t (r .before .before .slot-at .result)
+    (rowOf (amended (h .price) (h .stamp) (first .without .result) (third .without3 .result) (last .cut .result) h)) =
     c .put-row .ensures in
-    rw (put, reserve, more, shown, slot, read) (side-put (a .n) x t (start .pre .0) (a .at) (lessBy (a .part .0) o) (start .pre .1))
+    rw (put, least, reserve, more, shown, slot, read) (side-put (a .n) x t (start .pre .0) (a .at) (lessBy (a .part .0) o) (start .pre .1))
 
 pub reduce-spec : {M : Type 1} → statement M
 reduce-spec =
@@ -62,5 +68,6 @@ reduce-spec =
     without-requires
     without-requires-2
     without-requires-3
+    cut-requires
     put-row-requires
     returns)
