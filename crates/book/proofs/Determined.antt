@@ -5,35 +5,35 @@ use mathlib.Core.Path.{◌≡◌, sym, ◌∙◌}
 use Rattle.book.specs.declared.Book.{Book}
 use Rattle.book.specs.declared.Reply.{Reply}
 use Rattle.book.proofs.Book.fresh.Reads as fresh
-use Rattle.book.proofs.Book.is_sound.Reads as is-sound
+use Rattle.book.proofs.Book.is_sound.Reads as is_sound_lem
 use Rattle.book.proofs.Book.accept.Reads as accept
 use Rattle.book.proofs.Book.cancel.Reads as cancel
 use Rattle.book.proofs.Book.quote.Reads as quote
 use Rattle.book.proofs.Book.close.Reads as close
 use Rattle.book.proofs.Book.answer.Reads as answer
 
-pub fresh-determined : (κs : _) (a : _) (r r' : Book) (s s' : _) → fresh.Post κs a r s → fresh.Post κs a r' s' → r ≡ r'
-fresh-determined κs a r r' s s' p q = p ∙ sym q
+pub fresh_determined : (κs : _) (a : _) (r r' : Book) (s s' : _) → fresh.Post κs a r s → fresh.Post κs a r' s' → r ≡ r'
+fresh_determined κs a r r' s s' p q = p ∙ sym q
 
-pub is-sound-determined : (κs : _) (a : _) (r r' : Bool) (s s' : _) → is-sound.Post κs a r s → is-sound.Post κs a r' s' → r ≡ r'
-is-sound-determined κs a r r' s s' p q = p ∙ sym q
+pub is_sound_determined : (κs : _) (a : _) (r r' : Bool) (s s' : _) → is_sound_lem.Post κs a r s → is_sound_lem.Post κs a r' s' → r ≡ r'
+is_sound_determined κs a r r' s s' p q = p ∙ sym q
 
-pub accept-determined : (κs : _) (a : _) (r r' : Reply) (s s' : _) → accept.Post κs a r s → accept.Post κs a r' s'
+pub accept_determined : (κs : _) (a : _) (r r' : Reply) (s s' : _) → accept.Post κs a r s → accept.Post κs a r' s'
     → (r ≡ r') × (s.1.1.1.1.0.now ≡ s'.1.1.1.1.0.now)
-accept-determined κs a r r' s s' p q = (p.0 ∙ sym q.0, p.1 ∙ sym q.1)
+accept_determined κs a r r' s s' p q = (p.0 ∙ sym q.0, p.1 ∙ sym q.1)
 
-pub cancel-determined : (κs : _) (a : _) (r r' : Reply) (s s' : _) → cancel.Post κs a r s → cancel.Post κs a r' s'
+pub cancel_determined : (κs : _) (a : _) (r r' : Reply) (s s' : _) → cancel.Post κs a r s → cancel.Post κs a r' s'
     → (r ≡ r') × (s.1.1.1.1.0.now ≡ s'.1.1.1.1.0.now)
-cancel-determined κs a r r' s s' p q = (p.0 ∙ sym q.0, p.1 ∙ sym q.1)
+cancel_determined κs a r r' s s' p q = (p.0 ∙ sym q.0, p.1 ∙ sym q.1)
 
-pub quote-determined : (κs : _) (a : _) (r r' : Reply) (s s' : _) → quote.Post κs a r s → quote.Post κs a r' s'
+pub quote_determined : (κs : _) (a : _) (r r' : Reply) (s s' : _) → quote.Post κs a r s → quote.Post κs a r' s'
     → (r ≡ r') × (s.1.1.1.1.0.now ≡ s'.1.1.1.1.0.now)
-quote-determined κs a r r' s s' p q = (p.0 ∙ sym q.0, p.1 ∙ sym q.1)
+quote_determined κs a r r' s s' p q = (p.0 ∙ sym q.0, p.1 ∙ sym q.1)
 
-pub close-determined : (κs : _) (a : _) (r r' : Reply) (s s' : _) → close.Post κs a r s → close.Post κs a r' s'
+pub close_determined : (κs : _) (a : _) (r r' : Reply) (s s' : _) → close.Post κs a r s → close.Post κs a r' s'
     → (r ≡ r') × (s.1.1.1.0.now ≡ s'.1.1.1.0.now)
-close-determined κs a r r' s s' p q = (p.0 ∙ sym q.0, p.1 ∙ sym q.1)
+close_determined κs a r r' s s' p q = (p.0 ∙ sym q.0, p.1 ∙ sym q.1)
 
-pub answer-determined : (κs : _) (a : _) (r r' : Reply) (s s' : _) → answer.Post κs a r s → answer.Post κs a r' s'
+pub answer_determined : (κs : _) (a : _) (r r' : Reply) (s s' : _) → answer.Post κs a r s → answer.Post κs a r' s'
     → (r ≡ r') × (s.1.1.0.now ≡ s'.1.1.0.now)
-answer-determined κs a r r' s s' p q = (p.0 ∙ sym q.0, p.1 ∙ sym q.1)
+answer_determined κs a r r' s s' p q = (p.0 ∙ sym q.0, p.1 ∙ sym q.1)

@@ -10,84 +10,84 @@ use native.Mathlib.Omega.{arith}
 use borrow.Author.Tests.{leb-true, eqb-true}
 use Rattle.basics.specs.Lists.{every}
 use Rattle.basics.proofs.LawsChoice.{and_left, and_right}
-use Rattle.rules.specs.Book.{Places, placesASide, isUnused, placesSound, ordersIn, bookIn, sound, recordSound}
+use Rattle.rules.specs.Book.{Places, places_aSide, is_unused, places_sound, orders_in, book_in, sound, record_sound}
 use Rattle.side.specs.Table.{row_of, side, Holds, Shows}
-use Rattle.side.proofs.rows.LawsTable.{orders-rows}
-use Rattle.side.proofs.rows.LawsShown.{shown-holds, shown-side}
+use Rattle.side.proofs.rows.LawsTable.{orders_rows}
+use Rattle.side.proofs.rows.LawsShown.{shown_holds, shown_side}
 use Rattle.side.specs.declared.tables.Head.{Head}
-use Rattle.side.specs.Tables.{recordOn, bookOn, Numbered}
+use Rattle.side.specs.Tables.{record_on, book_on, Numbered}
 use Rattle.side.specs.Answers.{Stands}
-use Rattle.side.proofs.tables.LawsNumbered.{numbered-shows}
+use Rattle.side.proofs.tables.LawsNumbered.{numbered_shows}
 use Rattle.book.specs.declared.Book as value
-use Rattle.book.specs.Record.{placesOn, recordIn, headIn}
+use Rattle.book.specs.Record.{places_on, record_in, head_in}
 
 -- what is inspected in a header and two tables that calls left is the book's own record
-pub record-as : (b : value.Book) (h : Head) (t u : List (List ℕ)) → h ≡ headIn b → t ≡ map row_of b.buys.places → u ≡ map row_of b.sells.places → recordOn h t u ≡ recordIn b
-record-as b h t u e f g = rw (e, f, g, orders-rows b.buys.places, orders-rows b.sells.places)
+pub record_as : (b : value.Book) (h : Head) (t u : List (List ℕ)) → h ≡ head_in b → t ≡ map row_of b.buys.places → u ≡ map row_of b.sells.places → record_on h t u ≡ record_in b
+record_as b h t u e f g = rw (e, f, g, orders_rows b.buys.places, orders_rows b.sells.places)
 
 -- places that are sound have orders in the first of them, and no others
-module _ (p : Places) (isSound : placesSound p ≡ true) where
-  both : (leb p.used placesASide && eqb (length p.places) placesASide) ≡ true
-  both = and_left (leb p.used placesASide && eqb (length p.places) placesASide) (every isUnused (drop p.used p.places)) isSound
+module _ (p : Places) (is_sound : places_sound p ≡ true) where
+  both : (leb p.used places_aSide && eqb (length p.places) places_aSide) ≡ true
+  both = and_left (leb p.used places_aSide && eqb (length p.places) places_aSide) (every is_unused (drop p.used p.places)) is_sound
 
-  used-fits : p.used ≤ placesASide
-  used-fits = leb-true p.used placesASide (and_left (leb p.used placesASide) (eqb (length p.places) placesASide) both)
+  used_fits : p.used ≤ places_aSide
+  used_fits = leb-true p.used places_aSide (and_left (leb p.used places_aSide) (eqb (length p.places) places_aSide) both)
 
-  all-places : length p.places ≡ placesASide
-  all-places = eqb-true (length p.places) placesASide (and_right (leb p.used placesASide) (eqb (length p.places) placesASide) both)
+  all_places : length p.places ≡ places_aSide
+  all_places = eqb-true (length p.places) places_aSide (and_right (leb p.used places_aSide) (eqb (length p.places) places_aSide) both)
 
   -- loaded into a table, with a numbered index beside it, they are the side that stands there
   module _ (x : List ℕ) (t : List (List ℕ)) (numbered : Numbered p.used x) (loaded : t ≡ map row_of p.places) where
-    shows : Shows (ordersIn p) x t
-    shows = rw loaded (numbered-shows p.used x used-fits numbered p.places all-places)
+    shows : Shows (orders_in p) x t
+    shows = rw loaded (numbered_shows p.used x used_fits numbered p.places all_places)
 
-    long : length (ordersIn p) ≡ p.used
-    long = length-take-le p.used p.places (omega (arith, used-fits, all-places))
+    long : length (orders_in p) ≡ p.used
+    long = length-take-le p.used p.places (omega (arith, used_fits, all_places))
 
-    pub places-holds : Holds p.used x t
-    places-holds = shown-holds (ordersIn p) x t p.used long shows
+    pub places_holds : Holds p.used x t
+    places_holds = shown_holds (orders_in p) x t p.used long shows
 
-    pub places-side : side p.used x t ≡ ordersIn p
-    places-side = shown-side (ordersIn p) x t p.used long shows
+    pub places_side : side p.used x t ≡ orders_in p
+    places_side = shown_side (orders_in p) x t p.used long shows
 
 -- the counts of a sound book fit its sides
-module _ (b : value.Book) (isSound : recordSound (recordIn b) ≡ true) (h : Head) (head : h ≡ headIn b) where
-  pub counts-fit : (h.buys ≤ placesASide) × (h.sells ≤ placesASide)
-  unfolding recordSound
-  counts-fit =
-      let r = recordIn b in
-      let both = and_left (placesSound r.buys && placesSound r.sells) (sound (bookIn r)) isSound in
-      rw head (used-fits r.buys (and_left (placesSound r.buys) (placesSound r.sells) both), used-fits r.sells (and_right (placesSound r.buys) (placesSound r.sells) both))
+module _ (b : value.Book) (is_sound : record_sound (record_in b) ≡ true) (h : Head) (head : h ≡ head_in b) where
+  pub counts_fit : (h.buys ≤ places_aSide) × (h.sells ≤ places_aSide)
+  unfolding record_sound
+  counts_fit =
+      let r = record_in b in
+      let both = and_left (places_sound r.buys && places_sound r.sells) (sound (book_in r)) is_sound in
+      rw head (used_fits r.buys (and_left (places_sound r.buys) (places_sound r.sells) both), used_fits r.sells (and_right (places_sound r.buys) (places_sound r.sells) both))
 
 -- a header, two indexes and two tables that calls left
-module _ (b : value.Book) (isSound : recordSound (recordIn b) ≡ true) (h : Head) (x : List ℕ) (t : List (List ℕ)) (y : List ℕ) (u : List (List ℕ))
-    (head : h ≡ headIn b) (buys : t ≡ map row_of b.buys.places) (sells : u ≡ map row_of b.sells.places)
-    (buysNumbered : Numbered h.buys x) (sellsNumbered : Numbered h.sells y) where
-  buys-sound : placesSound (placesOn b.buys) ≡ true
-  unfolding recordSound
-  buys-sound = let r = recordIn b in
-      and_left (placesSound r.buys) (placesSound r.sells) (and_left (placesSound r.buys && placesSound r.sells) (sound (bookIn r)) isSound)
+module _ (b : value.Book) (is_sound : record_sound (record_in b) ≡ true) (h : Head) (x : List ℕ) (t : List (List ℕ)) (y : List ℕ) (u : List (List ℕ))
+    (head : h ≡ head_in b) (buys : t ≡ map row_of b.buys.places) (sells : u ≡ map row_of b.sells.places)
+    (buys_numbered : Numbered h.buys x) (sells_numbered : Numbered h.sells y) where
+  buys_sound : places_sound (places_on b.buys) ≡ true
+  unfolding record_sound
+  buys_sound = let r = record_in b in
+      and_left (places_sound r.buys) (places_sound r.sells) (and_left (places_sound r.buys && places_sound r.sells) (sound (book_in r)) is_sound)
 
-  sells-sound : placesSound (placesOn b.sells) ≡ true
-  unfolding recordSound
-  sells-sound = let r = recordIn b in
-      and_right (placesSound r.buys) (placesSound r.sells) (and_left (placesSound r.buys && placesSound r.sells) (sound (bookIn r)) isSound)
+  sells_sound : places_sound (places_on b.sells) ≡ true
+  unfolding record_sound
+  sells_sound = let r = record_in b in
+      and_right (places_sound r.buys) (places_sound r.sells) (and_left (places_sound r.buys && places_sound r.sells) (sound (book_in r)) is_sound)
 
   bought : Numbered b.buys.used x
-  bought = rw head at buysNumbered
+  bought = rw head at buys_numbered
 
   sold : Numbered b.sells.used y
-  sold = rw head at sellsNumbered
+  sold = rw head at sells_numbered
 
-  pub book-as : bookOn h x t y u ≡ bookIn (recordIn b)
-  unfolding bookIn
-  book-as =
-      rw (head, places-side (placesOn b.buys) buys-sound x t bought buys, places-side (placesOn b.sells) sells-sound y u sold sells)
+  pub book_as : book_on h x t y u ≡ book_in (record_in b)
+  unfolding book_in
+  book_as =
+      rw (head, places_side (places_on b.buys) buys_sound x t bought buys, places_side (places_on b.sells) sells_sound y u sold sells)
 
-  pub stands-as : Stands h x t y u
-  unfolding recordSound
-  stands-as = let r = recordIn b in record {
-    buys = rw head (places-holds (placesOn b.buys) buys-sound x t bought buys);
-    sells = rw head (places-holds (placesOn b.sells) sells-sound y u sold sells);
-    isSound = ap sound book-as ∙ and_right (placesSound r.buys && placesSound r.sells) (sound (bookIn r)) isSound;
+  pub stands_as : Stands h x t y u
+  unfolding record_sound
+  stands_as = let r = record_in b in record {
+    buys = rw head (places_holds (places_on b.buys) buys_sound x t bought buys);
+    sells = rw head (places_holds (places_on b.sells) sells_sound y u sold sells);
+    is_sound = ap sound book_as ∙ and_right (places_sound r.buys && places_sound r.sells) (sound (book_in r)) is_sound;
   }

@@ -10,58 +10,58 @@ use native.Mathlib.Omega.{arith}
 use borrow.Author.Tests.{ne_eqb, le-ltb}
 use Rattle.basics.specs.Bytes.{onto}
 use Rattle.basics.specs.Choice.{if◌then◌else◌}
-use Rattle.basics.proofs.LawsBytes.{onto-none}
+use Rattle.basics.proofs.LawsBytes.{onto_none}
 use Rattle.rules.specs.declared.Command.{Command}
 use Rattle.rules.specs.declared.Reading.{Reading}
 use Rattle.rules.specs.declared.Reading.TheVariants as reading
-use Rattle.rules.specs.Book.{BookRecord, bookIn, recordOf, recordSound}
-use Rattle.rules.specs.EventLines.{eventLines}
-use Rattle.rules.specs.Refusals.{first_of, leastRoom, lastRefusal, lineRefusals, fitRefusals, refusals}
-use Rattle.rules.proofs.LawsRefusals.{first-given, first-passed, fit-numbered, fit-facts}
-use Rattle.rules.specs.Step.{Returned, answer, stepOn}
+use Rattle.rules.specs.Book.{BookRecord, book_in, record_of, record_sound}
+use Rattle.rules.specs.EventLines.{event_lines}
+use Rattle.rules.specs.Refusals.{first_of, least_room, last_refusal, line_refusals, fit_refusals, refusals}
+use Rattle.rules.proofs.LawsRefusals.{first_given, first_passed, fit_numbered, fit_facts}
+use Rattle.rules.specs.Step.{Returned, answer, step_on}
 use Rattle.side.specs.Answers.{answer_of}
 
 -- refusals 1 and 2
 abbrev pub unfit : ℕ → Bool → ℕ
-unfit room bookSound = first_of (fitRefusals room bookSound)
+unfit room book_sound = first_of (fit_refusals room book_sound)
 
 -- what a refusal returns
-abbrev pub refusedOn : ℕ → BookRecord → List ℕ → Returned
-refusedOn k r out = record { refusal = k; length = 0; book = r; out = out }
+abbrev pub refused_on : ℕ → BookRecord → List ℕ → Returned
+refused_on k r out = record { refusal = k; length = 0; book = r; out = out }
 
 module _ (r : BookRecord) (out : List ℕ) where
-  refused-step : (a : Reading) (k : ℕ) → first_of (refusals (length out) (recordSound r) (bookIn r) a) ≡ k → 0 < k → stepOn r a out ≡ refusedOn k r out
-  unfolding stepOn answer eventLines
-  refused-step a k e l = rw (e, ne_eqb k 0 (λ (z : k ≡ 0). omega arith)) (ap (refused k) (sym (onto-none out)))
+  refused_step : (a : Reading) (k : ℕ) → first_of (refusals (length out) (record_sound r) (book_in r) a) ≡ k → 0 < k → step_on r a out ≡ refused_on k r out
+  unfolding step_on answer event_lines
+  refused_step a k e l = rw (e, ne_eqb k 0 (λ (z : k ≡ 0). omega arith)) (ap (refused k) (sym (onto_none out)))
     where
       refused : ℕ → List ℕ → Returned
-      refused k o = refusedOn k r o
+      refused k o = refused_on k r o
 
-  pub step-unfit : (a : Reading) (k : ℕ) → k ≡ unfit (length out) (recordSound r) → 0 < k → stepOn r a out ≡ refusedOn k r out
+  pub step_unfit : (a : Reading) (k : ℕ) → k ≡ unfit (length out) (record_sound r) → 0 < k → step_on r a out ≡ refused_on k r out
   unfolding refusals
-  step-unfit a k e l =
-      refused-step a k (first-given (fitRefusals (length out) (recordSound r)) (lineRefusals (bookIn r) a) (omega (arith, e)) ∙ sym e) l
+  step_unfit a k e l =
+      refused_step a k (first_given (fit_refusals (length out) (record_sound r)) (line_refusals (book_in r) a) (omega (arith, e)) ∙ sym e) l
 
-  pub step-bad : 0 ≡ unfit (length out) (recordSound r) → stepOn r reading.Bad out ≡ refusedOn 3 r out
-  unfolding refusals lineRefusals first_of
-  step-bad e = refused-step reading.Bad 3
-      (first-passed lastRefusal (fitRefusals (length out) (recordSound r)) (lineRefusals (bookIn r) reading.Bad) (fit-numbered (length out) (recordSound r)) (sym e)) (omega arith)
+  pub step_bad : 0 ≡ unfit (length out) (record_sound r) → step_on r reading.Bad out ≡ refused_on 3 r out
+  unfolding refusals line_refusals first_of
+  step_bad e = refused_step reading.Bad 3
+      (first_passed last_refusal (fit_refusals (length out) (record_sound r)) (line_refusals (book_in r) reading.Bad) (fit_numbered (length out) (record_sound r)) (sym e)) (omega arith)
 
-  pub fit : 0 ≡ unfit (length out) (recordSound r) → (recordSound r ≡ true) × (leastRoom ≤ length out)
+  pub fit : 0 ≡ unfit (length out) (record_sound r) → (record_sound r ≡ true) × (least_room ≤ length out)
   fit e =
-      let f = fit-facts (length out) (recordSound r) [] (sym e) in
+      let f = fit_facts (length out) (record_sound r) [] (sym e) in
       (f.1, f.0)
 
-  module _ (c : Command) (isSound : recordSound r ≡ true) (room : leastRoom ≤ length out) where
-    fit-refusals : first_of (refusals (length out) (recordSound r) (bookIn r) (reading.Is c)) ≡ first_of (lineRefusals (bookIn r) (reading.Is c))
+  module _ (c : Command) (is_sound : record_sound r ≡ true) (room : least_room ≤ length out) where
+    fit_refusals_lem : first_of (refusals (length out) (record_sound r) (book_in r) (reading.Is c)) ≡ first_of (line_refusals (book_in r) (reading.Is c))
     unfolding refusals first_of
-    fit-refusals = rw (isSound, le-ltb (length out) leastRoom room)
+    fit_refusals_lem = rw (is_sound, le-ltb (length out) least_room room)
 
-    pub step-answer : stepOn r (reading.Is c) out ≡ record {
-      refusal = (answer_of c (bookIn r)).refusal;
-      length = length (eventLines (answer_of c (bookIn r)).events);
-      book = if eqb (answer_of c (bookIn r)).refusal 0 then recordOf (answer_of c (bookIn r)).book else r;
-      out = onto (eventLines (answer_of c (bookIn r)).events) out;
+    pub step_answer : step_on r (reading.Is c) out ≡ record {
+      refusal = (answer_of c (book_in r)).refusal;
+      length = length (event_lines (answer_of c (book_in r)).events);
+      book = if eqb (answer_of c (book_in r)).refusal 0 then record_of (answer_of c (book_in r)).book else r;
+      out = onto (event_lines (answer_of c (book_in r)).events) out;
     }
-    unfolding stepOn answer_of answer
-    step-answer = rw fit-refusals
+    unfolding step_on answer_of answer
+    step_answer = rw fit_refusals_lem

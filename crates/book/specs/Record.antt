@@ -6,32 +6,32 @@ use Rattle.book.specs.declared.Book.{Book}
 use Rattle.book.specs.declared.Reply.{Reply}
 use Rattle.book.specs.declared.Side.{Side}
 
-abbrev pub placesOn : Side → Places
-placesOn s = record { used = s.used; places = s.places }
+abbrev pub places_on : Side → Places
+places_on s = record { used = s.used; places = s.places }
 
-abbrev pub sideWith : Places → Side
-sideWith p = record { used = p.used; places = p.places }
+abbrev pub side_with : Places → Side
+side_with p = record { used = p.used; places = p.places }
 
-abbrev pub recordIn : Book → BookRecord
-recordIn b = record {
+abbrev pub record_in : Book → BookRecord
+record_in b = record {
   held = b.held;
-  buys = placesOn b.buys;
-  sells = placesOn b.sells;
+  buys = places_on b.buys;
+  sells = places_on b.sells;
 }
 
-abbrev pub bookWith : BookRecord → Book
-bookWith r = record {
+abbrev pub book_with : BookRecord → Book
+book_with r = record {
   held = r.held;
-  buys = sideWith r.buys;
-  sells = sideWith r.sells;
+  buys = side_with r.buys;
+  sells = side_with r.sells;
 }
 
-abbrev pub replyOf : Returned → Reply
-replyOf r = record { refusal = r.refusal; length = r.length; book = bookWith r.book }
+abbrev pub reply_of : Returned → Reply
+reply_of r = record { refusal = r.refusal; length = r.length; book = book_with r.book }
 
 -- the header of a book by value
-abbrev pub headIn : Book → Head
-headIn b = record {
+abbrev pub head_in : Book → Head
+head_in b = record {
   held = b.held;
   buys = b.buys.used;
   sells = b.sells.used;

@@ -2,13 +2,13 @@
 // the output.
 ghost use Rattle.std.specs.Prelude.{true, map, ◌≡◌, ◌≤◌, length};
 ghost use Rattle.side.specs.Table.{row_of, Holds};
-ghost use Rattle.rules.specs.Book.{fresh, recordOf, recordSound};
-ghost use Rattle.rules.specs.Refusals.{first_of, leastRoom, fitRefusals};
-ghost use Rattle.rules.specs.Step.{step, stepOn};
+ghost use Rattle.rules.specs.Book.{fresh, record_of, record_sound};
+ghost use Rattle.rules.specs.Refusals.{first_of, least_room, fit_refusals};
+ghost use Rattle.rules.specs.Step.{step, step_on};
 ghost use Rattle.rules.specs.declared.Body.TheVariants as body;
 ghost use Rattle.rules.specs.declared.Reading.TheVariants as reading;
-ghost use Rattle.side.specs.Tables.{bookOn};
-ghost use Rattle.book.specs.Record.{recordIn, bookWith, replyOf, headIn};
+ghost use Rattle.side.specs.Tables.{book_on};
+ghost use Rattle.book.specs.Record.{record_in, book_with, reply_of, head_in};
 
 use command_lines::reader;
 use kinds::{Cents, Number};
@@ -58,7 +58,7 @@ fn command(number: Number, time: u32, body: Body) -> Reading
 
 impl Book {
     pub fn fresh() -> Book
-        ensures { result ≡ bookWith (recordOf fresh) }
+        ensures { result ≡ book_with (record_of fresh) }
     {
         let away = Away {
             bid: Cents(0),
@@ -80,7 +80,7 @@ impl Book {
     // ── Into the tables and out of them ──
 
     fn head(self) -> Head
-        ensures { result ≡ headIn self }
+        ensures { result ≡ head_in self }
     {
         let held = self.held;
         let buys = self.buys;
@@ -106,7 +106,7 @@ impl Book {
 
     fn save(h: Head, x: &Index, buys: &Rows, y: &Index, sells: &Rows) -> Book
         requires { Holds h.buys x.now buys.now × Holds h.sells y.now sells.now }
-        ensures { result ≡ bookWith (recordOf (bookOn h x.now buys.now y.now sells.now)) }
+        ensures { result ≡ book_with (record_of (book_on h x.now buys.now y.now sells.now)) }
     {
         let held = h.held;
         let bought = Side {
@@ -127,7 +127,7 @@ impl Book {
     // ── Sound ──
 
     pub fn is_sound(self) -> bool
-        ensures { result ≡ recordSound (recordIn self) }
+        ensures { result ≡ record_sound (record_in self) }
     {
         let mut buys: Rows = [[0; rows::WORDS]; PLACES];
         let mut sells: Rows = [[0; rows::WORDS]; PLACES];
@@ -140,7 +140,7 @@ impl Book {
     // Refusals 1 and 2, or 0: they are tried before the line is read. The two sides are loaded.
     fn unfit(self, buys: &Rows, sells: &Rows, room: usize) -> u8
         requires { (buys.now ≡ map row_of self.buys.places) × (sells.now ≡ map row_of self.sells.places) }
-        ensures { result ≡ first_of (fitRefusals room (recordSound (recordIn self))) }
+        ensures { result ≡ first_of (fit_refusals room (record_sound (record_in self))) }
     {
         if room < rules::LEAST_ROOM {
             return 1;
@@ -165,10 +165,10 @@ impl Book {
     // A command to a sound book, with room for its lines. It is worked on the two sides that the book is loaded into. What they hold is
     // saved after a refusal too, for it is the book as it came: so no copy of that is alive while the command is worked.
     fn work(self, c: Command, buys: &mut Rows, sells: &mut Rows, out: &mut [u8]) -> Reply
-        requires self_value { (recordSound (recordIn self) ≡ true) × (leastRoom ≤ length out.old) }
+        requires self_value { (record_sound (record_in self) ≡ true) × (least_room ≤ length out.old) }
         requires buys_value { (buys.old ≡ map row_of self.buys.places) × (sells.old ≡ map row_of self.sells.places) }
-        ensures value { result ≡ replyOf (stepOn (recordIn self) (reading.Is c) out.old) }
-        ensures out_after { out.new ≡ (stepOn (recordIn self) (reading.Is c) out.old).out }
+        ensures value { result ≡ reply_of (step_on (record_in self) (reading.Is c) out.old) }
+        ensures out_after { out.new ≡ (step_on (record_in self) (reading.Is c) out.old).out }
     {
         let mut x: Index = [0; rows::INDEX];
         let mut y: Index = [0; rows::INDEX];
@@ -188,8 +188,8 @@ impl Book {
 
     // What was read of a line, whatever the book and the output: the refusals in 01's order, and then the command.
     fn respond(self, reading: Reading, out: &mut [u8]) -> Reply
-        ensures value { result ≡ replyOf (stepOn (recordIn self) reading out.old) }
-        ensures out_after { out.new ≡ (stepOn (recordIn self) reading out.old).out }
+        ensures value { result ≡ reply_of (step_on (record_in self) reading out.old) }
+        ensures out_after { out.new ≡ (step_on (record_in self) reading out.old).out }
     {
         let mut buys: Rows = [[0; rows::WORDS]; PLACES];
         let mut sells: Rows = [[0; rows::WORDS]; PLACES];
@@ -205,36 +205,36 @@ impl Book {
     }
 
     pub fn accept(self, number: Number, time: u32, order: Order, out: &mut [u8]) -> Reply
-        ensures value { result ≡ replyOf (stepOn (recordIn self)
+        ensures value { result ≡ reply_of (step_on (record_in self)
             (reading.Is (record { number = number; time = time; body = body.Order order })) out.old) }
-        ensures out_after { out.new ≡ (stepOn (recordIn self)
+        ensures out_after { out.new ≡ (step_on (record_in self)
             (reading.Is (record { number = number; time = time; body = body.Order order })) out.old).out }
     {
         self.respond(command(number, time, Body::Order(order)), out)
     }
 
     pub fn cancel(self, number: Number, time: u32, of: Number, out: &mut [u8]) -> Reply
-        ensures value { result ≡ replyOf (stepOn (recordIn self)
+        ensures value { result ≡ reply_of (step_on (record_in self)
             (reading.Is (record { number = number; time = time; body = body.Cancel of })) out.old) }
-        ensures out_after { out.new ≡ (stepOn (recordIn self)
+        ensures out_after { out.new ≡ (step_on (record_in self)
             (reading.Is (record { number = number; time = time; body = body.Cancel of })) out.old).out }
     {
         self.respond(command(number, time, Body::Cancel(of)), out)
     }
 
     pub fn quote(self, number: Number, time: u32, away: Away, out: &mut [u8]) -> Reply
-        ensures value { result ≡ replyOf (stepOn (recordIn self)
+        ensures value { result ≡ reply_of (step_on (record_in self)
             (reading.Is (record { number = number; time = time; body = body.Quote away })) out.old) }
-        ensures out_after { out.new ≡ (stepOn (recordIn self)
+        ensures out_after { out.new ≡ (step_on (record_in self)
             (reading.Is (record { number = number; time = time; body = body.Quote away })) out.old).out }
     {
         self.respond(command(number, time, Body::Quote(away)), out)
     }
 
     pub fn close(self, number: Number, time: u32, out: &mut [u8]) -> Reply
-        ensures value { result ≡ replyOf (stepOn (recordIn self) (reading.Is (record { number = number; time = time; body = body.Close }))
+        ensures value { result ≡ reply_of (step_on (record_in self) (reading.Is (record { number = number; time = time; body = body.Close }))
             out.old) }
-        ensures out_after { out.new ≡ (stepOn (recordIn self)
+        ensures out_after { out.new ≡ (step_on (record_in self)
             (reading.Is (record { number = number; time = time; body = body.Close })) out.old).out }
     {
         self.respond(command(number, time, Body::Close), out)
@@ -242,8 +242,8 @@ impl Book {
 
     // The entry: a line of any bytes to any book, with any output.
     pub fn answer(self, line: &[u8], out: &mut [u8]) -> Reply
-        ensures value { result ≡ replyOf (step (recordIn self) line.now out.old) }
-        ensures out_after { out.new ≡ (step (recordIn self) line.now out.old).out }
+        ensures value { result ≡ reply_of (step (record_in self) line.now out.old) }
+        ensures out_after { out.new ≡ (step (record_in self) line.now out.old).out }
     {
         self.respond(reader::read_command(line), out)
     }

@@ -8,31 +8,31 @@ use Rattle.kinds.specs.declared.Shares.{Shares}
 use Rattle.kinds.specs.Kinds.{shares}
 use Rattle.rules.specs.declared.Carried.{Carried}
 use Rattle.rules.specs.declared.Carried.TheVariants.{Nothing, MaxFloor, Minimum}
-use Rattle.rules.specs.CommandLines.{Kind, orderKind, orderForm, orderMade, reserveKind, reserveForm, reserveMade}
-use Rattle.rules.specs.CommandLines.{minimumKind, minimumForm, minimumMade, digitsIn, isEnded}
+use Rattle.rules.specs.CommandLines.{Kind, order_kind, order_form, order_made, reserve_kind, reserve_form, reserve_made}
+use Rattle.rules.specs.CommandLines.{minimum_kind, minimum_form, minimum_made, digits_in, is_ended}
 use Rattle.command_lines.specs.declared.reader.CarriedReading.{CarriedReading}
 use Rattle.command_lines.specs.declared.reader.CarriedReading.TheVariants.{Is, Bad}
 
 -- the kinds of order in the table of kinds
-abbrev pub orderKinds : List Kind
-orderKinds =
-    record { code = orderKind; form = orderForm; make = orderMade }
-    ∷ record { code = reserveKind; form = reserveForm; make = reserveMade }
-    ∷ record { code = minimumKind; form = minimumForm; make = minimumMade }
+abbrev pub order_kinds : List Kind
+order_kinds =
+    record { code = order_kind; form = order_form; make = order_made }
+    ∷ record { code = reserve_kind; form = reserve_form; make = reserve_made }
+    ∷ record { code = minimum_kind; form = minimum_form; make = minimum_made }
     ∷ []
 
 -- what the last number of an order is to it, by its kind
 abbrev pub last_of : ℕ → Shares → Carried
-last_of kind n = if eqb kind reserveKind then MaxFloor n else Minimum n
+last_of kind n = if eqb kind reserve_kind then MaxFloor n else Minimum n
 
 abbrev pub carrying : (Shares → Carried) → Value → CarriedReading
 carrying carry (value.Is n) = Is (carry (shares n))
 carrying carry value.Bad = Bad
 
 -- the Max Floor or the minimum stands behind the fields that every order has, in lines of one form
-unfoldable pub carriedIn : ℕ → List ℕ → CarriedReading
-carriedIn kind s =
-    if eqb kind orderKind then (if isEnded (digitsIn orderForm) s then Is Nothing else Bad)
-    else if eqb kind reserveKind || eqb kind minimumKind then
-    (if isEnded (digitsIn reserveForm) s then carrying (last_of kind) (number_at 4 (digitsIn orderForm) s) else Bad)
+unfoldable pub carried_in : ℕ → List ℕ → CarriedReading
+carried_in kind s =
+    if eqb kind order_kind then (if is_ended (digits_in order_form) s then Is Nothing else Bad)
+    else if eqb kind reserve_kind || eqb kind minimum_kind then
+    (if is_ended (digits_in reserve_form) s then carrying (last_of kind) (number_at 4 (digits_in order_form) s) else Bad)
     else Bad

@@ -7,13 +7,13 @@ use Rattle.rules.specs.CommandLines.{line_of}
 use Rattle.rules.specs.declared.Command.{Command}
 use Rattle.command_lines.specs.declared.writer.Written.{Written}
 
-abbrev pub roomIsShort : Command → ℕ → Bool
-roomIsShort c room = ltb room (length (line_of c))
+abbrev pub room_is_short : Command → ℕ → Bool
+room_is_short c room = ltb room (length (line_of c))
 
-unfoldable pub writtenFor : Command → ℕ → Written
-writtenFor c room =
-    if roomIsShort c room then record { refusal = 1; length = 0 }
+unfoldable pub written_for : Command → ℕ → Written
+written_for c room =
+    if room_is_short c room then record { refusal = 1; length = 0 }
     else record { refusal = 0; length = length (line_of c) }
 
-unfoldable pub bufferOf : Command → List ℕ → List ℕ
-bufferOf c out = if roomIsShort c (length out) then out else onto (line_of c) out
+unfoldable pub buffer_of : Command → List ℕ → List ℕ
+buffer_of c out = if room_is_short c (length out) then out else onto (line_of c) out

@@ -2,10 +2,10 @@
 // line feed is looked for. What is left of a piece of input is moved to the front, for the next piece to go on with.
 ghost use Rattle.std.specs.Prelude.{◌≡◌, ◌≤◌, eqb, length};
 ghost use Rattle.basics.specs.Bytes.{onto};
-ghost use Rattle.basics.specs.Lists.{firstWhere};
-ghost use Rattle.rules.specs.CommandLines.{lineFeed};
-ghost use Rattle.command_lines.specs.Lines.{digitsAfter, firstLine, otherLine};
-ghost use Rattle.command_lines.specs.Pieces.{carried, readBehind};
+ghost use Rattle.basics.specs.Lists.{first_where};
+ghost use Rattle.rules.specs.CommandLines.{line_feed};
+ghost use Rattle.command_lines.specs.Lines.{digits_after, first_line, other_line};
+ghost use Rattle.command_lines.specs.Pieces.{carried, read_behind};
 
 use crate::reader;
 use rules::Reading;
@@ -19,7 +19,7 @@ pub struct Line {
 
 // How many digits a command has whose second digit is `c`.
 fn digits_after(c: u8) -> usize
-    ensures { result ≡ digitsAfter c }
+    ensures { result ≡ digits_after c }
 {
     match c {
         49 => rules::ORDER_DIGITS,
@@ -34,7 +34,7 @@ fn digits_after(c: u8) -> usize
 
 // The place of the first line feed, or the length where there is none.
 pub fn scan_line(s: &[u8]) -> usize
-    ensures { result ≡ firstWhere (λ c. eqb c lineFeed) s.now }
+    ensures { result ≡ first_where (λ c. eqb c line_feed) s.now }
 {
     let mut i = 0;
     while i < s.len() {
@@ -48,7 +48,7 @@ pub fn scan_line(s: &[u8]) -> usize
 
 // The first line, where it is no command.
 fn other_line(s: &[u8]) -> Line
-    ensures { result ≡ otherLine s.now }
+    ensures { result ≡ other_line s.now }
 {
     let n = scan_line(s);
     Line {
@@ -60,7 +60,7 @@ fn other_line(s: &[u8]) -> Line
 // Most lines are commands: the bytes of one are read first, and where they are one, no other byte of them is a line feed. Only a
 // line that is none is looked through for its end.
 pub fn first_line(s: &[u8]) -> Line
-    ensures { result ≡ firstLine s.now }
+    ensures { result ≡ first_line s.now }
 {
     if s.len() < 2 {
         return other_line(s);
@@ -106,7 +106,7 @@ pub enum Read {
 // believed.
 pub fn after_read(got: isize, have: usize, room: usize) -> Read
     requires { have ≤ room }
-    ensures { result ≡ readBehind got have room }
+    ensures { result ≡ read_behind got have room }
 {
     if got < 0 {
         return Read::Failed;

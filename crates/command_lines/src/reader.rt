@@ -1,9 +1,9 @@
 // The reader of command lines, over any bytes (01, Command lines): a line is the header's 18 digits and then the body's, which
 // are read as a part of their own.
 ghost use Rattle.std.specs.Prelude.{◌≡◌, ◌<◌};
-ghost use Rattle.rules.specs.CommandLines.{cancelForm, quoteForm, closeForm, cancelMade, quoteMade, closeMade};
-ghost use Rattle.rules.specs.CommandLines.{isEnded, bodyOfForm, bodyFrom, bodyIn, commandIn};
-ghost use Rattle.command_lines.specs.Reading.{carriedIn, orderKinds};
+ghost use Rattle.rules.specs.CommandLines.{cancel_form, quote_form, close_form, cancel_made, quote_made, close_made};
+ghost use Rattle.rules.specs.CommandLines.{is_ended, body_of_form, body_from, body_in, command_in};
+ghost use Rattle.command_lines.specs.Reading.{carried_in, order_kinds};
 
 use kinds::{Cents, Number, Shares};
 use rules::{Away, Body, BodyReading, Carried, Command, Order, Reading};
@@ -11,7 +11,7 @@ use rules::{Away, Body, BodyReading, Carried, Command, Order, Reading};
 // Whether `n` digits are followed by one line feed, and by no more.
 fn is_ended(s: &[u8], n: usize) -> bool
     requires { n < 64 }
-    ensures { result ≡ isEnded n s.now }
+    ensures { result ≡ is_ended n s.now }
 {
     if s.len() != n + 1 {
         return false;
@@ -29,7 +29,7 @@ enum CarriedReading {
 // What an order of a kind carries behind the fields that every order has: nothing, or after the shares the Max Floor (02, W4) or the
 // minimum (02, W7), which have one form. Bad where the line does not end there, and for any other kind.
 fn read_carried(kind: u32, s: &[u8]) -> CarriedReading
-    ensures { result ≡ carriedIn kind s.now }
+    ensures { result ≡ carried_in kind s.now }
 {
     if kind == 1 {
         if !is_ended(s, rules::ORDER_BODY) {
@@ -55,7 +55,7 @@ fn read_carried(kind: u32, s: &[u8]) -> CarriedReading
 
 // An order, of whichever kind: one function for all, so that it is compiled where it is called.
 fn read_order(kind: u32, s: &[u8]) -> BodyReading
-    ensures { result ≡ bodyFrom orderKinds kind s.now }
+    ensures { result ≡ body_from order_kinds kind s.now }
 {
     let CarriedReading::Is(carried) = read_carried(kind, s) else {
         return BodyReading::Bad;
@@ -77,7 +77,7 @@ fn read_order(kind: u32, s: &[u8]) -> BodyReading
 }
 
 fn read_cancel(s: &[u8]) -> BodyReading
-    ensures { result ≡ bodyOfForm cancelForm cancelMade s.now }
+    ensures { result ≡ body_of_form cancel_form cancel_made s.now }
 {
     if !is_ended(s, rules::CANCEL_BODY) {
         return BodyReading::Bad;
@@ -90,7 +90,7 @@ fn read_cancel(s: &[u8]) -> BodyReading
 }
 
 fn read_quote(s: &[u8]) -> BodyReading
-    ensures { result ≡ bodyOfForm quoteForm quoteMade s.now }
+    ensures { result ≡ body_of_form quote_form quote_made s.now }
 {
     if !is_ended(s, rules::QUOTE_BODY) {
         return BodyReading::Bad;
@@ -107,7 +107,7 @@ fn read_quote(s: &[u8]) -> BodyReading
 }
 
 fn read_close(s: &[u8]) -> BodyReading
-    ensures { result ≡ bodyOfForm closeForm closeMade s.now }
+    ensures { result ≡ body_of_form close_form close_made s.now }
 {
     if !is_ended(s, rules::CLOSE_BODY) {
         return BodyReading::Bad;
@@ -117,7 +117,7 @@ fn read_close(s: &[u8]) -> BodyReading
 
 // The digits after the header, by kind.
 fn read_body(kind: u32, s: &[u8]) -> BodyReading
-    ensures { result ≡ bodyIn kind s.now }
+    ensures { result ≡ body_in kind s.now }
 {
     match kind {
         2 => read_cancel(s),
@@ -129,7 +129,7 @@ fn read_body(kind: u32, s: &[u8]) -> BodyReading
 
 // The command that a line is, or that it is not one of the forms. The line from digit 18 on is handed to the body's reader.
 pub fn read_command(s: &[u8]) -> Reading
-    ensures { result ≡ commandIn s.now }
+    ensures { result ≡ command_in s.now }
 {
     if s.len() < rules::HEADER {
         return Reading::Bad;

@@ -2,16 +2,16 @@
 // digits and then the body's, which are written as a part of their own.
 ghost use Rattle.std.specs.Prelude.{◌≡◌, [], ◌∷◌, ◌≤◌, ◌<◌, length};
 ghost use Rattle.basics.specs.Bytes.{onto};
-ghost use Rattle.rules.specs.CommandLines.{Fitting, headerForm, quoteForm, cancelForm, orderKindOf, orderFormOf, kind_of, form_of, numbersOf};
-ghost use Rattle.rules.specs.CommandLines.{digitsIn, written, line, commandIn, line_of};
+ghost use Rattle.rules.specs.CommandLines.{Fitting, header_form, quote_form, cancel_form, order_kind_of, order_form_of, kind_of, form_of, numbers_of};
+ghost use Rattle.rules.specs.CommandLines.{digits_in, written, line, command_in, line_of};
 ghost use Rattle.rules.specs.declared.Body.TheVariants as body;
-ghost use Rattle.command_lines.specs.Writing.{writtenFor, bufferOf};
+ghost use Rattle.command_lines.specs.Writing.{written_for, buffer_of};
 
 use kinds::Number;
 use rules::{Away, Body, Carried, Command, Order, Reading};
 
 fn order_kind(carried: Carried) -> u8
-    ensures { result ≡ orderKindOf carried }
+    ensures { result ≡ order_kind_of carried }
 {
     match carried {
         Carried::Nothing => 1,
@@ -36,8 +36,8 @@ fn kind_of(body: Body) -> u8
 
 // How many digits the body of an order has, by what it carries; its fields fit theirs.
 fn order_digits(order: Order) -> usize
-    ensures value { result ≡ digitsIn (orderFormOf order.carried) }
-    ensures fitting { Fitting (form_of (body.Order order)) (numbersOf (body.Order order)) }
+    ensures value { result ≡ digits_in (order_form_of order.carried) }
+    ensures fitting { Fitting (form_of (body.Order order)) (numbers_of (body.Order order)) }
 {
     let carried = order.carried;
     match carried {
@@ -49,8 +49,8 @@ fn order_digits(order: Order) -> usize
 
 // How many digits the body has. That each of its fields fits the digits it is given follows from the fields' types.
 fn digits_in(body: Body) -> usize
-    ensures value { result ≡ digitsIn (form_of body) }
-    ensures fitting { Fitting (form_of body) (numbersOf body) }
+    ensures value { result ≡ digits_in (form_of body) }
+    ensures fitting { Fitting (form_of body) (numbers_of body) }
 {
     match body {
         Body::Order(order) => order_digits(order),
@@ -61,8 +61,8 @@ fn digits_in(body: Body) -> usize
 }
 
 fn write_header(out: &mut [u8], kind: u8, number: Number, time: u32)
-    requires { digitsIn headerForm ≤ length out.old }
-    ensures { out.new ≡ onto (written headerForm (kind ∷ number.0 ∷ time ∷ [])) out.old }
+    requires { digits_in header_form ≤ length out.old }
+    ensures { out.new ≡ onto (written header_form (kind ∷ number.0 ∷ time ∷ [])) out.old }
 {
     digits::write_one(out, 0, kind);
     digits::write_four(out, 2, number.0);
@@ -70,8 +70,8 @@ fn write_header(out: &mut [u8], kind: u8, number: Number, time: u32)
 }
 
 fn write_order(out: &mut [u8], order: Order)
-    requires { digitsIn (orderFormOf order.carried) < length out.old }
-    ensures { out.new ≡ onto (line (form_of (body.Order order)) (numbersOf (body.Order order))) out.old }
+    requires { digits_in (order_form_of order.carried) < length out.old }
+    ensures { out.new ≡ onto (line (form_of (body.Order order)) (numbers_of (body.Order order))) out.old }
 {
     digits::write_one(out, 0, order.side);
     digits::write_two(out, 2, order.word);
@@ -94,16 +94,16 @@ fn write_order(out: &mut [u8], order: Order)
 }
 
 fn write_cancel(out: &mut [u8], number: Number)
-    requires { digitsIn cancelForm < length out.old }
-    ensures { out.new ≡ onto (line (form_of (body.Cancel number)) (numbersOf (body.Cancel number))) out.old }
+    requires { digits_in cancel_form < length out.old }
+    ensures { out.new ≡ onto (line (form_of (body.Cancel number)) (numbers_of (body.Cancel number))) out.old }
 {
     digits::write_four(out, 0, number.0);
     out[rules::CANCEL_BODY] = 10;
 }
 
 fn write_quote(out: &mut [u8], away: Away)
-    requires { digitsIn quoteForm < length out.old }
-    ensures { out.new ≡ onto (line (form_of (body.Quote away)) (numbersOf (body.Quote away))) out.old }
+    requires { digits_in quote_form < length out.old }
+    ensures { out.new ≡ onto (line (form_of (body.Quote away)) (numbers_of (body.Quote away))) out.old }
 {
     digits::write_four(out, 0, away.bid.0);
     digits::write_four(out, 8, away.offer.0);
@@ -112,8 +112,8 @@ fn write_quote(out: &mut [u8], away: Away)
 
 // The body and the line feed that ends the line.
 fn write_body(out: &mut [u8], body: Body)
-    requires { digitsIn (form_of body) < length out.old }
-    ensures { out.new ≡ onto (line (form_of body) (numbersOf body)) out.old }
+    requires { digits_in (form_of body) < length out.old }
+    ensures { out.new ≡ onto (line (form_of body) (numbers_of body)) out.old }
 {
     match body {
         Body::Order(order) => write_order(out, order),
@@ -135,9 +135,9 @@ pub struct Written {
 // Writes the line of any command to the front of `out`, or refuses with 1 and writes nothing where the room is short.
 // Whatever the command's fields, its line reads back as that very command.
 pub fn write_command(c: Command, out: &mut [u8]) -> Written
-    ensures value { result ≡ writtenFor c (length out.old) }
-    ensures out_after { out.new ≡ bufferOf c out.old }
-    ensures c_value { commandIn (line_of c) ≡ Reading.Is c }
+    ensures value { result ≡ written_for c (length out.old) }
+    ensures out_after { out.new ≡ buffer_of c out.old }
+    ensures c_value { command_in (line_of c) ≡ Reading.Is c }
 {
     let body = c.body;
     let length = rules::HEADER + digits_in(body) + 1;

@@ -3,12 +3,12 @@
 use mathlib.Core.Path.{◌≡◌}
 use Rattle.side.specs.Table.{side}
 use Rattle.side.specs.declared.tables.Step.{Step}
-use Rattle.side.proofs.tables.LawsAnswers.{left-determined}
+use Rattle.side.proofs.tables.LawsAnswers.{left_determined}
 use Rattle.commands.proofs.apply.Reads as apply
 
-pub apply-determined : (κs : _) (a : _) (r r' : Step) (s s' : _) → apply.Post κs a r s → apply.Post κs a r' s'
+pub apply_determined : (κs : _) (a : _) (r r' : Step) (s s' : _) → apply.Post κs a r s → apply.Post κs a r' s'
     → (r ≡ r')
     × (side r.head.buys s.1.1.0.now s.1.1.1.0.now ≡ side r.head.buys s'.1.1.0.now s'.1.1.1.0.now)
     × (side r.head.sells s.1.1.1.1.0.now s.1.1.1.1.1.0.now ≡ side r.head.sells s'.1.1.1.1.0.now s'.1.1.1.1.1.0.now)
     × (s.1.1.1.1.1.1.1.0.now ≡ s'.1.1.1.1.1.1.1.0.now)
-apply-determined κs a r r' s s' p q = left-determined _ _ p q
+apply_determined κs a r r' s s' p q = left_determined _ _ p q

@@ -4,35 +4,35 @@ use mathlib.Core.List.{List, [], ◌∷◌, ◌++◌, map}
 use mathlib.Core.Path.{◌≡◌, refl, ap, ◌∙◌}
 use Rattle.basics.specs.Lists.{gathered}
 use Rattle.kinds.specs.declared.Number.{Number}
-use Rattle.orders.specs.Reports.{cancelledFor}
+use Rattle.orders.specs.Reports.{cancelled_for}
 use Rattle.rules.specs.declared.Body.TheVariants as body
 use Rattle.rules.specs.declared.Event.{Event}
 use Rattle.rules.specs.declared.Resting.{Resting}
 use Rattle.rules.specs.Book.{Book}
-use Rattle.rules.specs.Commands.{withAccepted, shut, closeFate}
-use Rattle.rules.specs.EventLines.{atClose}
-use Rattle.rules.specs.Refusals.{first_of, bodyRefusals}
+use Rattle.rules.specs.Commands.{with_accepted, shut, close_fate}
+use Rattle.rules.specs.EventLines.{at_close}
+use Rattle.rules.specs.Refusals.{first_of, body_refusals}
 use Rattle.rules.specs.Settling.{Done, told}
-use Rattle.rules.proofs.LawsCommands.{close-does}
-use Rattle.side.specs.Answers.{bodyAnswer}
-use Rattle.side.proofs.tables.LawsAnswers.{body-done, doneWith}
+use Rattle.rules.proofs.LawsCommands.{close_does}
+use Rattle.side.specs.Answers.{body_answer}
+use Rattle.side.proofs.tables.LawsAnswers.{body_done, done_with}
 
 -- every order is told of
-told-all : (s : List Resting) → told closeFate s ≡ map (cancelledFor atClose) s
+told_all : (s : List Resting) → told close_fate s ≡ map (cancelled_for at_close) s
 unfolding told gathered
-told-all [] = refl
-told-all (h ∷ s) = ap (λ (es : List Event). cancelledFor atClose h ∷ es) (told-all s)
+told_all [] = refl
+told_all (h ∷ s) = ap (λ (es : List Event). cancelled_for at_close h ∷ es) (told_all s)
 
 -- what is done: both sides are empty
-abbrev pub closedAll : Number → ℕ → Book → Done
-closedAll n time b = record {
-  book = record { held = shut (withAccepted n time b.held); buys = []; sells = [] };
-  events = map (cancelledFor atClose) b.buys ++ map (cancelledFor atClose) b.sells;
+abbrev pub closed_all : Number → ℕ → Book → Done
+closed_all n time b = record {
+  book = record { held = shut (with_accepted n time b.held); buys = []; sells = [] };
+  events = map (cancelled_for at_close) b.buys ++ map (cancelled_for at_close) b.sells;
   moves = 0;
 }
 
-pub closed_is : (n : Number) (time : ℕ) (b : Book) → bodyAnswer n time body.Close b ≡ doneWith (closedAll n time b)
-unfolding first_of bodyRefusals
+pub closed_is : (n : Number) (time : ℕ) (b : Book) → body_answer n time body.Close b ≡ done_with (closed_all n time b)
+unfolding first_of body_refusals
 closed_is n time b =
-    let does = close-does n time b in
-    body-done n time body.Close b refl ∙ rw (does.0, does.1, told-all b.buys, told-all b.sells)
+    let does = close_does n time b in
+    body_done n time body.Close b refl ∙ rw (does.0, does.1, told_all b.buys, told_all b.sells)

@@ -2,17 +2,17 @@
 // among the sells.
 ghost use Rattle.std.specs.Prelude.{true, ◌≡◌, ◌≤◌, ◌<◌, length, ◌++◌};
 ghost use Rattle.basics.specs.Bytes.{onto};
-ghost use Rattle.basics.specs.Lists.{distinct, removeAt, All};
+ghost use Rattle.basics.specs.Lists.{distinct, remove_at, All};
 ghost use Rattle.side.specs.Shifts.{Countable};
 ghost use Rattle.side.specs.Table.{side, Holds, Shows};
 ghost use Rattle.rules.specs.Book.{numbers};
-ghost use Rattle.rules.specs.EventLines.{eventLine};
-ghost use Rattle.rules.specs.Refusals.{leastRoom};
-ghost use Rattle.rules.specs.Commands.{withAccepted};
+ghost use Rattle.rules.specs.EventLines.{event_line};
+ghost use Rattle.rules.specs.Refusals.{least_room};
+ghost use Rattle.rules.specs.Commands.{with_accepted};
 ghost use Rattle.rules.specs.declared.Body.TheVariants as body;
-ghost use Rattle.side.specs.Answers.{bodyAnswer, Left, Stands};
-ghost use Rattle.side.specs.Tables.{bookOn};
-ghost use Rattle.commands.specs.Cancels.{whereIs, offLine};
+ghost use Rattle.side.specs.Answers.{body_answer, Left, Stands};
+ghost use Rattle.side.specs.Tables.{book_on};
+ghost use Rattle.commands.specs.Cancels.{where_is, off_line};
 
 use event_lines::writer;
 use kinds::Number;
@@ -32,7 +32,7 @@ pub enum Found {
 // The order of a number, where it is searched: among the buys, and then among the sells.
 fn search(x: &Index, buys: &Rows, n: usize, y: &Index, sells: &Rows, m: usize, of: Number) -> Found
     requires { Holds n x.now buys.now × Holds m y.now sells.now }
-    ensures { result ≡ whereIs of (side n x.now buys.now) (side m y.now sells.now) }
+    ensures { result ≡ where_is of (side n x.now buys.now) (side m y.now sells.now) }
 {
     let at = side::find(x, buys, n, of);
     if at < n {
@@ -49,7 +49,7 @@ fn search(x: &Index, buys: &Rows, n: usize, y: &Index, sells: &Rows, m: usize, o
 fn seek(x: &Index, buys: &Rows, n: usize, y: &Index, sells: &Rows, m: usize, of: Number) -> Found
     requires { Holds n x.now buys.now × Holds m y.now sells.now
         × (distinct (numbers (side n x.now buys.now ++ side m y.now sells.now)) ≡ true) }
-    ensures { result ≡ whereIs of (side n x.now buys.now) (side m y.now sells.now) }
+    ensures { result ≡ where_is of (side n x.now buys.now) (side m y.now sells.now) }
 {
     let at = side::follow_hint(x, buys, n, of);
     if at < n {
@@ -64,10 +64,10 @@ fn seek(x: &Index, buys: &Rows, n: usize, y: &Index, sells: &Rows, m: usize, of:
 
 // Takes the order at a rank off its side and writes its line; the length of the line.
 fn take_off(x: &mut Index, t: &Rows, n: usize, at: usize, out: &mut [u8]) -> usize
-    requires { Holds n x.old t.now × (at < n) × (leastRoom ≤ length out.old) × All Countable (side n x.old t.now) }
-    ensures value { result ≡ length (eventLine (offLine at (side n x.old t.now))) }
-    ensures shows { Shows (removeAt at (side n x.old t.now)) x.new t.now }
-    ensures out_after { out.new ≡ onto (eventLine (offLine at (side n x.old t.now))) out.old }
+    requires { Holds n x.old t.now × (at < n) × (least_room ≤ length out.old) × All Countable (side n x.old t.now) }
+    ensures value { result ≡ length (event_line (off_line at (side n x.old t.now))) }
+    ensures shows { Shows (remove_at at (side n x.old t.now)) x.new t.now }
+    ensures out_after { out.new ≡ onto (event_line (off_line at (side n x.old t.now))) out.old }
 {
     let o = rows::at(x, t, n, at);
     let left = rows::shares_left(o);
@@ -79,7 +79,7 @@ fn take_off(x: &mut Index, t: &Rows, n: usize, at: usize, out: &mut [u8]) -> usi
 fn leave(h: Head, number: Number, time: u32, buys: usize, sells: usize, len: usize) -> Step
     ensures { result ≡ record {
       refusal = 0;
-      head = record { held = withAccepted number time h.held; buys = buys; sells = sells };
+      head = record { held = with_accepted number time h.held; buys = buys; sells = sells };
       length = len;
     } }
 {
@@ -112,9 +112,9 @@ pub(crate) fn cancel(
     sells: &Rows,
     out: &mut [u8],
 ) -> Step
-    requires { Stands h x.old buys.now y.old sells.now × (leastRoom ≤ length out.old) }
+    requires { Stands h x.old buys.now y.old sells.now × (least_room ≤ length out.old) }
     ensures { Left result x.new buys.now y.new sells.now out.new out.old
-        (bodyAnswer number time (body.Cancel of) (bookOn h x.old buys.now y.old sells.now)) }
+        (body_answer number time (body.Cancel of) (book_on h x.old buys.now y.old sells.now)) }
 {
     let n = h.buys;
     let m = h.sells;

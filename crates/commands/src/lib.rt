@@ -3,10 +3,10 @@
 mod cancels;
 
 ghost use Rattle.std.specs.Prelude.{◌≤◌, length};
-ghost use Rattle.rules.specs.Refusals.{leastRoom};
+ghost use Rattle.rules.specs.Refusals.{least_room};
 ghost use Rattle.rules.specs.declared.Body.TheVariants as body;
-ghost use Rattle.side.specs.Answers.{answer_of, bodyAnswer, Left, Stands};
-ghost use Rattle.side.specs.Tables.{bookOn};
+ghost use Rattle.side.specs.Answers.{answer_of, body_answer, Left, Stands};
+ghost use Rattle.side.specs.Tables.{book_on};
 
 use kinds::Number;
 use orders::reports;
@@ -28,9 +28,9 @@ fn close(
     sells: &Rows,
     out: &mut [u8],
 ) -> Step
-    requires { Stands h x.now buys.now y.now sells.now × (leastRoom ≤ length out.old) }
+    requires { Stands h x.now buys.now y.now sells.now × (least_room ≤ length out.old) }
     ensures { Left result x.now buys.now y.now sells.now out.new out.old
-        (bodyAnswer number time body.Close (bookOn h x.now buys.now y.now sells.now)) }
+        (body_answer number time body.Close (book_on h x.now buys.now y.now sells.now)) }
 {
     let n = h.buys;
     let m = h.sells;
@@ -67,9 +67,9 @@ pub fn apply(
     took: &mut Takings,
     out: &mut [u8],
 ) -> Step
-    requires { Stands h x.old buys.old y.old sells.old × (leastRoom ≤ length out.old) }
+    requires { Stands h x.old buys.old y.old sells.old × (least_room ≤ length out.old) }
     ensures { Left result x.new buys.new y.new sells.new out.new out.old
-        (answer_of c (bookOn h x.old buys.old y.old sells.old)) }
+        (answer_of c (book_on h x.old buys.old y.old sells.old)) }
 {
     let number = c.number;
     let time = c.time;

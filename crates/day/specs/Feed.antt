@@ -6,8 +6,8 @@ use Rattle.side.specs.Table.{Shows}
 use Rattle.rules.specs.declared.Reading.{Reading}
 use Rattle.rules.specs.Book.{Book}
 use Rattle.rules.specs.Day.{cut, printed}
-use Rattle.rules.specs.Refusals.{leastRoom, refusals, first_of}
-use Rattle.rules.specs.Step.{Answer, answer, answerTo}
+use Rattle.rules.specs.Refusals.{least_room, refusals, first_of}
+use Rattle.rules.specs.Step.{Answer, answer, answer_to}
 use Rattle.side.specs.Answers.{Stands}
 use Rattle.side.specs.Tables.{head_of}
 use Rattle.day.specs.declared.replay.Fed.{Fed}
@@ -19,39 +19,39 @@ pub record Worked : Type 0 where
   pub length : ℕ
   pub printed : List ℕ
 
-abbrev pub nothingOf : Book → Worked
-nothingOf b = record { book = b; length = 0; printed = [] }
+abbrev pub nothing_of : Book → Worked
+nothing_of b = record { book = b; length = 0; printed = [] }
 
 -- a line and what it prints, in front of what is worked after it
 abbrev pub behind : List ℕ → List ℕ → Worked → Worked
 behind line lines w = record { book = w.book; length = length line + w.length; printed = lines ++ w.printed }
 
 unfoldable pub worked : ℕ → Book → List (List ℕ) → Worked
-worked room b [] = nothingOf b
+worked room b [] = nothing_of b
 worked room b (l ∷ ls) =
-    if ltb room leastRoom then nothingOf b
-    else behind l (printed (answerTo b l)) (worked (room - length (printed (answerTo b l))) (answerTo b l).book ls)
+    if ltb room least_room then nothing_of b
+    else behind l (printed (answer_to b l)) (worked (room - length (printed (answer_to b l))) (answer_to b l).book ls)
 
 -- the answer of a sound book, with room for its lines, to what a line reads as
-abbrev pub answerFor : Book → Reading → Answer
-answerFor b r = answer (first_of (refusals leastRoom true b r)) r b
+abbrev pub answer_for : Book → Reading → Answer
+answer_for b r = answer (first_of (refusals least_room true b r)) r b
 
 -- the same in a header and numbers
-abbrev pub printedStep : Answer → Printed
-printedStep a = record { head = head_of a.book; length = length (printed a) }
+abbrev pub printed_step : Answer → Printed
+printed_step a = record { head = head_of a.book; length = length (printed a) }
 
-abbrev pub fedBy : Worked → Fed
-fedBy w = record { head = head_of w.book; at = w.length; length = length w.printed }
+abbrev pub fed_by : Worked → Fed
+fed_by w = record { head = head_of w.book; at = w.length; length = length w.printed }
 
 -- what a line that reads so leaves of a sound book in a header and two sides that are lent, and of the output
 abbrev pub Prints : Book → Reading → List ℕ → Printed → List ℕ → List (List ℕ) → List ℕ → List (List ℕ) → List ℕ → Type 0
 Prints b reading out r x t y u out' =
-    let a = answerFor b reading in
-    (r ≡ printedStep a) × (Shows a.book.buys x t × (Shows a.book.sells y u × (out' ≡ onto (printed a) out)))
+    let a = answer_for b reading in
+    (r ≡ printed_step a) × (Shows a.book.buys x t × (Shows a.book.sells y u × (out' ≡ onto (printed a) out)))
 
 -- what the whole lines of an input leave of it: the book is sound again, and so much of the input and of the output was used
 abbrev pub Feeds : Book → List ℕ → List ℕ → Fed → List ℕ → List (List ℕ) → List ℕ → List (List ℕ) → List ℕ → Type 0
 Feeds b input out r x t y u out' =
     let w = worked (length out) b (cut input).whole in
-    (r ≡ fedBy w) × (Shows w.book.buys x t × (Shows w.book.sells y u × ((out' ≡ onto w.printed out)
+    (r ≡ fed_by w) × (Shows w.book.buys x t × (Shows w.book.sells y u × ((out' ≡ onto w.printed out)
     × (((r.at ≤ length input) × (r.length ≤ length out)) × Stands r.head x t y u))))

@@ -5,12 +5,12 @@
 use Rattle.std.specs.Prelude.{ℕ, ◌-◌, ◌≤◌, Bool, true, false, not, List, [], ◌∷◌, ◌++◌, ◌≡◌, ltb, length, take, drop}
 use Rattle.basics.specs.Bytes.{onto}
 use Rattle.basics.specs.Choice.{if◌then◌else◌}
-use Rattle.command_lines.specs.Pieces.{partKept}
+use Rattle.command_lines.specs.Pieces.{part_kept}
 use Rattle.rules.specs.Day.{cut}
 use Rattle.day.specs.Feed.{worked}
-use Rattle.day.specs.Pieces.{printedAtEnd}
+use Rattle.day.specs.Pieces.{printed_at_end}
 use Rattle.rules.specs.Book.{Book, fresh}
-use Rattle.rules.specs.Refusals.{leastRoom}
+use Rattle.rules.specs.Refusals.{least_room}
 use Rattle.side.specs.Table.{Shows}
 use Rattle.side.specs.Answers.{Stands}
 use Rattle.side.specs.Tables.{head_of}
@@ -29,12 +29,12 @@ unfoldable pub turned : ℕ → Book → List ℕ → Turned
 turned room b waits =
     let w = worked room b (cut waits).whole in
     let left = drop w.length waits in
-    let isShort = ltb (room - length w.printed) leastRoom in
+    let is_short = ltb (room - length w.printed) least_room in
     record {
       book = w.book;
-      waits = if isShort then left else take partKept left;
+      waits = if is_short then left else take part_kept left;
       printed = w.printed;
-      reads = not isShort;
+      reads = not is_short;
     }
 
 -- the same in a header and numbers, as the code hands it back
@@ -52,19 +52,19 @@ Takes b input have out r input' x t y u out' =
 -- that it hands to `write`, one after the other
 pub data Runs (room : ℕ) : Book → List ℕ → List (List ℕ) → List ℕ → Type 0 where
   -- it does not read: the next turn goes on with what waits
-  goesOn : {b : Book} {waits : List ℕ} {pieces : List (List ℕ)} {handed : List ℕ}
+  goes_on : {b : Book} {waits : List ℕ} {pieces : List (List ℕ)} {handed : List ℕ}
       → (turned room b waits).reads ≡ false
       → Runs room (turned room b waits).book (turned room b waits).waits pieces handed
       → Runs room b waits pieces ((turned room b waits).printed ++ handed)
   -- it reads a piece behind what waits
-  readsOn : {b : Book} {waits piece : List ℕ} {pieces : List (List ℕ)} {handed : List ℕ}
+  reads_on : {b : Book} {waits piece : List ℕ} {pieces : List (List ℕ)} {handed : List ℕ}
       → (turned room b waits).reads ≡ true
       → Runs room (turned room b waits).book ((turned room b waits).waits ++ piece) pieces handed
       → Runs room b waits (piece ∷ pieces) ((turned room b waits).printed ++ handed)
   -- it reads, and the input has ended: a part of a line that waits is refused
   ends : {b : Book} {waits : List ℕ}
       → (turned room b waits).reads ≡ true
-      → Runs room b waits [] ((turned room b waits).printed ++ printedAtEnd (turned room b waits).waits)
+      → Runs room b waits [] ((turned room b waits).printed ++ printed_at_end (turned room b waits).waits)
 
 -- the turns of the program over a whole input, from a fresh book
 pub record Ran (room : ℕ) (pieces : List (List ℕ)) : Type 0 where
@@ -78,16 +78,16 @@ pub data Stops (room : ℕ) : Book → List ℕ → List (List ℕ) → List ℕ
   stops : {b : Book} {waits : List ℕ} {pieces : List (List ℕ)} (wrote : ℕ)
       → Stops room b waits pieces (take wrote (turned room b waits).printed)
   -- the input has ended: of what is printed of a part that waits, so many bytes are written
-  stopsAtEnd : {b : Book} {waits : List ℕ}
+  stops_at_end : {b : Book} {waits : List ℕ}
       → (turned room b waits).reads ≡ true
       → (wrote : ℕ)
-      → Stops room b waits [] ((turned room b waits).printed ++ take wrote (printedAtEnd (turned room b waits).waits))
+      → Stops room b waits [] ((turned room b waits).printed ++ take wrote (printed_at_end (turned room b waits).waits))
   -- it does not read, or it reads a piece, and stops later
-  goesOnTo : {b : Book} {waits : List ℕ} {pieces : List (List ℕ)} {written : List ℕ}
+  goes_on_to : {b : Book} {waits : List ℕ} {pieces : List (List ℕ)} {written : List ℕ}
       → (turned room b waits).reads ≡ false
       → Stops room (turned room b waits).book (turned room b waits).waits pieces written
       → Stops room b waits pieces ((turned room b waits).printed ++ written)
-  readsOnTo : {b : Book} {waits piece : List ℕ} {pieces : List (List ℕ)} {written : List ℕ}
+  reads_on_to : {b : Book} {waits piece : List ℕ} {pieces : List (List ℕ)} {written : List ℕ}
       → (turned room b waits).reads ≡ true
       → Stops room (turned room b waits).book ((turned room b waits).waits ++ piece) pieces written
       → Stops room b waits (piece ∷ pieces) ((turned room b waits).printed ++ written)

@@ -2,10 +2,10 @@
 // reads, calls these and writes what they hand over is the program itself.
 ghost use Rattle.std.specs.Prelude.{◌≡◌, ◌≤◌, length};
 ghost use Rattle.basics.specs.Bytes.{onto};
-ghost use Rattle.day.specs.Pieces.{printedAtEnd};
-ghost use Rattle.rules.specs.Refusals.{leastRoom};
+ghost use Rattle.day.specs.Pieces.{printed_at_end};
+ghost use Rattle.rules.specs.Refusals.{least_room};
 ghost use Rattle.side.specs.Answers.{Stands};
-ghost use Rattle.side.specs.Tables.{bookOn};
+ghost use Rattle.side.specs.Tables.{book_on};
 ghost use Rattle.day.specs.Turns.{Takes};
 
 use crate::replay;
@@ -37,8 +37,8 @@ pub fn take_turn(
     took: &mut Takings,
     out: &mut [u8],
 ) -> Turn
-    requires { Stands h x.old buys.old y.old sells.old × (have ≤ length input.old) × (leastRoom ≤ length out.old) }
-    ensures { Takes (bookOn h x.old buys.old y.old sells.old) input.old
+    requires { Stands h x.old buys.old y.old sells.old × (have ≤ length input.old) × (least_room ≤ length out.old) }
+    ensures { Takes (book_on h x.old buys.old y.old sells.old) input.old
         have out.old result
         input.new x.new buys.new y.new sells.new out.new }
 {
@@ -63,8 +63,8 @@ pub fn take_turn(
 // The end of the input: a part of a line that waits has no line feed, and is refused; how many bytes of the output are to be written.
 pub fn finish(part: &[u8], out: &mut [u8]) -> usize
     requires { 5 ≤ length out.old }
-    ensures value { result ≡ length (printedAtEnd part.now) }
-    ensures out_after { out.new ≡ onto (printedAtEnd part.now) out.old }
+    ensures value { result ≡ length (printed_at_end part.now) }
+    ensures out_after { out.new ≡ onto (printed_at_end part.now) out.old }
 {
     if part.len() == 0 {
         return 0;

@@ -2,9 +2,9 @@
 // and two sides that are lent from the first line to the last: nothing of it is copied or tested between two lines.
 ghost use Rattle.std.specs.Prelude.{◌≡◌, ◌≤◌, length};
 ghost use Rattle.rules.specs.Book.{fresh};
-ghost use Rattle.rules.specs.Refusals.{leastRoom};
+ghost use Rattle.rules.specs.Refusals.{least_room};
 ghost use Rattle.side.specs.Answers.{Stands};
-ghost use Rattle.side.specs.Tables.{bookOn, head_of};
+ghost use Rattle.side.specs.Tables.{book_on, head_of};
 ghost use Rattle.day.specs.Feed.{Prints, Feeds};
 
 use command_lines::lines;
@@ -64,8 +64,8 @@ fn print_line(
     took: &mut Takings,
     out: &mut [u8],
 ) -> Printed
-    requires { Stands h x.old buys.old y.old sells.old × (leastRoom ≤ length out.old) }
-    ensures { Prints (bookOn h x.old buys.old y.old sells.old) reading
+    requires { Stands h x.old buys.old y.old sells.old × (least_room ≤ length out.old) }
+    ensures { Prints (book_on h x.old buys.old y.old sells.old) reading
         out.old result
         x.new buys.new y.new sells.new out.new }
 {
@@ -105,7 +105,7 @@ pub fn feed(
     out: &mut [u8],
 ) -> Fed
     requires { Stands h x.old buys.old y.old sells.old }
-    ensures { Feeds (bookOn h x.old buys.old y.old sells.old) input.now
+    ensures { Feeds (book_on h x.old buys.old y.old sells.old) input.now
         out.old result
         x.new buys.new y.new sells.new out.new }
 {

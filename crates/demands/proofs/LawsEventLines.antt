@@ -5,39 +5,39 @@ use mathlib.Core.List.{List, [], ◌∷◌, ◌++◌, append_assoc}
 use mathlib.Core.Path.{◌≡◌, refl, ap, ◌∙◌}
 use Rattle.basics.specs.Lists.{All, none, also}
 use Rattle.rules.specs.declared.Event.{Event}
-use Rattle.rules.specs.CommandLines.{written, line, lineFeed}
-use Rattle.rules.specs.Day.{linesIn}
-use Rattle.rules.specs.EventLines.{FitsEvent, eventForm, eventNumbers, eventLine, eventLines, refusalKind, refusalForm, refusalLine}
-use Rattle.rules.specs.EventReading.{eventIn}
-use Rattle.rules.proofs.LawsDay.{first-line}
-use Rattle.rules.proofs.LawsEventReading.{eventIn-eventLine, eventIn-refusalLine}
-use Rattle.rules.proofs.LawsUnended.{written-unended}
-use Rattle.demands.specs.Told.{readAs, eventsOn, eventsIn}
+use Rattle.rules.specs.CommandLines.{written, line, line_feed}
+use Rattle.rules.specs.Day.{lines_in}
+use Rattle.rules.specs.EventLines.{FitsEvent, event_form, event_numbers, event_line, event_lines, refusal_kind, refusal_form, refusal_line}
+use Rattle.rules.specs.EventReading.{event_in}
+use Rattle.rules.proofs.LawsDay.{first_line_lem}
+use Rattle.rules.proofs.LawsEventReading.{event_in_event_line, event_in_refusal_line}
+use Rattle.rules.proofs.LawsUnended.{written_unended}
+use Rattle.demands.specs.Told.{read_as, events_on, events_in}
 
 -- ── Lines one after the other ──
 
 -- a line ends at its own line feed, for its digits hold none: so the line of a form is the first of the lines that it begins
-pub line_first : (form ns rest : List ℕ) → linesIn (line form ns ++ rest) ≡ line form ns ∷ linesIn rest
-line_first form ns rest = ap linesIn (append_assoc (written form ns) (lineFeed ∷ []) rest) ∙ first-line rest (written-unended form ns)
+pub line_first : (form ns rest : List ℕ) → lines_in (line form ns ++ rest) ≡ line form ns ∷ lines_in rest
+line_first form ns rest = ap lines_in (append_assoc (written form ns) (line_feed ∷ []) rest) ∙ first_line_lem rest (written_unended form ns)
 
 -- .. and is read by itself, and then what follows is
-line_read : (form ns rest : List ℕ) → eventsIn (line form ns ++ rest) ≡ readAs (eventIn (line form ns)) ++ eventsIn rest
-unfolding eventsOn
-line_read form ns rest = ap eventsOn (line_first form ns rest)
+line_read : (form ns rest : List ℕ) → events_in (line form ns ++ rest) ≡ read_as (event_in (line form ns)) ++ events_in rest
+unfolding events_on
+line_read form ns rest = ap events_on (line_first form ns rest)
 
-pub event-line-read : (e : Event) (rest : List ℕ) → eventsIn (eventLine e ++ rest) ≡ readAs (eventIn (eventLine e)) ++ eventsIn rest
-unfolding eventLine
-event-line-read e rest = line_read (eventForm e) (eventNumbers e) rest
+pub event_line_read : (e : Event) (rest : List ℕ) → events_in (event_line e ++ rest) ≡ read_as (event_in (event_line e)) ++ events_in rest
+unfolding event_line
+event_line_read e rest = line_read (event_form e) (event_numbers e) rest
 
 -- event lines tell their events, and then what follows is read
-pub events-read : {es : List Event} (rest : List ℕ) → All FitsEvent es → eventsIn (eventLines es ++ rest) ≡ es ++ eventsIn rest
-unfolding eventLines
-events-read rest none = refl
-events-read rest (also {x = e} {s = es} f a) =
-    ap eventsIn (append_assoc (eventLine e) (eventLines es) rest)
-    ∙ rw (event-line-read e (eventLines es ++ rest), eventIn-eventLine e f, events-read rest a) refl
+pub events_read : {es : List Event} (rest : List ℕ) → All FitsEvent es → events_in (event_lines es ++ rest) ≡ es ++ events_in rest
+unfolding event_lines
+events_read rest none = refl
+events_read rest (also {x = e} {s = es} f a) =
+    ap events_in (append_assoc (event_line e) (event_lines es) rest)
+    ∙ rw (event_line_read e (event_lines es ++ rest), event_in_event_line e f, events_read rest a) refl
 
 -- the line of a refusal tells nothing, and then what follows is read
-pub refusal-read : (k : ℕ) (rest : List ℕ) → eventsIn (refusalLine k ++ rest) ≡ eventsIn rest
-unfolding refusalLine
-refusal-read k rest = rw (line_read refusalForm (refusalKind ∷ k ∷ []) rest, eventIn-refusalLine k) refl
+pub refusal_read : (k : ℕ) (rest : List ℕ) → events_in (refusal_line k ++ rest) ≡ events_in rest
+unfolding refusal_line
+refusal_read k rest = rw (line_read refusal_form (refusal_kind ∷ k ∷ []) rest, event_in_refusal_line k) refl

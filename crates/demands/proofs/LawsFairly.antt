@@ -9,8 +9,8 @@ use lib.Dec.{eqb}
 use native.Mathlib.Omega.{arith}
 use borrow.Author.Tests.{eqb-false}
 use Rattle.basics.specs.Lists.{All, none, also, OneOf, Each, with}
-use Rattle.basics.proofs.LawsChoice.{holds-or-not}
-use Rattle.basics.proofs.LawsLists.{all_alike, all_both, each-there, gathered-all}
+use Rattle.basics.proofs.LawsChoice.{holds_or_not}
+use Rattle.basics.proofs.LawsLists.{all_alike, all_both, each_there, gathered_all}
 use Rattle.kinds.specs.Kinds.{shares}
 use Rattle.kinds.specs.declared.HalfCents.{HalfCents}
 use Rattle.kinds.specs.declared.Number.{Number}
@@ -25,71 +25,71 @@ use Rattle.rules.specs.declared.Event.TheVariants.{Executed, Rested, Cancelled, 
 use Rattle.rules.specs.declared.Order.{Order}
 use Rattle.rules.specs.declared.Reading.TheVariants as reading
 use Rattle.rules.specs.declared.Resting.{Resting}
-use Rattle.rules.specs.Book.{Book, sharesLeft, sound}
-use Rattle.rules.specs.CommandLines.{commandIn}
-use Rattle.rules.specs.Instructions.{postOnly, has}
+use Rattle.rules.specs.Book.{Book, shares_left, sound}
+use Rattle.rules.specs.CommandLines.{command_in}
+use Rattle.rules.specs.Instructions.{post_only, has}
 use Rattle.rules.specs.declared.Fate.{Fate}
 use Rattle.rules.specs.declared.Fate.TheVariants.{Stays, IsCancelled, IsSet}
-use Rattle.rules.specs.Settling.{toldBy, told}
-use Rattle.rules.specs.Step.{answerTo}
+use Rattle.rules.specs.Settling.{told_by, told}
+use Rattle.rules.specs.Step.{answer_to}
 use Rattle.rules.specs.Holdings.{Holding, holdings, nothing, executions, after}
-use Rattle.rules.specs.Working.{Met, buying, metBy, executionPrice, walked, takings, remainder, ending, lastLine}
-use Rattle.rules.proofs.LawsCommands.{fateBy}
-use Rattle.rules.proofs.LawsWalkOrder.{holdings-there}
-use Rattle.soundness.proofs.LawsSides.{sides-of}
-use Rattle.soundness.proofs.LawsSound.{sound-is}
+use Rattle.rules.specs.Working.{Met, buying, met_by, execution_price, walked, takings, remainder, ending, last_line}
+use Rattle.rules.proofs.LawsCommands.{fate_by}
+use Rattle.rules.proofs.LawsWalkOrder.{holdings_there}
+use Rattle.soundness.proofs.LawsSides.{sides_of}
+use Rattle.soundness.proofs.LawsSound.{sound_is}
 use Rattle.demands.specs.Once.{acts}
 use Rattle.demands.specs.ShareOut.{Fair, PriceHere, LawfulGiving}
-use Rattle.demands.proofs.LawsExecutes.{acts-accepted, acts-order, acts-lines, order-side, all-meetable}
-use Rattle.demands.proofs.LawsLinesTell.{every-refill}
-use Rattle.demands.proofs.LawsShareOut.{pricedAt, takings-lawful}
+use Rattle.demands.proofs.LawsExecutes.{acts_accepted, acts_order, acts_lines, order_side, all_meetable}
+use Rattle.demands.proofs.LawsLinesTell.{every_refill}
+use Rattle.demands.proofs.LawsShareOut.{priced_at, takings_lawful}
 use Rattle.demands.proofs.LawsWalked.{taken}
 
 -- ── Lines of one kind ──
 
 -- what holds of each execution line of an order, of each cancel and of each move of a command, or of each last line, holds of all of them
-pub every-execution : {P : Event → Type 0} (m : Number) (price : Resting → HalfCents)
+pub every_execution : {P : Event → Type 0} (m : Number) (price : Resting → HalfCents)
     → ((h : Resting) (t : ℕ) → P (Executed m h.number (price h) (shares t)))
     → (s : List Holding) (ts : List ℕ) → All P (executions m price s ts)
 unfolding executions
-every-execution m price f [] ts = none
-every-execution m price f (h ∷ s) [] = none
-every-execution m price f (h ∷ s) (t ∷ ts) =
+every_execution m price f [] ts = none
+every_execution m price f (h ∷ s) [] = none
+every_execution m price f (h ∷ s) (t ∷ ts) =
     ⊎_elim
-    (λ (z : eqb t 0 ≡ true). rw z (every-execution m price f s ts))
-    (λ (z : eqb t 0 ≡ false). rw z (also (f h.of t) (every-execution m price f s ts)))
-    (holds-or-not (eqb t 0))
+    (λ (z : eqb t 0 ≡ true). rw z (every_execution m price f s ts))
+    (λ (z : eqb t 0 ≡ false). rw z (also (f h.of t) (every_execution m price f s ts)))
+    (holds_or_not (eqb t 0))
 
-pub every-told : {P : Event → Type 0} → ((m : Number) (k : Shares) (reason : ℕ) → P (Cancelled m k reason))
+pub every_told : {P : Event → Type 0} → ((m : Number) (k : Shares) (reason : ℕ) → P (Cancelled m k reason))
     → ((m : Number) (price : HalfCents) (k : Shares) → P (Moved m price k)) → (c : Body) (b : Book)
-    → All P (told (fateBy c true) b.buys ++ told (fateBy c false) b.sells)
+    → All P (told (fate_by c true) b.buys ++ told (fate_by c false) b.sells)
 unfolding told
-every-told {P = P} gone moved c b = all_both (of-side (fateBy c true) b.buys) (of-side (fateBy c false) b.sells)
+every_told {P = P} gone moved c b = all_both (of_side (fate_by c true) b.buys) (of_side (fate_by c false) b.sells)
   where
-    by-fate : (f : Fate) (h : Resting) → All P (toldBy f h)
-    by-fate Stays h = none
-    by-fate (IsCancelled reason) h = also (gone h.number (shares (sharesLeft h)) reason) none
-    by-fate (IsSet new) h = also (moved new.number new.price new.shares) none
+    by_fate : (f : Fate) (h : Resting) → All P (told_by f h)
+    by_fate Stays h = none
+    by_fate (IsCancelled reason) h = also (gone h.number (shares (shares_left h)) reason) none
+    by_fate (IsSet new) h = also (moved new.number new.price new.shares) none
 
-    of-side : (fate : Resting → Fate) (s : List Resting) → All P (told fate s)
-    of-side fate s = gathered-all (λ (h : Resting). toldBy (fate h) h) (all_alike (λ h p. by-fate (fate h) h) (each-there s))
+    of_side : (fate : Resting → Fate) (s : List Resting) → All P (told fate s)
+    of_side fate s = gathered_all (λ (h : Resting). told_by (fate h) h) (all_alike (λ h p. by_fate (fate h) h) (each_there s))
 
-pub every-last : {P : Event → Type 0} (n : Number) → ((price : HalfCents) (k : Shares) → P (Rested n price k))
-    → ((k : Shares) (reason : ℕ) → P (Cancelled n k reason)) → (left : ℕ) (e : Ending) → All P (lastLine n left e)
-every-last n rested gone left Filled = none
-every-last n rested gone left (Rests price) = also (rested price (shares left)) none
-every-last n rested gone left (Cancels reason) = also (gone (shares left) reason) none
+pub every_last : {P : Event → Type 0} (n : Number) → ((price : HalfCents) (k : Shares) → P (Rested n price k))
+    → ((k : Shares) (reason : ℕ) → P (Cancelled n k reason)) → (left : ℕ) (e : Ending) → All P (last_line n left e)
+every_last n rested gone left Filled = none
+every_last n rested gone left (Rests price) = also (rested price (shares left)) none
+every_last n rested gone left (Cancels reason) = also (gone (shares left) reason) none
 
 -- ── Executions ──
 
 -- an execution of order n is with one of the opposite side, at the price given here, which is fair
 pub record Fairly (o : Order) (met : Met) (n : Number) (incoming resting : Number) (price : HalfCents) : Type 0 where
-  pub isIncoming : incoming ≡ n
+  pub is_incoming : incoming ≡ n
   pub whom : Resting
   pub there : OneOf whom met.opposite
-  pub isResting : resting ≡ whom.number
-  pub atItsPrice : PriceHere o met.own whom price
-  pub isFair : Fair o met.away price
+  pub is_resting : resting ≡ whom.number
+  pub at_its_price : PriceHere o met.own whom price
+  pub is_fair : Fair o met.away price
 
 abbrev pub FairlyExecuted : Order → Met → Number → Event → Type 0
 FairlyExecuted o met n (Executed incoming resting price shares) = Fairly o met n incoming resting price
@@ -99,52 +99,52 @@ FairlyExecuted o met n (Moved m price shares) = Unit {0}
 
 module _ (o : Order) (met : Met) (n : Number) where
   abbrev at : Resting → HalfCents
-  at = executionPrice o met
+  at = execution_price o met
 
   -- those of a lawful share-out
-  executions-fairly : (ts : List ℕ) {hs : List Holding} → All (λ (h : Holding). OneOf h.of met.opposite) hs
-      → Each (LawfulGiving o met.away met.own) hs (pricedAt at hs ts) → All (FairlyExecuted o met n) (executions n at hs ts)
-  unfolding executions pricedAt
-  executions-fairly ts none e = none
-  executions-fairly [] (also p a) e = none
-  executions-fairly (t ∷ ts) (also {x = h} p a) (with l e) =
+  executions_fairly : (ts : List ℕ) {hs : List Holding} → All (λ (h : Holding). OneOf h.of met.opposite) hs
+      → Each (LawfulGiving o met.away met.own) hs (priced_at at hs ts) → All (FairlyExecuted o met n) (executions n at hs ts)
+  unfolding executions priced_at
+  executions_fairly ts none e = none
+  executions_fairly [] (also p a) e = none
+  executions_fairly (t ∷ ts) (also {x = h} p a) (with l e) =
       ⊎_elim
-      (λ (z : eqb t 0 ≡ true). rw z (executions-fairly ts a e))
+      (λ (z : eqb t 0 ≡ true). rw z (executions_fairly ts a e))
       (λ (z : eqb t 0 ≡ false).
       let gives : 0 < t = omega (arith, eqb-false t 0 z) in
       let own : Fairly o met n n h.of.number (at h.of) =
-      record { isIncoming = refl; whom = h.of; there = p; isResting = refl; atItsPrice = l.atItsPrice gives; isFair = l.fair gives } in
-      rw z (also own (executions-fairly ts a e)))
-      (holds-or-not (eqb t 0))
+      record { is_incoming = refl; whom = h.of; there = p; is_resting = refl; at_its_price = l.at_its_price gives; is_fair = l.fair gives } in
+      rw z (also own (executions_fairly ts a e)))
+      (holds_or_not (eqb t 0))
 
   -- of nothing there is none
-  nothing-fairly : (hs : List Holding) → All (FairlyExecuted o met n) (executions n at hs (nothing hs))
+  nothing_fairly : (hs : List Holding) → All (FairlyExecuted o met n) (executions n at hs (nothing hs))
   unfolding executions nothing
-  nothing-fairly [] = none
-  nothing-fairly (h ∷ hs) = nothing-fairly hs
+  nothing_fairly [] = none
+  nothing_fairly (h ∷ hs) = nothing_fairly hs
 
 -- Post Only takes nothing
-pub post-only-takes-nothing : (o : Order) (met : Met) → has o.word postOnly ≡ true → takings o met ≡ nothing (holdings met.opposite)
+pub post_only_takes_nothing : (o : Order) (met : Met) → has o.word post_only ≡ true → takings o met ≡ nothing (holdings met.opposite)
 unfolding walked
-post-only-takes-nothing o met t = taken (λ (ts : List ℕ). ts ≡ nothing (holdings met.opposite)) o met refl (rw t refl)
+post_only_takes_nothing o met t = taken (λ (ts : List ℕ). ts ≡ nothing (holdings met.opposite)) o met refl (rw t refl)
 
 -- the executions of an accepted order
-pub order-fairly : (b : Book) (line : List ℕ) (c : Command) (o : Order) → sound b ≡ true
-    → acts b line ≡ true → commandIn line ≡ reading.Is c → c.body ≡ body.Order o
-    → All (FairlyExecuted o (metBy o b) c.number) (answerTo b line).events
-order-fairly b line c o s t e f =
+pub order_fairly : (b : Book) (line : List ℕ) (c : Command) (o : Order) → sound b ≡ true
+    → acts b line ≡ true → command_in line ≡ reading.Is c → c.body ≡ body.Order o
+    → All (FairlyExecuted o (met_by o b) c.number) (answer_to b line).events
+order_fairly b line c o s t e f =
     let n = c.number in
-    let met = metBy o b in
+    let met = met_by o b in
     let side = met.opposite in
     let fairly =
     ⊎_elim
-    (λ (p : has o.word postOnly ≡ true). rw (post-only-takes-nothing o met p) (nothing-fairly o met n (holdings side)))
-    (λ (p : has o.word postOnly ≡ false).
-    let order = acts-order b c o (acts-accepted b line c t e) f in
-    let ranked = (sides-of (buying o) b (sound-is b s)).oppositeRanked in
-    let lawful = takings-lawful o met (order-side o order.in_range) p ranked (all-meetable o b s) in
-    executions-fairly o met n (takings o met) (holdings-there side) lawful.each)
-    (holds-or-not (has o.word postOnly)) in
-    let last = every-last {P = FairlyExecuted o met n} n (λ price k. tt) (λ k reason. tt) (remainder o met) (ending o met) in
-    let refills = every-refill {P = FairlyExecuted o met n} (λ m price k. tt) (after side (takings o met)) in
-    rw (acts-lines b line c o t e f) (all_both fairly (all_both last refills))
+    (λ (p : has o.word post_only ≡ true). rw (post_only_takes_nothing o met p) (nothing_fairly o met n (holdings side)))
+    (λ (p : has o.word post_only ≡ false).
+    let order = acts_order b c o (acts_accepted b line c t e) f in
+    let ranked = (sides_of (buying o) b (sound_is b s)).opposite_ranked in
+    let lawful = takings_lawful o met (order_side o order.in_range) p ranked (all_meetable o b s) in
+    executions_fairly o met n (takings o met) (holdings_there side) lawful.each)
+    (holds_or_not (has o.word post_only)) in
+    let last = every_last {P = FairlyExecuted o met n} n (λ price k. tt) (λ k reason. tt) (remainder o met) (ending o met) in
+    let refills = every_refill {P = FairlyExecuted o met n} (λ m price k. tt) (after side (takings o met)) in
+    rw (acts_lines b line c o t e f) (all_both fairly (all_both last refills))

@@ -12,7 +12,7 @@ use native.Mathlib.Nat.{min-eq_right, sub_self}
 use native.Mathlib.Omega.{arith}
 use borrow.Author.Tests.{eqb-true, eqb-false}
 use Rattle.basics.specs.Lists.{gathered, total, Each, empty, with}
-use Rattle.basics.proofs.LawsChoice.{holds-or-not, by-choice, lt-or-le, and_right}
+use Rattle.basics.proofs.LawsChoice.{holds_or_not, by_choice, lt_or_le, and_right}
 use Rattle.kinds.specs.declared.HalfCents.{HalfCents}
 use Rattle.kinds.specs.declared.Number.{Number}
 use Rattle.rules.specs.declared.Body.{Body}
@@ -22,24 +22,24 @@ use Rattle.rules.specs.declared.Order.{Order}
 use Rattle.rules.specs.declared.Reading.{Reading}
 use Rattle.rules.specs.declared.Reading.TheVariants as reading
 use Rattle.rules.specs.declared.Resting.{Resting}
-use Rattle.rules.specs.Book.{Book, BookRecord, placesASide, bookIn, sound, placesSound, recordSound, sharesLeft}
-use Rattle.rules.specs.CommandLines.{commandIn}
+use Rattle.rules.specs.Book.{Book, BookRecord, places_aSide, book_in, sound, places_sound, record_sound, shares_left}
+use Rattle.rules.specs.CommandLines.{command_in}
 use Rattle.rules.specs.Commands.{does}
 use Rattle.rules.specs.Day.{printed}
-use Rattle.rules.specs.EventLines.{eventLines}
-use Rattle.rules.specs.Holdings.{Holding, size, holdings, ordersOf, nothing, walk, isSkipped, smaller, executions, taken_of, reducedBy, keeping, after}
-use Rattle.rules.specs.Refusals.{leastRoom, first_of, lineRefusals, refusals}
-use Rattle.rules.specs.Settling.{told, oppositeSide}
-use Rattle.rules.specs.Step.{doneBy, answer, answerTo, stepOn}
-use Rattle.rules.specs.Working.{Met, buying, metBy, executionPrice, mayTouch, takings, remainder, endingWith, ending, lastLine, refillFate}
-use Rattle.rules.proofs.LawsCommands.{fateBy, order-does, does-tells}
-use Rattle.rules.proofs.LawsEvents.{eventLines-append, none-long, refusal-length, executions-more, told_more, told-long, last-long}
-use Rattle.rules.proofs.LawsHoldings.{Parts, none, also, holdings-reserves}
-use Rattle.rules.proofs.LawsRefusals.{fit-facts}
-use Rattle.rules.proofs.LawsTakings.{nothing-total, takings-are, takings-within, parts_within}
-use Rattle.rules.proofs.LawsWalkOrder.{holdings-length}
-use Rattle.soundness.proofs.LawsSound.{sound-is}
-use Rattle.demands.specs.Room.{worstLines}
+use Rattle.rules.specs.EventLines.{event_lines}
+use Rattle.rules.specs.Holdings.{Holding, size, holdings, orders_of, nothing, walk, is_skipped, smaller, executions, taken_of, reduced_by, keeping, after}
+use Rattle.rules.specs.Refusals.{least_room, first_of, line_refusals, refusals}
+use Rattle.rules.specs.Settling.{told, opposite_side}
+use Rattle.rules.specs.Step.{done_by, answer, answer_to, step_on}
+use Rattle.rules.specs.Working.{Met, buying, met_by, execution_price, may_touch, takings, remainder, ending_with, ending, last_line, refill_fate}
+use Rattle.rules.proofs.LawsCommands.{fate_by, order_does, does_tells}
+use Rattle.rules.proofs.LawsEvents.{event_lines_append, none_long, refusal_length, executions_more, told_more, told_long, last_long}
+use Rattle.rules.proofs.LawsHoldings.{Parts, none, also, holdings_reserves}
+use Rattle.rules.proofs.LawsRefusals.{fit_facts}
+use Rattle.rules.proofs.LawsTakings.{nothing_total, takings_are, takings_within, parts_within}
+use Rattle.rules.proofs.LawsWalkOrder.{holdings_length}
+use Rattle.soundness.proofs.LawsSound.{sound_is}
+use Rattle.demands.specs.Room.{worst_lines}
 
 -- ── A walk ──
 
@@ -50,78 +50,78 @@ keepers held (h ∷ s) [] = 0
 keepers held (h ∷ s) (t ∷ ts) = min 1 (held h - t) + keepers held s ts
 
 -- the bytes of a walk's executions, and of a refill for each holding that keeps a share
-abbrev couldWrite : Number → (Resting → HalfCents) → List Holding → List ℕ → ℕ
-couldWrite n price hs ts = length (eventLines (executions n price hs ts)) + 27 * keepers size hs ts
+abbrev could_write : Number → (Resting → HalfCents) → List Holding → List ℕ → ℕ
+could_write n price hs ts = length (event_lines (executions n price hs ts)) + 27 * keepers size hs ts
 
-nothing-writes : (n : Number) (price : Resting → HalfCents) (hs : List Holding) → couldWrite n price hs (nothing hs) ≤ 35 * length hs
+nothing_writes : (n : Number) (price : Resting → HalfCents) (hs : List Holding) → could_write n price hs (nothing hs) ≤ 35 * length hs
 unfolding keepers nothing executions
-nothing-writes n price [] = omega (arith, none-long)
-nothing-writes n price (h ∷ s) = omega (arith, executions-more n price h s 0 (nothing s), nothing-writes n price s)
+nothing_writes n price [] = omega (arith, none_long)
+nothing_writes n price (h ∷ s) = omega (arith, executions_more n price h s 0 (nothing s), nothing_writes n price s)
 
 -- only a holding that gives a part can have both lines, and then nothing is left
 abbrev OneWrites : ℕ → ℕ → ℕ → Type 0
 OneWrites left held t = 35 * min 1 t + 27 * min 1 (held - t) + 27 * min 1 (left - t) ≤ 35 + 27 * min 1 left
 
 one_writes : (left : ℕ) (h : Holding) → OneWrites left (size h) (smaller left h)
-one_writes left h = by-choice (OneWrites left (size h)) (isSkipped left h) (λ t. omega arith) (λ t. part-writes left (size h))
+one_writes left h = by_choice (OneWrites left (size h)) (is_skipped left h) (λ t. omega arith) (λ t. part_writes left (size h))
   where
-    part-writes : (left held : ℕ) → OneWrites left held (min left held)
-    part-writes left held =
+    part_writes : (left held : ℕ) → OneWrites left held (min left held)
+    part_writes left held =
         ⊎_elim
         (λ (l : left < held). let part : min left held ≡ left = omega arith in rw part (omega arith))
         (λ (l : held ≤ left). rw (min-eq_right l, sub_self) (omega arith))
-        (lt-or-le left held)
+        (lt_or_le left held)
 
-walk-writes : (n : Number) (price : Resting → HalfCents) (may : Holding → Bool) (left : ℕ) (hs : List Holding)
+walk_writes : (n : Number) (price : Resting → HalfCents) (may : Holding → Bool) (left : ℕ) (hs : List Holding)
     → let ts = walk may smaller left hs in
-    couldWrite n price hs ts + 27 * min 1 (left - total ts) ≤ 35 * length hs + 27 * min 1 left
+    could_write n price hs ts + 27 * min 1 (left - total ts) ≤ 35 * length hs + 27 * min 1 left
 unfolding walk keepers total executions
-walk-writes n price may left [] = omega (arith, none-long)
-walk-writes n price may left (h ∷ s) =
+walk_writes n price may left [] = omega (arith, none_long)
+walk_writes n price may left (h ∷ s) =
     ⊎_elim
     (λ (t : may h ≡ true).
     let gives = smaller left h in
     let ts = walk may smaller (left - gives) s in
     let others : min 1 (left - (gives + total ts)) ≡ min 1 (left - gives - total ts) = ap (min 1) (omega arith) in
-    rw t (omega (arith, executions-more n price h s gives ts, walk-writes n price may (left - gives) s, one_writes left h, others)))
-    (λ (t : may h ≡ false). rw t (omega (arith, nothing-writes n price (h ∷ s), nothing-total (h ∷ s))))
-    (holds-or-not (may h))
+    rw t (omega (arith, executions_more n price h s gives ts, walk_writes n price may (left - gives) s, one_writes left h, others)))
+    (λ (t : may h ≡ false). rw t (omega (arith, nothing_writes n price (h ∷ s), nothing_total (h ∷ s))))
+    (holds_or_not (may h))
 
 -- ── Refills ──
 
-abbrev reserveOf : Resting → ℕ
-reserveOf o = o.reserve.0
+abbrev reserve_of : Resting → ℕ
+reserve_of o = o.reserve.0
 
 -- one for an order that shows nothing and keeps of its reserve
-refills-long : {Claim : Resting → ℕ → ℕ → Type 0} {s : List Resting} {ts rs : List ℕ} → Parts Claim s ts rs
-    → length (eventLines (told refillFate (keeping s ts rs))) ≤ 27 * keepers reserveOf s rs
+refills_long : {Claim : Resting → ℕ → ℕ → Type 0} {s : List Resting} {ts rs : List ℕ} → Parts Claim s ts rs
+    → length (event_lines (told refill_fate (keeping s ts rs))) ≤ 27 * keepers reserve_of s rs
 unfolding keeping keepers told gathered
-refills-long none = omega (arith, none-long)
-refills-long (also {o = o} {t = t} {r = r} {s = s} {ts = ts} {rs = rs} c w) =
-    let h = reducedBy t r o in
-    let left = told refillFate (keeping s ts rs) in
+refills_long none = omega (arith, none_long)
+refills_long (also {o = o} {t = t} {r = r} {s = s} {ts = ts} {rs = rs} c w) =
+    let h = reduced_by t r o in
+    let left = told refill_fate (keeping s ts rs) in
     ⊎_elim
-    (λ (z : eqb (sharesLeft h) 0 ≡ true). rw z (omega (arith, refills-long w)))
-    (λ (z : eqb (sharesLeft h) 0 ≡ false).
-    let some : sharesLeft h ≢ 0 = eqb-false (sharesLeft h) 0 z in
+    (λ (z : eqb (shares_left h) 0 ≡ true). rw z (omega (arith, refills_long w)))
+    (λ (z : eqb (shares_left h) 0 ≡ false).
+    let some : shares_left h ≢ 0 = eqb-false (shares_left h) 0 z in
     ⊎_elim
     (λ (e : eqb h.shares.0 0 ≡ true).
-    rw z (omega (arith, refills-long w, some, eqb-true h.shares.0 0 e, told_more (refillFate h) h left)))
-    (λ (e : eqb h.shares.0 0 ≡ false). rw (z, e) (omega (arith, refills-long w)))
-    (holds-or-not (eqb h.shares.0 0)))
-    (holds-or-not (eqb (sharesLeft h) 0))
+    rw z (omega (arith, refills_long w, some, eqb-true h.shares.0 0 e, told_more (refill_fate h) h left)))
+    (λ (e : eqb h.shares.0 0 ≡ false). rw (z, e) (omega (arith, refills_long w)))
+    (holds_or_not (eqb h.shares.0 0)))
+    (holds_or_not (eqb (shares_left h) 0))
 
 -- so one at most for a reserve among the holdings that keeps a share
-reserves-keep : {Claim : Holding → ℕ → Type 0} {hs : List Holding} {ts : List ℕ} → Each Claim hs ts
-    → keepers reserveOf (ordersOf true hs) (taken_of true hs ts) ≤ keepers size hs ts
-unfolding keepers ordersOf taken_of
-reserves-keep empty = omega arith
-reserves-keep (with {x = h} c e) =
-    let others = reserves-keep e in
+reserves_keep : {Claim : Holding → ℕ → Type 0} {hs : List Holding} {ts : List ℕ} → Each Claim hs ts
+    → keepers reserve_of (orders_of true hs) (taken_of true hs ts) ≤ keepers size hs ts
+unfolding keepers orders_of taken_of
+reserves_keep empty = omega arith
+reserves_keep (with {x = h} c e) =
+    let others = reserves_keep e in
     ⊎_elim
-    (λ (r : h.isReserve ≡ true). rw r (omega (arith, others)))
-    (λ (r : h.isReserve ≡ false). rw r (omega (arith, others)))
-    (holds-or-not h.isReserve)
+    (λ (r : h.is_reserve ≡ true). rw r (omega (arith, others)))
+    (λ (r : h.is_reserve ≡ false). rw r (omega (arith, others)))
+    (holds_or_not h.is_reserve)
 
 -- ── An order ──
 
@@ -129,133 +129,133 @@ module _ (n : Number) (o : Order) (met : Met) where
   abbrev hs : List Holding
   hs = holdings met.opposite
 
-  takings-write : couldWrite n (executionPrice o met) hs (takings o met) + 27 * min 1 (remainder o met) ≤ 35 * length hs + 27
+  takings_write : could_write n (execution_price o met) hs (takings o met) + 27 * min 1 (remainder o met) ≤ 35 * length hs + 27
   unfolding remainder
-  takings-write =
-      takings-are
-      (λ (ts : List ℕ). couldWrite n (executionPrice o met) hs ts + 27 * min 1 (o.shares.0 - total ts) ≤ 35 * length hs + 27) o met
-      (omega (arith, nothing-writes n (executionPrice o met) hs))
+  takings_write =
+      takings_are
+      (λ (ts : List ℕ). could_write n (execution_price o met) hs ts + 27 * min 1 (o.shares.0 - total ts) ≤ 35 * length hs + 27) o met
+      (omega (arith, nothing_writes n (execution_price o met) hs))
       (omega (
         arith,
-        walk-writes n (executionPrice o met) (λ (h : Holding). mayTouch o met.away (executionPrice o met h.of)) o.shares.0 hs,
+        walk_writes n (execution_price o met) (λ (h : Holding). may_touch o met.away (execution_price o met h.of)) o.shares.0 hs,
       ))
 
   -- the line of what is left of it
-  last-writes : length (eventLines (lastLine n (remainder o met) (ending o met))) ≤ 27 * min 1 (remainder o met)
-  unfolding ending endingWith
-  last-writes =
+  last_writes : length (event_lines (last_line n (remainder o met) (ending o met))) ≤ 27 * min 1 (remainder o met)
+  unfolding ending ending_with
+  last_writes =
       let left = remainder o met in
       ⊎_elim
-      (λ (z : eqb left 0 ≡ true). rw z (omega (arith, none-long)))
-      (λ (z : eqb left 0 ≡ false). let some : left ≢ 0 = eqb-false left 0 z in omega (arith, some, last-long n left (ending o met)))
-      (holds-or-not (eqb left 0))
+      (λ (z : eqb left 0 ≡ true). rw z (omega (arith, none_long)))
+      (λ (z : eqb left 0 ≡ false). let some : left ≢ 0 = eqb-false left 0 z in omega (arith, some, last_long n left (ending o met)))
+      (holds_or_not (eqb left 0))
 
-  refills-write : length (eventLines (told refillFate (after met.opposite (takings o met)))) ≤ 27 * keepers size hs (takings o met)
+  refills_write : length (event_lines (told refill_fate (after met.opposite (takings o met)))) ≤ 27 * keepers size hs (takings o met)
   unfolding after
-  refills-write =
+  refills_write =
       let s = met.opposite in
       let ts = takings o met in
-      let kept : keepers reserveOf s (taken_of true hs ts) ≤ keepers size hs ts =
-      subst (λ (l : List Resting). keepers reserveOf l (taken_of true hs ts) ≤ keepers size hs ts) (holdings-reserves s)
-      (reserves-keep (takings-within o met)) in
-      omega (arith, kept, refills-long (parts_within o met))
+      let kept : keepers reserve_of s (taken_of true hs ts) ≤ keepers size hs ts =
+      subst (λ (l : List Resting). keepers reserve_of l (taken_of true hs ts) ≤ keepers size hs ts) (holdings_reserves s)
+      (reserves_keep (takings_within o met)) in
+      omega (arith, kept, refills_long (parts_within o met))
 
 module _ (n : Number) (time : ℕ) (b : Book) (o : Order) where
   -- its executions, its last line and the refills
-  pub order-writes : let met = metBy o b in
+  pub order_writes : let met = met_by o b in
       let ts = takings o met in
-      length (eventLines (does n time (body.Order o) b).events)
-      ≡ length (eventLines (executions n (executionPrice o met) (holdings met.opposite) ts))
-      + length (eventLines (lastLine n (remainder o met) (ending o met)))
-      + length (eventLines (told refillFate (after met.opposite ts)))
-  order-writes =
-      let met = metBy o b in
-      let es = executions n (executionPrice o met) (holdings met.opposite) (takings o met) in
-      let last = lastLine n (remainder o met) (ending o met) in
-      let refills = told refillFate (after met.opposite (takings o met)) in
-      rw ((order-does n time b o).1, eventLines-append (es ++ last) refills, eventLines-append es last) (simp length-append)
+      length (event_lines (does n time (body.Order o) b).events)
+      ≡ length (event_lines (executions n (execution_price o met) (holdings met.opposite) ts))
+      + length (event_lines (last_line n (remainder o met) (ending o met)))
+      + length (event_lines (told refill_fate (after met.opposite ts)))
+  order_writes =
+      let met = met_by o b in
+      let es = executions n (execution_price o met) (holdings met.opposite) (takings o met) in
+      let last = last_line n (remainder o met) (ending o met) in
+      let refills = told refill_fate (after met.opposite (takings o met)) in
+      rw ((order_does n time b o).1, event_lines_append (es ++ last) refills, event_lines_append es last) (simp length-append)
 
   -- by the orders of the side that it meets, sound or not
-  pub order-long : length (eventLines (does n time (body.Order o) b).events) ≤ 70 * length (oppositeSide (buying o) b) + 27
-  order-long =
-      let met = metBy o b in
+  pub order_long : length (event_lines (does n time (body.Order o) b).events) ≤ 70 * length (opposite_side (buying o) b) + 27
+  order_long =
+      let met = met_by o b in
       omega (
         arith,
-        order-writes,
-        takings-write n o met,
-        last-writes n o met,
-        refills-write n o met,
-        holdings-length met.opposite,
+        order_writes,
+        takings_write n o met,
+        last_writes n o met,
+        refills_write n o met,
+        holdings_length met.opposite,
       )
 
 -- ── A command ──
 
-opposite-fits : (buy : Bool) (b : Book) → sound b ≡ true → length (oppositeSide buy b) ≤ placesASide
-opposite-fits true b s = (sound-is b s).sellsFit
-opposite-fits false b s = (sound-is b s).buysFit
+opposite_fits_lem : (buy : Bool) (b : Book) → sound b ≡ true → length (opposite_side buy b) ≤ places_aSide
+opposite_fits_lem true b s = (sound_is b s).sells_fit
+opposite_fits_lem false b s = (sound_is b s).buys_fit
 
-does-long : (n : Number) (time : ℕ) (b : Book) → sound b ≡ true → (c : Body) → length (eventLines (does n time c b).events) ≤ worstLines
-does-long n time b isSound =
-    does-tells n time b (λ (c : Body) (es : List Event). length (eventLines es) ≤ worstLines)
-    (λ o. omega (arith, order-long n time b o, opposite-fits (buying o) b isSound)) settled-long
+does_long : (n : Number) (time : ℕ) (b : Book) → sound b ≡ true → (c : Body) → length (event_lines (does n time c b).events) ≤ worst_lines
+does_long n time b is_sound =
+    does_tells n time b (λ (c : Body) (es : List Event). length (event_lines es) ≤ worst_lines)
+    (λ o. omega (arith, order_long n time b o, opposite_fits_lem (buying o) b is_sound)) settled_long
   where
-    settled-long : (c : Body) → length (eventLines (told (fateBy c true) b.buys ++ told (fateBy c false) b.sells)) ≤ worstLines
-    settled-long c =
-        let buys = told (fateBy c true) b.buys in
-        let sells = told (fateBy c false) b.sells in
-        rw (eventLines-append buys sells)
+    settled_long : (c : Body) → length (event_lines (told (fate_by c true) b.buys ++ told (fate_by c false) b.sells)) ≤ worst_lines
+    settled_long c =
+        let buys = told (fate_by c true) b.buys in
+        let sells = told (fate_by c false) b.sells in
+        rw (event_lines_append buys sells)
         (simp length-append
         (omega (
           arith,
-          told-long (fateBy c true) b.buys,
-          told-long (fateBy c false) b.sells,
-          opposite-fits false b isSound,
-          opposite-fits true b isSound,
+          told_long (fate_by c true) b.buys,
+          told_long (fate_by c false) b.sells,
+          opposite_fits_lem false b is_sound,
+          opposite_fits_lem true b is_sound,
         )))
 
-pub done-long : (b : Book) (r : Reading) → sound b ≡ true → length (eventLines (doneBy r b).events) ≤ worstLines
-unfolding doneBy
-done-long b reading.Bad s = omega (arith, none-long)
-done-long b (reading.Is c) s = does-long c.number c.time b s c.body
+pub done_long : (b : Book) (r : Reading) → sound b ≡ true → length (event_lines (done_by r b).events) ≤ worst_lines
+unfolding done_by
+done_long b reading.Bad s = omega (arith, none_long)
+done_long b (reading.Is c) s = does_long c.number c.time b s c.body
 
 -- what is printed of any line to a sound book; that of a refusal is shorter
-pub printed-long : (b : Book) (line : List ℕ) → sound b ≡ true → length (printed (answerTo b line)) ≤ worstLines
-unfolding printed answerTo answer
-printed-long b line s =
-    let refusal = first_of (refusals leastRoom true b (commandIn line)) in
+pub printed_long : (b : Book) (line : List ℕ) → sound b ≡ true → length (printed (answer_to b line)) ≤ worst_lines
+unfolding printed answer_to answer
+printed_long b line s =
+    let refusal = first_of (refusals least_room true b (command_in line)) in
     ⊎_elim
-    (λ (t : eqb refusal 0 ≡ true). rw t (done-long b (commandIn line) s))
-    (λ (t : eqb refusal 0 ≡ false). rw t (omega (arith, refusal-length refusal)))
-    (holds-or-not (eqb refusal 0))
+    (λ (t : eqb refusal 0 ≡ true). rw t (done_long b (command_in line) s))
+    (λ (t : eqb refusal 0 ≡ false). rw t (omega (arith, refusal_length refusal)))
+    (holds_or_not (eqb refusal 0))
 
 -- ── The room ──
 
 -- with 256 orders a side the 8,192 bytes of W4 would not do
-pub worst-needs : 8192 < worstLines
-worst-needs = omega arith
+pub worst_needs : 8192 < worst_lines
+worst_needs = omega arith
 
-pub worst-fits : worstLines ≤ leastRoom
-worst-fits = omega arith
+pub worst_fits : worst_lines ≤ least_room
+worst_fits = omega arith
 
-pub worst-is : worstLines ≡ 17947
-worst-is = refl
+pub worst_is : worst_lines ≡ 17947
+worst_is = refl
 
 -- ── What was not refused with 1 or 2 ──
 
 -- the room is there, the record is sound, and none of the other refusals is given
-pub fit-for : (room : ℕ) (r : BookRecord) (a : Reading) → first_of (refusals room (recordSound r) (bookIn r) a) ≡ 0
-    → (leastRoom ≤ room) × (sound (bookIn r) ≡ true) × (first_of (lineRefusals (bookIn r) a) ≡ 0)
-unfolding refusals recordSound
-fit-for room r a e =
-    let f = fit-facts room (recordSound r) (lineRefusals (bookIn r) a) e in
-    (f.0, and_right (placesSound r.buys && placesSound r.sells) (sound (bookIn r)) f.1, f.2)
+pub fit_for : (room : ℕ) (r : BookRecord) (a : Reading) → first_of (refusals room (record_sound r) (book_in r) a) ≡ 0
+    → (least_room ≤ room) × (sound (book_in r) ≡ true) × (first_of (line_refusals (book_in r) a) ≡ 0)
+unfolding refusals record_sound
+fit_for room r a e =
+    let f = fit_facts room (record_sound r) (line_refusals (book_in r) a) e in
+    (f.0, and_right (places_sound r.buys && places_sound r.sells) (sound (book_in r)) f.1, f.2)
 
 -- so a call, with any record and any output, writes no more
-pub returned-long : (r : BookRecord) (a : Reading) (out : List ℕ) → (stepOn r a out).length ≤ worstLines
-unfolding stepOn answer
-returned-long r a out =
-    let refusal = first_of (refusals (length out) (recordSound r) (bookIn r) a) in
+pub returned_long : (r : BookRecord) (a : Reading) (out : List ℕ) → (step_on r a out).length ≤ worst_lines
+unfolding step_on answer
+returned_long r a out =
+    let refusal = first_of (refusals (length out) (record_sound r) (book_in r) a) in
     ⊎_elim
-    (λ (t : eqb refusal 0 ≡ true). rw t (done-long (bookIn r) a (fit-for (length out) r a (eqb-true refusal 0 t)).1))
-    (λ (t : eqb refusal 0 ≡ false). rw t (omega (arith, none-long)))
-    (holds-or-not (eqb refusal 0))
+    (λ (t : eqb refusal 0 ≡ true). rw t (done_long (book_in r) a (fit_for (length out) r a (eqb-true refusal 0 t)).1))
+    (λ (t : eqb refusal 0 ≡ false). rw t (omega (arith, none_long)))
+    (holds_or_not (eqb refusal 0))

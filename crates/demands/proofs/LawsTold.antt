@@ -10,13 +10,13 @@ use native.Mathlib.Omega.{arith}
 use borrow.Author.Tests.{eqb-true}
 use Rattle.basics.specs.Choice.{if◌then◌else◌}
 use Rattle.basics.specs.Lists.{All, none, also, Each, empty, with}
-use Rattle.basics.proofs.LawsChoice.{holds-or-not, by-choice, and_left, and_right}
-use Rattle.basics.proofs.LawsLists.{all_alike, all_both, one_of_all, gathered-all}
+use Rattle.basics.proofs.LawsChoice.{holds_or_not, by_choice, and_left, and_right}
+use Rattle.basics.proofs.LawsLists.{all_alike, all_both, one_of_all, gathered_all}
 use Rattle.kinds.specs.declared.Cents.{Cents}
 use Rattle.kinds.specs.declared.HalfCents.{HalfCents}
 use Rattle.kinds.specs.declared.Number.{Number}
-use Rattle.kinds.specs.Kinds.{inHalfCents, restingPriceInRange, sharesInRange}
-use Rattle.kinds.proofs.LawsRanges.{price-highest, resting-highest, shares-most}
+use Rattle.kinds.specs.Kinds.{in_half_cents, resting_price_in_range, shares_in_range}
+use Rattle.kinds.proofs.LawsRanges.{price_highest, resting_highest, shares_most}
 use Rattle.rules.specs.declared.Away.{Away}
 use Rattle.rules.specs.declared.Body.{Body}
 use Rattle.rules.specs.declared.Body.TheVariants as body
@@ -29,36 +29,36 @@ use Rattle.rules.specs.declared.Order.{Order}
 use Rattle.rules.specs.declared.Reading.{Reading}
 use Rattle.rules.specs.declared.Reading.TheVariants as reading
 use Rattle.rules.specs.declared.Resting.{Resting}
-use Rattle.rules.specs.Book.{Book, sharesLeft, awayInRange, sound}
-use Rattle.rules.specs.CommandLines.{Fitting, empty, fits, headerForm, orderFormOf, carriedNumbers, commandIn}
+use Rattle.rules.specs.Book.{Book, shares_left, away_in_range, sound}
+use Rattle.rules.specs.CommandLines.{Fitting, empty, fits, header_form, order_form_of, carried_numbers, command_in}
 use Rattle.rules.specs.Commands.{does}
-use Rattle.rules.specs.Day.{cut, unendedLine, linesIn, printed, printedOf}
-use Rattle.rules.specs.EventLines.{FitsEvent, eventLines, executedKind, restedKind, cancelledKind, moved_kind, iocRemainder, fokKilled, cancelledBack, noPriceInRange, postOnlyMeets, wouldStillMeet}
+use Rattle.rules.specs.Day.{cut, unended_line, lines_in, printed, printed_of}
+use Rattle.rules.specs.EventLines.{FitsEvent, event_lines, executed_kind, rested_kind, cancelled_kind, moved_kind, ioc_remainder, fok_killed, cancelled_back, no_price_in_range, post_only_meets, would_still_meet}
 use Rattle.rules.specs.Instructions.{ioc, fok, market, has}
-use Rattle.rules.specs.Refusals.{first_of, orderPriceInRange, carriedInRange, orderInRange, bodyRefusals}
+use Rattle.rules.specs.Refusals.{first_of, order_price_in_range, carried_in_range, order_in_range, body_refusals}
 use Rattle.rules.specs.declared.Fate.{Fate}
 use Rattle.rules.specs.declared.Fate.TheVariants.{Stays, IsCancelled, IsSet}
-use Rattle.rules.specs.Settling.{toldBy, told, oppositeSide}
-use Rattle.rules.specs.Step.{doneBy, answer, answerTo}
+use Rattle.rules.specs.Settling.{told_by, told, opposite_side}
+use Rattle.rules.specs.Step.{done_by, answer, answer_to}
 use Rattle.rules.specs.Holdings.{Holding, size, executions, after}
-use Rattle.rules.specs.Working.{Met, buying, metBy, limitOf, lockingPrice, isLocked, executionPrice, takings, remainder, endingWith, ending, lastLine, refillFate}
-use Rattle.rules.proofs.LawsCommands.{fateBy, cancel-fate, quote-fate, order-does, does-tells}
-use Rattle.rules.proofs.LawsFloors.{shown-at-most}
-use Rattle.rules.proofs.LawsLines.{commandIn-is}
-use Rattle.rules.proofs.LawsTakings.{takings-within}
-use Rattle.rules.proofs.LawsWalkOrder.{holdings-there, after-are}
-use Rattle.soundness.proofs.LawsAccepted.{accepted-order, accepted-quote}
-use Rattle.soundness.proofs.LawsEndings.{chosen, sought-is}
-use Rattle.soundness.proofs.LawsKept.{locking-ranged, answer-sound}
-use Rattle.soundness.proofs.LawsSides.{InRange, sides-of}
-use Rattle.soundness.proofs.LawsSound.{sound-is}
-use Rattle.demands.specs.Once.{acts, commandNumber, eventLinesOf, byLine}
-use Rattle.demands.specs.Run.{eventsOf}
-use Rattle.demands.specs.Told.{eventsOn, eventsIn}
-use Rattle.demands.proofs.LawsEventLines.{events-read, refusal-read}
-use Rattle.demands.proofs.LawsExecutes.{acts-accepted}
+use Rattle.rules.specs.Working.{Met, buying, met_by, limit_of, locking_price, is_locked, execution_price, takings, remainder, ending_with, ending, last_line, refill_fate}
+use Rattle.rules.proofs.LawsCommands.{fate_by, cancel_fate_lem, quote_fate_lem, order_does, does_tells}
+use Rattle.rules.proofs.LawsFloors.{shown_at_most}
+use Rattle.rules.proofs.LawsLines.{command_in_is}
+use Rattle.rules.proofs.LawsTakings.{takings_within}
+use Rattle.rules.proofs.LawsWalkOrder.{holdings_there, after_are}
+use Rattle.soundness.proofs.LawsAccepted.{accepted_order, accepted_quote}
+use Rattle.soundness.proofs.LawsEndings.{chosen, sought_is}
+use Rattle.soundness.proofs.LawsKept.{locking_ranged, answer_sound}
+use Rattle.soundness.proofs.LawsSides.{InRange, sides_of}
+use Rattle.soundness.proofs.LawsSound.{sound_is}
+use Rattle.demands.specs.Once.{acts, command_number, event_lines_of, by_line}
+use Rattle.demands.specs.Run.{events_of}
+use Rattle.demands.specs.Told.{events_on, events_in}
+use Rattle.demands.proofs.LawsEventLines.{events_read, refusal_read}
+use Rattle.demands.proofs.LawsExecutes.{acts_accepted}
 use Rattle.demands.proofs.LawsHeld.{NoMore}
-use Rattle.demands.proofs.LawsOnce.{refused-events, next-acts}
+use Rattle.demands.proofs.LawsOnce.{refused_events, next_acts}
 
 -- ── Resting orders ──
 
@@ -66,41 +66,41 @@ use Rattle.demands.proofs.LawsOnce.{refused-events, next-acts}
 record Small (h : Resting) : Type 0 where
   number : h.number.0 < 2 ^ 32
   price : h.price.0 + 1 < 2 ^ 32
-  left : sharesLeft h < 2 ^ 32
+  left : shares_left h < 2 ^ 32
 
 -- a price in range does
-price-small : (p : HalfCents) → restingPriceInRange p ≡ true → p.0 + 1 < 2 ^ 32
-price-small p e = omega (arith, resting-highest p e)
+price_small : (p : HalfCents) → resting_price_in_range p ≡ true → p.0 + 1 < 2 ^ 32
+price_small p e = omega (arith, resting_highest p e)
 
 -- so every resting order of a sound book is small, if its last number has four bytes
 all_small : {last : Number} → last.0 < 2 ^ 32 → {s : List Resting} → All (InRange last) s → All Small s
-all_small l a = all_alike (λ h r. record { number = omega (arith, l, r.upToLast); price = price-small h.price r.priced; left = omega (arith, r.at_most) }) a
+all_small l a = all_alike (λ h r. record { number = omega (arith, l, r.up_to_last); price = price_small h.price r.priced; left = omega (arith, r.at_most) }) a
 
 -- ── Executions ──
 
 -- each execution is of a resting order, at its price or half a cent from it, and no holding gives more than it has
-execution-near : (o : Order) (met : Met) (h : Resting) → (executionPrice o met h).0 ≤ h.price.0 + 1
-execution-near o met h =
-    by-choice (λ (p : HalfCents). p.0 ≤ h.price.0 + 1) (isLocked met.own h)
-    (λ t. by-choice (λ (p : HalfCents). p.0 ≤ h.price.0 + 1) (buying o) (λ b. omega arith) (λ b. omega arith)) (λ t. omega arith)
+execution_near : (o : Order) (met : Met) (h : Resting) → (execution_price o met h).0 ≤ h.price.0 + 1
+execution_near o met h =
+    by_choice (λ (p : HalfCents). p.0 ≤ h.price.0 + 1) (is_locked met.own h)
+    (λ t. by_choice (λ (p : HalfCents). p.0 ≤ h.price.0 + 1) (buying o) (λ b. omega arith) (λ b. omega arith)) (λ t. omega arith)
 
-executions-fit : (n : Number) (o : Order) (met : Met) → n.0 < 2 ^ 32 → {hs : List Holding} {ts : List ℕ}
-    → All (λ (h : Holding). Small h.of) hs → Each NoMore hs ts → All FitsEvent (executions n (executionPrice o met) hs ts)
+executions_fit : (n : Number) (o : Order) (met : Met) → n.0 < 2 ^ 32 → {hs : List Holding} {ts : List ℕ}
+    → All (λ (h : Holding). Small h.of) hs → Each NoMore hs ts → All FitsEvent (executions n (execution_price o met) hs ts)
 unfolding executions
-executions-fit n o met l none empty = none
-executions-fit n o met l (also {x = h} r a) (with {y = t} m e) =
+executions_fit n o met l none empty = none
+executions_fit n o met l (also {x = h} r a) (with {y = t} m e) =
     ⊎_elim
-    (λ (z : eqb t 0 ≡ true). rw z (executions-fit n o met l a e))
+    (λ (z : eqb t 0 ≡ true). rw z (executions_fit n o met l a e))
     (λ (z : eqb t 0 ≡ false).
-    let price = executionPrice o met h.of in
-    let near : price.0 < 2 ^ 32 = omega (arith, execution-near o met h.of, r.price) in
+    let price = execution_price o met h.of in
+    let near : price.0 < 2 ^ 32 = omega (arith, execution_near o met h.of, r.price) in
     let given : t < 2 ^ 32 = omega (arith, m, part_of h, r.left) in
     let resting = fits 4 h.of.number.0 r.number (fits 4 price.0 near (fits 4 t given empty)) in
-    rw z (also (fits 1 executedKind (omega arith) (fits 4 n.0 l resting)) (executions-fit n o met l a e)))
-    (holds-or-not (eqb t 0))
+    rw z (also (fits 1 executed_kind (omega arith) (fits 4 n.0 l resting)) (executions_fit n o met l a e)))
+    (holds_or_not (eqb t 0))
   where
-    part_of : (h : Holding) → size h ≤ sharesLeft h.of
-    part_of h = by-choice (λ (k : ℕ). k ≤ sharesLeft h.of) h.isReserve (λ t. omega arith) (λ t. omega arith)
+    part_of : (h : Holding) → size h ≤ shares_left h.of
+    part_of h = by_choice (λ (k : ℕ). k ≤ shares_left h.of) h.is_reserve (λ t. omega arith) (λ t. omega arith)
 
 -- ── Cancels and moves ──
 
@@ -110,45 +110,45 @@ SmallFate Stays = Unit {0}
 SmallFate (IsCancelled reason) = reason < 2 ^ 8
 SmallFate (IsSet new) = Small new
 
-told-fits : (fate : Resting → Fate) → ((h : Resting) → Small h → SmallFate (fate h)) → {s : List Resting} → All Small s → All FitsEvent (told fate s)
+told_fits : (fate : Resting → Fate) → ((h : Resting) → Small h → SmallFate (fate h)) → {s : List Resting} → All Small s → All FitsEvent (told fate s)
 unfolding told
-told-fits fate small a = gathered-all (λ (h : Resting). toldBy (fate h) h) (all_alike (λ h r. by-fate (fate h) h r (small h r)) a)
+told_fits fate small a = gathered_all (λ (h : Resting). told_by (fate h) h) (all_alike (λ h r. by_fate (fate h) h r (small h r)) a)
   where
-    by-fate : (f : Fate) (h : Resting) → Small h → SmallFate f → All FitsEvent (toldBy f h)
-    by-fate Stays h r i = none
-    by-fate (IsCancelled reason) h r i =
-        also (fits 1 cancelledKind (omega arith) (fits 4 h.number.0 r.number (fits 4 (sharesLeft h) r.left (fits 1 reason i empty)))) none
-    by-fate (IsSet new) h r i =
+    by_fate : (f : Fate) (h : Resting) → Small h → SmallFate f → All FitsEvent (told_by f h)
+    by_fate Stays h r i = none
+    by_fate (IsCancelled reason) h r i =
+        also (fits 1 cancelled_kind (omega arith) (fits 4 h.number.0 r.number (fits 4 (shares_left h) r.left (fits 1 reason i empty)))) none
+    by_fate (IsSet new) h r i =
         let fields = fits 4 new.number.0 i.number (fits 4 new.price.0 (omega (arith, i.price))
         (fits 4 new.shares.0 (omega (arith, i.left)) empty)) in
         also (fits 1 moved_kind (omega arith) fields) none
 
 -- the Locking Price of an away quote in range does too
-locking-small : (buy : Bool) (away : Away) → (awayInRange away.bid && awayInRange away.offer) ≡ true
-    → (lockingPrice buy away).0 + 1 < 2 ^ 32
-locking-small buy away a = away-small (if buy then away.offer else away.bid) (locking-ranged buy away a)
+locking_small : (buy : Bool) (away : Away) → (away_in_range away.bid && away_in_range away.offer) ≡ true
+    → (locking_price buy away).0 + 1 < 2 ^ 32
+locking_small buy away a = away_small (if buy then away.offer else away.bid) (locking_ranged buy away a)
   where
-    away-small : (p : Cents) → awayInRange p ≡ true → (inHalfCents p).0 + 1 < 2 ^ 32
-    away-small p a =
+    away_small : (p : Cents) → away_in_range p ≡ true → (in_half_cents p).0 + 1 < 2 ^ 32
+    away_small p a =
         ⊎_elim
         (λ (t : eqb p.0 0 ≡ true). omega (arith, eqb-true p.0 0 t))
-        (λ (t : eqb p.0 0 ≡ false). omega (arith, price-highest p (rw t at a)))
-        (holds-or-not (eqb p.0 0))
+        (λ (t : eqb p.0 0 ≡ false). omega (arith, price_highest p (rw t at a)))
+        (holds_or_not (eqb p.0 0))
 
 -- so are the fates that an accepted command gives
-fates-small : (b : Book) (c : Body) → first_of (bodyRefusals b c) ≡ 0 → (buy : Bool) (h : Resting) → Small h → SmallFate (fateBy c buy h)
-fates-small b (body.Order o) accepted buy h r = tt
-fates-small b (body.Cancel of) accepted buy h r = cancel-fate SmallFate of h (omega arith) (λ t. tt)
-fates-small b (body.Quote away) accepted buy h r =
-    quote-fate SmallFate away buy h (λ t. tt) (λ t back. omega arith)
-    (λ t back. record { number = r.number; price = locking-small buy away (accepted-quote b away accepted); left = r.left })
-fates-small b body.Close accepted buy h r = omega arith
+fates_small : (b : Book) (c : Body) → first_of (body_refusals b c) ≡ 0 → (buy : Bool) (h : Resting) → Small h → SmallFate (fate_by c buy h)
+fates_small b (body.Order o) accepted buy h r = tt
+fates_small b (body.Cancel of) accepted buy h r = cancel_fate_lem SmallFate of h (omega arith) (λ t. tt)
+fates_small b (body.Quote away) accepted buy h r =
+    quote_fate_lem SmallFate away buy h (λ t. tt) (λ t back. omega arith)
+    (λ t back. record { number = r.number; price = locking_small buy away (accepted_quote b away accepted); left = r.left })
+fates_small b body.Close accepted buy h r = omega arith
 
 -- and so is that of a refill
-refill-small : (h : Resting) → Small h → SmallFate (refillFate h)
-refill-small h r =
-    by-choice SmallFate (eqb h.shares.0 0)
-    (λ t. record { number = r.number; price = r.price; left = omega (arith, r.left, shown-at-most h.floor.0 (sharesLeft h)) }) (λ t. tt)
+refill_small : (h : Resting) → Small h → SmallFate (refill_fate h)
+refill_small h r =
+    by_choice SmallFate (eqb h.shares.0 0)
+    (λ t. record { number = r.number; price = r.price; left = omega (arith, r.left, shown_at_most h.floor.0 (shares_left h)) }) (λ t. tt)
 
 -- ── The ending of an order ──
 
@@ -159,24 +159,24 @@ pub data FitsEnding : Ending → Type 0 where
   cancelled : (reason : ℕ) → reason < 2 ^ 8 → FitsEnding (Cancels reason)
 
 -- so the price at which an order rests is its limit or one in range, and the reasons are 2 to 6, and 8
-pub ending-fits : (o : Order) (met : Met) → (limitOf o).0 < 2 ^ 32 → FitsEnding (ending o met)
-unfolding ending endingWith
-ending-fits o met l =
+pub ending_fits : (o : Order) (met : Met) → (limit_of o).0 < 2 ^ 32 → FitsEnding (ending o met)
+unfolding ending ending_with
+ending_fits o met l =
     chosen FitsEnding (eqb (remainder o met) 0) filled
-    (chosen FitsEnding (has o.word fok) (cancelled fokKilled (omega arith))
-    (chosen FitsEnding (has o.word ioc) (cancelled iocRemainder (omega arith))
-    (sought-is FitsEnding (λ p e. rests p (omega (arith, price-small p e))) (cancelled cancelledBack (omega arith))
-    (cancelled noPriceInRange (omega arith)) (cancelled postOnlyMeets (omega arith)) (cancelled wouldStillMeet (omega arith))
-    o met.away met.own (after met.opposite (takings o met)) (rests (limitOf o) l))))
+    (chosen FitsEnding (has o.word fok) (cancelled fok_killed (omega arith))
+    (chosen FitsEnding (has o.word ioc) (cancelled ioc_remainder (omega arith))
+    (sought_is FitsEnding (λ p e. rests p (omega (arith, price_small p e))) (cancelled cancelled_back (omega arith))
+    (cancelled no_price_in_range (omega arith)) (cancelled post_only_meets (omega arith)) (cancelled would_still_meet (omega arith))
+    o met.away met.own (after met.opposite (takings o met)) (rests (limit_of o) l))))
 
 -- the last line of an order, of what is left of it
-pub last-line-fits : (n : Number) (left : ℕ) → n.0 < 2 ^ 32 → left < 2 ^ 32 → {e : Ending} → FitsEnding e → All FitsEvent (lastLine n left e)
-last-line-fits n left l m filled = none
-last-line-fits n left l m (rests p k) = also (fits 1 restedKind (omega arith) (fits 4 n.0 l (fits 4 p.0 k (fits 4 left m empty)))) none
-last-line-fits n left l m (cancelled reason k) = also (fits 1 cancelledKind (omega arith) (fits 4 n.0 l (fits 4 left m (fits 1 reason k empty)))) none
+pub last_line_fits : (n : Number) (left : ℕ) → n.0 < 2 ^ 32 → left < 2 ^ 32 → {e : Ending} → FitsEnding e → All FitsEvent (last_line n left e)
+last_line_fits n left l m filled = none
+last_line_fits n left l m (rests p k) = also (fits 1 rested_kind (omega arith) (fits 4 n.0 l (fits 4 p.0 k (fits 4 left m empty)))) none
+last_line_fits n left l m (cancelled reason k) = also (fits 1 cancelled_kind (omega arith) (fits 4 n.0 l (fits 4 left m (fits 1 reason k empty)))) none
 
 -- the price and the shares of an order that was read have four bytes
-pub order_small : (side word price size : ℕ) (x : Carried) → Fitting (orderFormOf x) (side ∷ word ∷ price ∷ size ∷ carriedNumbers x)
+pub order_small : (side word price size : ℕ) (x : Carried) → Fitting (order_form_of x) (side ∷ word ∷ price ∷ size ∷ carried_numbers x)
     → (price < 2 ^ 32) × (size < 2 ^ 32)
 order_small side word price size Nothing (fits w a i (fits x b j (fits y c p (fits z d q empty)))) = (p, q)
 order_small side word price size (MaxFloor floor) (fits w a i (fits x b j (fits y c p (fits z d q rest)))) = (p, q)
@@ -185,123 +185,123 @@ order_small side word price size (Minimum least) (fits w a i (fits x b j (fits y
 -- ── An accepted command ──
 
 -- the limit of an accepted order, in half cents, and its shares have four bytes; a market order has the limit 0
-module _ (o : Order) (r : orderInRange o ≡ true) where
-  fields : (leb o.side 1 && sharesInRange o.shares && orderPriceInRange o) ≡ true
-  fields = and_left (leb o.side 1 && sharesInRange o.shares && orderPriceInRange o) (carriedInRange o.shares o.carried) r
+module _ (o : Order) (r : order_in_range o ≡ true) where
+  fields : (leb o.side 1 && shares_in_range o.shares && order_price_in_range o) ≡ true
+  fields = and_left (leb o.side 1 && shares_in_range o.shares && order_price_in_range o) (carried_in_range o.shares o.carried) r
 
-  limit-small : (limitOf o).0 < 2 ^ 32
-  limit-small =
-      let priced = and_right (leb o.side 1 && sharesInRange o.shares) (orderPriceInRange o) fields in
+  limit_small : (limit_of o).0 < 2 ^ 32
+  limit_small =
+      let priced = and_right (leb o.side 1 && shares_in_range o.shares) (order_price_in_range o) fields in
       ⊎_elim
       (λ (t : has o.word market ≡ true). omega (arith, eqb-true o.price.0 0 (rw t at priced)))
-      (λ (t : has o.word market ≡ false). omega (arith, price-highest o.price (rw t at priced)))
-      (holds-or-not (has o.word market))
+      (λ (t : has o.word market ≡ false). omega (arith, price_highest o.price (rw t at priced)))
+      (holds_or_not (has o.word market))
 
   size_small : o.shares.0 < 2 ^ 32
   size_small =
-      let sized = and_left (leb o.side 1 && sharesInRange o.shares) (orderPriceInRange o) fields in
-      omega (arith, shares-most o.shares (and_right (leb o.side 1) (sharesInRange o.shares) sized))
+      let sized = and_left (leb o.side 1 && shares_in_range o.shares) (order_price_in_range o) fields in
+      omega (arith, shares_most o.shares (and_right (leb o.side 1) (shares_in_range o.shares) sized))
 
 module _ (b : Book) (s : sound b ≡ true) (l : b.held.last.0 < 2 ^ 32) (n : Number) (m : n.0 < 2 ^ 32) (time : ℕ) where
   -- the resting orders of both sides are small
-  opposite-small : (buy : Bool) → All Small (oppositeSide buy b)
-  opposite-small buy = all_small l (sides-of buy b (sound-is b s)).oppositeInRange
+  opposite_small : (buy : Bool) → All Small (opposite_side buy b)
+  opposite_small buy = all_small l (sides_of buy b (sound_is b s)).opposite_in_range
 
   -- no more is left of an order than it has
-  order-fits : (o : Order) → first_of (bodyRefusals b (body.Order o)) ≡ 0 → All FitsEvent (does n time (body.Order o) b).events
+  order_fits : (o : Order) → first_of (body_refusals b (body.Order o)) ≡ 0 → All FitsEvent (does n time (body.Order o) b).events
   unfolding remainder
-  order-fits o accepted =
-      let met = metBy o b in
-      let small = opposite-small (buying o) in
-      let in_range = (accepted-order b o accepted).in_range in
+  order_fits o accepted =
+      let met = met_by o b in
+      let small = opposite_small (buying o) in
+      let in_range = (accepted_order b o accepted).in_range in
       let reduced : All Small (after met.opposite (takings o met)) =
-      after-are o met
+      after_are o met
       (λ h t r p g kept. let k = one_of_all small p in record { number = k.number; price = k.price; left = omega (arith, k.left) }) in
-      rw (order-does n time b o).1
+      rw (order_does n time b o).1
       (all_both
-      (all_both (executions-fit n o met m (all_alike (λ h p. one_of_all small p) (holdings-there met.opposite)) (takings-within o met))
-      (last-line-fits n (remainder o met) m (omega (arith, size_small o in_range)) (ending-fits o met (limit-small o in_range))))
-      (told-fits refillFate refill-small reduced))
+      (all_both (executions_fit n o met m (all_alike (λ h p. one_of_all small p) (holdings_there met.opposite)) (takings_within o met))
+      (last_line_fits n (remainder o met) m (omega (arith, size_small o in_range)) (ending_fits o met (limit_small o in_range))))
+      (told_fits refill_fate refill_small reduced))
 
   -- whatever an accepted command does, its events fit
-  does-fits : (c : Body) → first_of (bodyRefusals b c) ≡ 0 → All FitsEvent (does n time c b).events
-  does-fits =
-      does-tells n time b (λ (c : Body) (es : List Event). first_of (bodyRefusals b c) ≡ 0 → All FitsEvent es) order-fits
+  does_fits : (c : Body) → first_of (body_refusals b c) ≡ 0 → All FitsEvent (does n time c b).events
+  does_fits =
+      does_tells n time b (λ (c : Body) (es : List Event). first_of (body_refusals b c) ≡ 0 → All FitsEvent es) order_fits
       (λ c accepted. all_both
-      (told-fits (fateBy c true) (fates-small b c accepted true) (opposite-small false))
-      (told-fits (fateBy c false) (fates-small b c accepted false) (opposite-small true)))
+      (told_fits (fate_by c true) (fates_small b c accepted true) (opposite_small false))
+      (told_fits (fate_by c false) (fates_small b c accepted false) (opposite_small true)))
 
 -- ── One line ──
 
 -- the second field of a header has four bytes
-pub header-number : {kind n time : ℕ} → Fitting headerForm (kind ∷ n ∷ time ∷ []) → n < 2 ^ 32
-header-number (fits w kind i (fits x n l (fits y time k empty))) = l
+pub header_number : {kind n time : ℕ} → Fitting header_form (kind ∷ n ∷ time ∷ []) → n < 2 ^ 32
+header_number (fits w kind i (fits x n l (fits y time k empty))) = l
 
 -- so the number of a command that was read does
-number_fits : (line : List ℕ) → commandNumber (commandIn line) < 2 ^ 32
-number_fits line = by-reading (commandIn line) refl
+number_fits : (line : List ℕ) → command_number (command_in line) < 2 ^ 32
+number_fits line = by_reading (command_in line) refl
   where
-    by-reading : (r : Reading) → commandIn line ≡ r → commandNumber r < 2 ^ 32
-    by-reading reading.Bad e = omega arith
-    by-reading (reading.Is c) e = header-number (commandIn-is line c e).fits-are.header
+    by_reading : (r : Reading) → command_in line ≡ r → command_number r < 2 ^ 32
+    by_reading reading.Bad e = omega arith
+    by_reading (reading.Is c) e = header_number (command_in_is line c e).fits_are.header
 
 module _ (b : Book) (line : List ℕ) (s : sound b ≡ true) where
   -- and where a line acts, the last number does, for it is one less
   last_fits : acts b line ≡ true → b.held.last.0 < 2 ^ 32
-  last_fits t = let next = next-acts b line t in omega (arith, next.0, number_fits line)
+  last_fits t = let next = next_acts b line t in omega (arith, next.0, number_fits line)
 
   -- a line that acts gives events that fit
-  pub acting-fits : acts b line ≡ true → All FitsEvent (answerTo b line).events
-  unfolding answerTo answer doneBy
-  acting-fits t = rw t (done-fits (commandIn line) refl)
+  pub acting_fits : acts b line ≡ true → All FitsEvent (answer_to b line).events
+  unfolding answer_to answer done_by
+  acting_fits t = rw t (done_fits (command_in line) refl)
     where
-      done-fits : (r : Reading) → commandIn line ≡ r → All FitsEvent (doneBy r b).events
-      done-fits reading.Bad e = none
-      done-fits (reading.Is c) e =
-          let header = (commandIn-is line c e).fits-are.header in
-          does-fits b s (last_fits t) c.number (header-number header) c.time c.body (acts-accepted b line c t e).byBody
+      done_fits : (r : Reading) → command_in line ≡ r → All FitsEvent (done_by r b).events
+      done_fits reading.Bad e = none
+      done_fits (reading.Is c) e =
+          let header = (command_in_is line c e).fits_are.header in
+          does_fits b s (last_fits t) c.number (header_number header) c.time c.body (acts_accepted b line c t e).by_body
 
   -- its event lines tell its events, and then what follows is read
-  events-told : (rest : List ℕ) → eventsIn (eventLines (answerTo b line).events ++ rest) ≡ (answerTo b line).events ++ eventsIn rest
-  unfolding eventLines
-  events-told rest =
+  events_told : (rest : List ℕ) → events_in (event_lines (answer_to b line).events ++ rest) ≡ (answer_to b line).events ++ events_in rest
+  unfolding event_lines
+  events_told rest =
       ⊎_elim
-      (λ (t : acts b line ≡ true). events-read rest (acting-fits t))
-      (λ (t : acts b line ≡ false). rw (refused-events b line t) refl)
-      (holds-or-not (acts b line))
+      (λ (t : acts b line ≡ true). events_read rest (acting_fits t))
+      (λ (t : acts b line ≡ false). rw (refused_events b line t) refl)
+      (holds_or_not (acts b line))
 
   -- what is printed of a line tells its events, and then what follows is read
-  line_read : (rest : List ℕ) → eventsIn (printed (answerTo b line) ++ rest) ≡ (answerTo b line).events ++ eventsIn rest
+  line_read : (rest : List ℕ) → events_in (printed (answer_to b line) ++ rest) ≡ (answer_to b line).events ++ events_in rest
   unfolding printed
   line_read rest =
       ⊎_elim
-      (λ (t : acts b line ≡ true). rw t (events-read rest (acting-fits t)))
-      (λ (t : acts b line ≡ false). rw (t, refused-events b line t) (refusal-read (answerTo b line).refusal rest))
-      (holds-or-not (acts b line))
+      (λ (t : acts b line ≡ true). rw t (events_read rest (acting_fits t)))
+      (λ (t : acts b line ≡ false). rw (t, refused_events b line t) (refusal_read (answer_to b line).refusal rest))
+      (holds_or_not (acts b line))
 
 -- what is printed of a line tells its events
-pub line-told : (b : Book) (line : List ℕ) → sound b ≡ true → eventsIn (printed (answerTo b line)) ≡ (answerTo b line).events
-unfolding cut unendedLine linesIn eventsOn
-line-told b line s =
-    sym (ap eventsIn (append-nil (printed (answerTo b line)))) ∙ line_read b line s [] ∙ append-nil (answerTo b line).events
+pub line_told : (b : Book) (line : List ℕ) → sound b ≡ true → events_in (printed (answer_to b line)) ≡ (answer_to b line).events
+unfolding cut unended_line lines_in events_on
+line_told b line s =
+    sym (ap events_in (append-nil (printed (answer_to b line)))) ∙ line_read b line s [] ∙ append-nil (answer_to b line).events
 
 -- ── A run of lines ──
 
 -- what is printed of a run tells its events
-pub run-told : (b : Book) (lines : List (List ℕ)) → sound b ≡ true → eventsIn (printedOf b lines) ≡ eventsOf b lines
-unfolding printedOf eventsOf cut unendedLine linesIn eventsOn
-run-told b [] s = refl
-run-told b (line ∷ lines) s =
-    let book = (answerTo b line).book in
-    line_read b line s (printedOf book lines)
-    ∙ ap (λ (es : List Event). (answerTo b line).events ++ es) (run-told book lines (answer-sound b line s))
+pub run_told : (b : Book) (lines : List (List ℕ)) → sound b ≡ true → events_in (printed_of b lines) ≡ events_of b lines
+unfolding printed_of events_of cut unended_line lines_in events_on
+run_told b [] s = refl
+run_told b (line ∷ lines) s =
+    let book = (answer_to b line).book in
+    line_read b line s (printed_of book lines)
+    ∙ ap (λ (es : List Event). (answer_to b line).events ++ es) (run_told book lines (answer_sound b line s))
 
 -- and so do its event lines alone
-pub lines-read : (b : Book) (lines : List (List ℕ)) → sound b ≡ true → eventsIn (eventLinesOf byLine b lines) ≡ eventsOf b lines
-unfolding eventLinesOf eventsOf cut unendedLine linesIn eventsOn
-lines-read b [] s = refl
-lines-read b (line ∷ lines) s =
-    let book = (answerTo b line).book in
-    let rest = lines-read book lines (answer-sound b line s) in
-    events-told b line s (eventLinesOf byLine book lines)
-    ∙ ap (λ (es : List Event). (answerTo b line).events ++ es) rest
+pub lines_read : (b : Book) (lines : List (List ℕ)) → sound b ≡ true → events_in (event_lines_of by_line b lines) ≡ events_of b lines
+unfolding event_lines_of events_of cut unended_line lines_in events_on
+lines_read b [] s = refl
+lines_read b (line ∷ lines) s =
+    let book = (answer_to b line).book in
+    let rest = lines_read book lines (answer_sound b line s) in
+    events_told b line s (event_lines_of by_line book lines)
+    ∙ ap (λ (es : List Event). (answer_to b line).events ++ es) rest

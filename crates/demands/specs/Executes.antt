@@ -13,22 +13,22 @@ use Rattle.rules.specs.declared.Order.{Order}
 use Rattle.rules.specs.declared.Resting.{Resting}
 use Rattle.rules.specs.Book.{Book}
 use Rattle.rules.specs.Commands.{is_number}
-use Rattle.rules.specs.Holdings.{Holding, size, walksBefore}
+use Rattle.rules.specs.Holdings.{Holding, size, walks_before}
 use Rattle.rules.specs.Instructions.{fok, has}
 use Rattle.rules.specs.Working.{buying}
 use Rattle.demands.specs.ExactlyWhen.{own}
 use Rattle.demands.specs.ShareOut.{opposite, against, Given, Beside, Fair, given, Lawful, Fills, PriceHere}
-use Rattle.demands.specs.Told.{executedIn, cancelledIn, isKilled}
+use Rattle.demands.specs.Told.{executed_in, cancelled_in, is_killed}
 
 -- the executions among some lines
-abbrev pub executionIn : Event → List Event
-executionIn (Executed incoming resting price shares) = Executed incoming resting price shares ∷ []
-executionIn (Rested n price shares) = []
-executionIn (Cancelled n shares reason) = []
-executionIn (Moved n price shares) = []
+abbrev pub execution_in : Event → List Event
+execution_in (Executed incoming resting price shares) = Executed incoming resting price shares ∷ []
+execution_in (Rested n price shares) = []
+execution_in (Cancelled n shares reason) = []
+execution_in (Moved n price shares) = []
 
-abbrev pub executionsIn : List Event → List Event
-executionsIn es = gathered executionIn es
+abbrev pub executions_in : List Event → List Event
+executions_in es = gathered execution_in es
 
 -- the lines of a share-out by order n: one for each holding that gives, in the order of the walk, never one for two
 unfoldable pub lines_of : Number → List Holding → List Given → List Event
@@ -49,22 +49,22 @@ Between n s (Moved m price shares) = Unit {0}
 pub record Executes (stood : Book) (c : Command) (o : Order) (es : List Event) : Type 0 where
   -- it is a share-out of the opposite holdings, told line by line, no other order gives a share, and it is lawful
   pub between : All (Between c.number (opposite o stood)) es
-  pub shareOut : List Given
-  pub told : executionsIn es ≡ lines_of c.number (against o stood) shareOut
-  pub inAll : executedIn c.number es ≡ given shareOut
-  pub isLawful : Lawful o stood.held.away (own o stood) (against o stood) shareOut
+  pub share_out : List Given
+  pub told : executions_in es ≡ lines_of c.number (against o stood) share_out
+  pub in_all : executed_in c.number es ≡ given share_out
+  pub is_lawful : Lawful o stood.held.away (own o stood) (against o stood) share_out
   -- "A Fill-or-Kill is killed exactly if no lawful share-out totals its size, and then executes nothing."
-  pub killedOnly : isKilled c.number es ≡ true → Fills o stood.held.away (own o stood) (against o stood) → ⊥
-  pub killedIf : has o.word fok ≡ true → (Fills o stood.held.away (own o stood) (against o stood) → ⊥)
-      → isKilled c.number es ≡ true
-  pub killedNothing : isKilled c.number es ≡ true → executedIn c.number es ≡ 0
-  pub killedWhole : isKilled c.number es ≡ true → cancelledIn c.number es ≡ o.shares.0
-  pub onlyFok : isKilled c.number es ≡ true → has o.word fok ≡ true
+  pub killed_only : is_killed c.number es ≡ true → Fills o stood.held.away (own o stood) (against o stood) → ⊥
+  pub killed_if : has o.word fok ≡ true → (Fills o stood.held.away (own o stood) (against o stood) → ⊥)
+      → is_killed c.number es ≡ true
+  pub killed_nothing : is_killed c.number es ≡ true → executed_in c.number es ≡ 0
+  pub killed_whole : is_killed c.number es ≡ true → cancelled_in c.number es ≡ o.shares.0
+  pub only_fok : is_killed c.number es ≡ true → has o.word fok ≡ true
   -- "Every other such order executes the greatest lawful total"
-  pub greatest : isKilled c.number es ≡ false → (gs : List Given) → Lawful o stood.held.away (own o stood) (against o stood) gs
-      → given gs ≤ executedIn c.number es
+  pub greatest : is_killed c.number es ≡ false → (gs : List Given) → Lawful o stood.held.away (own o stood) (against o stood) gs
+      → given gs ≤ executed_in c.number es
   -- "and no resting order gives a share while a better-ranked one that could lawfully give keeps one"
-  pub inRank : {better worse : Holding} {gives takes : Given} → Beside better gives (against o stood) shareOut
-      → Beside worse takes (against o stood) shareOut → walksBefore (not (buying o)) better worse ≡ true → 0 < takes.shares
+  pub in_rank : {better worse : Holding} {gives takes : Given} → Beside better gives (against o stood) share_out
+      → Beside worse takes (against o stood) share_out → walks_before (not (buying o)) better worse ≡ true → 0 < takes.shares
       → {price : HalfCents} → PriceHere o (own o stood) better.of price → Fair o stood.held.away price
       → gives.shares ≡ size better

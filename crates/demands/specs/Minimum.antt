@@ -12,32 +12,32 @@ use Rattle.rules.specs.declared.Event.{Event}
 use Rattle.rules.specs.declared.Event.TheVariants.{Executed, Rested, Cancelled, Moved}
 use Rattle.rules.specs.declared.Order.{Order}
 use Rattle.rules.specs.declared.Resting.{Resting}
-use Rattle.rules.specs.Book.{Book, sharesLeft}
+use Rattle.rules.specs.Book.{Book, shares_left}
 use Rattle.rules.specs.Holdings.{Holding, size}
-use Rattle.rules.specs.Instructions.{ioc, fok, has, postOnly}
-use Rattle.rules.specs.Working.{minimumOf, seeks}
+use Rattle.rules.specs.Instructions.{ioc, fok, has, post_only}
+use Rattle.rules.specs.Working.{minimum_of, seeks}
 use Rattle.demands.specs.ExactlyWhen.{own}
-use Rattle.demands.specs.Executes.{Between, executionsIn, lines_of}
-use Rattle.demands.specs.Once.{byLine}
+use Rattle.demands.specs.Executes.{Between, executions_in, lines_of}
+use Rattle.demands.specs.Once.{by_line}
 use Rattle.demands.specs.Run.{Enters}
 use Rattle.demands.specs.ShareOut.{opposite, against, Given, given, Fair, PriceHere}
-use Rattle.demands.specs.Told.{executedIn, cancelledIn, isKilled}
+use Rattle.demands.specs.Told.{executed_in, cancelled_in, is_killed}
 
 -- neither the incoming order nor one that it meets has a minimum
 pub record NoMinimum (o : Order) (stood : Book) : Type 0 where
-  pub incoming : minimumOf o.carried ≡ 0
+  pub incoming : minimum_of o.carried ≡ 0
   pub resting : All (λ (h : Resting). h.minimum.0 ≡ 0) (opposite o stood)
 
 -- no accepted order of a run of lines asks for a least size
 abbrev pub NoneAsks : Book → List (List ℕ) → Type 0
 NoneAsks b lines =
-    (stood : Book) (line : List ℕ) (c : Command) (o : Order) → Enters byLine b lines stood line c o → minimumOf o.carried ≡ 0
+    (stood : Book) (line : List ℕ) (c : Command) (o : Order) → Enters by_line b lines stood line c o → minimum_of o.carried ≡ 0
 
 -- ── The walk in rank order ──
 
 -- "the smaller of its minimum and its holding"
-abbrev pub leastGiven : Holding → ℕ
-leastGiven h = min h.of.minimum.0 (size h)
+abbrev pub least_given : Holding → ℕ
+least_given h = min h.of.minimum.0 (size h)
 
 -- the price given here is fair: the order may be touched
 pub record MayGive (o : Order) (away : Away) (own : List Resting) (h : Holding) : Type 0 where
@@ -49,13 +49,13 @@ pub record MayGive (o : Order) (away : Away) (own : List Resting) (h : Holding) 
 -- left than the smaller of its minimum and its holding, it is skipped and the walk goes on"; "any other gives the smaller of its holding and
 -- what is left"
 pub data WalksInRank (o : Order) (away : Away) (own : List Resting) : ℕ → List Holding → List Given → Type 0 where
-  atTheEnd : {left : ℕ} → WalksInRank o away own left [] []
+  at_the_end : {left : ℕ} → WalksInRank o away own left [] []
   ends : {left : ℕ} {h : Holding} {hs : List Holding} {gs : List Given} → (MayGive o away own h → ⊥)
       → All (λ (g : Given). g.shares ≡ 0) gs → WalksInRank o away own left (h ∷ hs) gs
-  skips : {left : ℕ} {h : Holding} {hs : List Holding} {g : Given} {gs : List Given} → MayGive o away own h → left < leastGiven h
+  skips : {left : ℕ} {h : Holding} {hs : List Holding} {g : Given} {gs : List Given} → MayGive o away own h → left < least_given h
       → g.shares ≡ 0 → WalksInRank o away own left hs gs → WalksInRank o away own left (h ∷ hs) (g ∷ gs)
   gives : {left : ℕ} {h : Holding} {hs : List Holding} {g : Given} {gs : List Given} → PriceHere o own h.of g.price
-      → Fair o away g.price → leastGiven h ≤ left → g.shares ≡ min left (size h)
+      → Fair o away g.price → least_given h ≤ left → g.shares ≡ min left (size h)
       → WalksInRank o away own (left - g.shares) hs gs → WalksInRank o away own left (h ∷ hs) (g ∷ gs)
 
 -- what an order that isn't Post Only executes, on the book that stood, as its event lines tell it
@@ -65,21 +65,21 @@ pub record ExecutesInRank (stood : Book) (c : Command) (o : Order) (es : List Ev
   pub walk : List Given
   pub walks : WalksInRank o stood.held.away (own o stood) o.shares.0 (against o stood) walk
   -- "FOK is killed exactly if the walk in rank order falls short, and then executes nothing"
-  pub killedOnly : isKilled c.number es ≡ true → (has o.word fok ≡ true) × (given walk < o.shares.0)
-  pub killedIf : has o.word fok ≡ true → given walk < o.shares.0 → isKilled c.number es ≡ true
-  pub killedNothing : isKilled c.number es ≡ true → (executionsIn es ≡ []) × (cancelledIn c.number es ≡ o.shares.0)
+  pub killed_only : is_killed c.number es ≡ true → (has o.word fok ≡ true) × (given walk < o.shares.0)
+  pub killed_if : has o.word fok ≡ true → given walk < o.shares.0 → is_killed c.number es ≡ true
+  pub killed_nothing : is_killed c.number es ≡ true → (executions_in es ≡ []) × (cancelled_in c.number es ≡ o.shares.0)
   -- "nor does an incoming order whose walk gives less than its minimum"
-  pub belowNothing : given walk < minimumOf o.carried → executionsIn es ≡ []
+  pub below_nothing : given walk < minimum_of o.carried → executions_in es ≡ []
   -- "In every other walk" each gives what the walk says, told line by line
-  pub otherwise : isKilled c.number es ≡ false → minimumOf o.carried ≤ given walk
-      → (executionsIn es ≡ lines_of c.number (against o stood) walk) × (executedIn c.number es ≡ given walk)
+  pub otherwise : is_killed c.number es ≡ false → minimum_of o.carried ≤ given walk
+      → (executions_in es ≡ lines_of c.number (against o stood) walk) × (executed_in c.number es ≡ given walk)
 
 -- ── Reason 8 ──
 
 -- a price equals or passes that of an opposite order
 pub data EqualsOrPasses (o : Order) (price : HalfCents) (h : Resting) : Type 0 where
-  aBuy : o.side ≡ 0 → h.price.0 ≤ price.0 → EqualsOrPasses o price h
-  aSell : o.side ≡ 1 → price.0 ≤ h.price.0 → EqualsOrPasses o price h
+  a_buy : o.side ≡ 0 → h.price.0 ≤ price.0 → EqualsOrPasses o price h
+  a_sell : o.side ≡ 1 → price.0 ≤ h.price.0 → EqualsOrPasses o price h
 
 -- "W6's locked price": a displayed order of its own side stands there; where a price equals or passes an opposite order of a sound book,
 -- that one is hidden and stands there too
@@ -87,14 +87,14 @@ pub record AtALock (own : List Resting) (price : HalfCents) : Type 0 where
   pub by : Resting
   pub there : OneOf by own
   pub shown : by.displayed ≡ true
-  pub atThePrice : by.price.0 ≡ price.0
+  pub at_the_price : by.price.0 ≡ price.0
 
 -- "A remainder that would still equal or pass an opposite order, save Post Only or at W6's locked price", at its price from step 4: one of
 -- those that are left after the walk; a remainder of a Day order, for IOC's has reason 2
 pub record StillMeets (o : Order) (stood after : Book) : Type 0 where
-  pub notPostOnly : has o.word postOnly ≡ false
-  pub notFok : has o.word fok ≡ false
-  pub notIoc : has o.word ioc ≡ false
+  pub not_post_only : has o.word post_only ≡ false
+  pub not_fok : has o.word fok ≡ false
+  pub not_ioc : has o.word ioc ≡ false
   pub price : HalfCents
   pub sought : seeks o stood.held.away ≡ Rests price
   pub whom : Resting
@@ -107,7 +107,7 @@ pub record StillMeets (o : Order) (stood after : Book) : Type 0 where
 abbrev pub SaysOfReason8 : Order → Book → Book → Event → Type 0
 SaysOfReason8 o stood after (Executed incoming resting price shares) = Unit {0}
 SaysOfReason8 o stood after (Rested n price shares) =
-    has o.word postOnly ≡ false
+    has o.word post_only ≡ false
     → AtALock (own o stood) price ⊎ ((h : Resting) → OneOf h (opposite o after) → EqualsOrPasses o price h → ⊥)
 SaysOfReason8 o stood after (Cancelled n shares reason) = reason ≡ 8 → StillMeets o stood after
 SaysOfReason8 o stood after (Moved n price shares) = Unit {0}
@@ -116,10 +116,10 @@ SaysOfReason8 o stood after (Moved n price shares) = Unit {0}
 
 -- "A Non-Displayed order may ask for a least size": none, or 1 to what is left of it, and no reserve beside it
 pub data MinimumIs (h : Resting) : Type 0 where
-  noMinimum : h.minimum.0 ≡ 0 → MinimumIs h
-  hidden : h.displayed ≡ false → 1 ≤ h.minimum.0 → h.minimum.0 ≤ sharesLeft h → h.reserve.0 ≡ 0 → h.floor.0 ≡ 0 → MinimumIs h
+  no_minimum : h.minimum.0 ≡ 0 → MinimumIs h
+  hidden : h.displayed ≡ false → 1 ≤ h.minimum.0 → h.minimum.0 ≤ shares_left h → h.reserve.0 ≡ 0 → h.floor.0 ≡ 0 → MinimumIs h
 
 -- an order, and what it was: "When fewer shares remain than the minimum, the minimum becomes what remains"
 pub record BecomesWhatRemains (h' h : Resting) : Type 0 where
   pub number : h.number ≡ h'.number
-  pub minimum : h'.minimum.0 ≡ min h.minimum.0 (sharesLeft h')
+  pub minimum : h'.minimum.0 ≡ min h.minimum.0 (shares_left h')

@@ -5,23 +5,23 @@ use Rattle.std.specs.Prelude.{◌<◌, Bool, true, false, List, [], ◌∷◌, �
 use Rattle.basics.specs.Lists.{All, OneOf}
 use Rattle.kinds.specs.Kinds.{shares}
 use Rattle.kinds.specs.declared.HalfCents.{HalfCents}
-use Rattle.kinds.specs.Kinds.{inHalfCents}
+use Rattle.kinds.specs.Kinds.{in_half_cents}
 use Rattle.kinds.specs.declared.Number.{Number}
 use Rattle.rules.specs.declared.Away.{Away}
 use Rattle.rules.specs.declared.Event.{Event}
 use Rattle.rules.specs.declared.Event.TheVariants.{Cancelled, Moved}
 use Rattle.rules.specs.declared.Resting.{Resting}
-use Rattle.rules.specs.Book.{ranksBefore, sharesLeft}
+use Rattle.rules.specs.Book.{ranks_before, shares_left}
 
 -- "The Locking Price is the away offer for a buy, the away bid for a sell." (01, step 4); 0 where there is none
 abbrev pub locking : Bool → Away → HalfCents
-locking true away = inHalfCents away.offer
-locking false away = inHalfCents away.bid
+locking true away = in_half_cents away.offer
+locking false away = in_half_cents away.bid
 
 -- "a non-displayed order that would now cross the away quote": a buy above the away offer, a sell below the away bid
 pub data Crosses (away : Away) (h : Resting) : Bool → Type 0 where
-  aBuy : h.displayed ≡ false → away.offer.0 ≢ 0 → (inHalfCents away.offer).0 < h.price.0 → Crosses away h true
-  aSell : h.displayed ≡ false → away.bid.0 ≢ 0 → h.price.0 < (inHalfCents away.bid).0 → Crosses away h false
+  a_buy : h.displayed ≡ false → away.offer.0 ≢ 0 → (in_half_cents away.offer).0 < h.price.0 → Crosses away h true
+  a_sell : h.displayed ≡ false → away.bid.0 ≢ 0 → h.price.0 < (in_half_cents away.bid).0 → Crosses away h false
 
 -- the order as it stands afterwards: "set at the Locking Price with a new time stamp" of command n (its place among the command's moves is
 -- DECISIONS, 43), all else as it was
@@ -39,13 +39,13 @@ pub record SetAnew (buy : Bool) (n : Number) (away : Away) (h h' : Resting) : Ty
 -- an order of the side before is so set anew in the side after it
 pub record IsSetAnew (buy : Bool) (n : Number) (away : Away) (after : List Resting) (h : Resting) : Type 0 where
   pub anew : Resting
-  pub isAnew : SetAnew buy n away h anew
+  pub is_anew : SetAnew buy n away h anew
   pub there : OneOf anew after
 
 -- an order of the side after it stood there before, and did not cross, or is one that was set anew
 pub data Stood (buy : Bool) (n : Number) (away : Away) (before : List Resting) (h : Resting) : Type 0 where
-  asBefore : OneOf h before → (Crosses away h buy → ⊥) → Stood buy n away before h
-  setAnew : (g : Resting) → OneOf g before → Crosses away g buy → g.back ≡ false → SetAnew buy n away g h → Stood buy n away before h
+  as_before : OneOf h before → (Crosses away h buy → ⊥) → Stood buy n away before h
+  set_anew : (g : Resting) → OneOf g before → Crosses away g buy → g.back ≡ false → SetAnew buy n away g h → Stood buy n away before h
 
 -- one side of the book before and after the quote of command n, which writes `es`
 pub record Quoted (buy : Bool) (n : Number) (away : Away) (before after : List Resting) (es : List Event) : Type 0 where
@@ -59,31 +59,31 @@ pub record Quoted (buy : Bool) (n : Number) (away : Away) (before after : List R
   -- "One with Cancel Back is cancelled, reason 4": no order of its number is left, and it is told by `13`
   pub goes : (h : Resting) → OneOf h before → Crosses away h buy → h.back ≡ true → All (λ (x : Resting). x.number ≢ h.number) after
   pub cancelled : (h : Resting) → OneOf h before → Crosses away h buy → h.back ≡ true
-      → OneOf (Cancelled h.number (shares (sharesLeft h)) 4) es
+      → OneOf (Cancelled h.number (shares (shares_left h)) 4) es
   -- nobody else stands there afterwards
-  pub noneElse : (h : Resting) → OneOf h after → Stood buy n away before h
+  pub none_else : (h : Resting) → OneOf h after → Stood buy n away before h
   -- "Such orders keep their order"
-  pub keepOrder : (g h g' h' : Resting) → OneOf g before → OneOf h before → Crosses away g buy → Crosses away h buy
-      → ranksBefore buy g h ≡ true → SetAnew buy n away g g' → OneOf g' after → SetAnew buy n away h h' → OneOf h' after
-      → ranksBefore buy g' h' ≡ true
+  pub keep_order : (g h g' h' : Resting) → OneOf g before → OneOf h before → Crosses away g buy → Crosses away h buy
+      → ranks_before buy g h ≡ true → SetAnew buy n away g g' → OneOf g' after → SetAnew buy n away h h' → OneOf h' after
+      → ranks_before buy g' h' ≡ true
   -- whoever stood at that price before ranks before them: their stamp is new
   pub behind : (h g g' : Resting) → OneOf h before → (Crosses away h buy → ⊥) → h.price ≡ locking buy away
       → OneOf g before → Crosses away g buy → SetAnew buy n away g g' → OneOf g' after
-      → ranksBefore buy h g' ≡ true
+      → ranks_before buy h g' ≡ true
 
 -- "Quote writes `14` (number, price, shares) or `13`, .. in former rank order": the lines of one side, which stands in rank order
 pub data Writes (buy : Bool) (away : Away) : List Resting → List Event → Type 0 where
   empty : Writes buy away [] []
   of_none : {h : Resting} {s : List Resting} {es : List Event} → (Crosses away h buy → ⊥) → Writes buy away s es → Writes buy away (h ∷ s) es
-  ofMoved : {h : Resting} {s : List Resting} {es : List Event} → Crosses away h buy → h.back ≡ false → Writes buy away s es
+  of_moved : {h : Resting} {s : List Resting} {es : List Event} → Crosses away h buy → h.back ≡ false → Writes buy away s es
       → Writes buy away (h ∷ s) (Moved h.number (locking buy away) h.shares ∷ es)
-  ofCancelled : {h : Resting} {s : List Resting} {es : List Event} → Crosses away h buy → h.back ≡ true → Writes buy away s es
-      → Writes buy away (h ∷ s) (Cancelled h.number (shares (sharesLeft h)) 4 ∷ es)
+  of_cancelled : {h : Resting} {s : List Resting} {es : List Event} → Crosses away h buy → h.back ≡ true → Writes buy away s es
+      → Writes buy away (h ∷ s) (Cancelled h.number (shares (shares_left h)) 4 ∷ es)
 
 -- "buys first": and nothing else is written
 pub record WritesBoth (away : Away) (buys sells : List Resting) (es : List Event) : Type 0 where
-  pub ofBuys : List Event
-  pub ofSells : List Event
-  pub buysFirst : es ≡ ofBuys ++ ofSells
-  pub buysWrite : Writes true away buys ofBuys
-  pub sellsWrite : Writes false away sells ofSells
+  pub of_buys : List Event
+  pub of_sells : List Event
+  pub buys_first : es ≡ of_buys ++ of_sells
+  pub buys_write : Writes true away buys of_buys
+  pub sells_write : Writes false away sells of_sells

@@ -8,21 +8,21 @@ use Rattle.kinds.specs.declared.Number.{Number}
 use Rattle.rules.specs.declared.Event.{Event}
 use Rattle.rules.specs.declared.Event.TheVariants.{Moved}
 use Rattle.rules.specs.declared.Resting.{Resting}
-use Rattle.rules.specs.Book.{ranksBefore, sharesLeft}
-use Rattle.demands.specs.Told.{givenIn}
+use Rattle.rules.specs.Book.{ranks_before, shares_left}
+use Rattle.demands.specs.Told.{given_in}
 
 -- what an order gave, as the lines of a walk tell it; its shown part gives before its reserve
 abbrev pub gave : List Event → Resting → ℕ
-gave es h = givenIn h.number es
+gave es h = given_in h.number es
 
 -- "due when the shown part is used up and reserve is left"
 pub record Due (es : List Event) (h : Resting) : Type 0 where
-  pub usedUp : h.shares.0 ≤ gave es h
-  pub isLeft : gave es h < sharesLeft h
+  pub used_up : h.shares.0 ≤ gave es h
+  pub is_left : gave es h < shares_left h
 
 -- "to the Max Floor .., or to what is left if that is less"
-abbrev pub refilledTo : List Event → Resting → ℕ
-refilledTo es h = min h.floor.0 (sharesLeft h - gave es h)
+abbrev pub refilled_to : List Event → Resting → ℕ
+refilled_to es h = min h.floor.0 (shares_left h - gave es h)
 
 -- the same order, whatever was taken of it; "When fewer shares remain than the minimum, the minimum becomes what remains" (02, W7)
 pub record SameOrder (h h' : Resting) : Type 0 where
@@ -31,7 +31,7 @@ pub record SameOrder (h h' : Resting) : Type 0 where
   pub displayed : h'.displayed ≡ h.displayed
   pub back : h'.back ≡ h.back
   pub floor : h'.floor ≡ h.floor
-  pub minimum : h'.minimum.0 ≡ min h.minimum.0 (sharesLeft h')
+  pub minimum : h'.minimum.0 ≡ min h.minimum.0 (shares_left h')
 
 -- an order whose shown part was not used up: it keeps its stamp and its reserve
 pub record Keeps (es : List Event) (h h' : Resting) : Type 0 where
@@ -44,8 +44,8 @@ pub record Keeps (es : List Event) (h h' : Resting) : Type 0 where
 pub record IsRefilled (n : Number) (es : List Event) (h h' : Resting) : Type 0 where
   pub same : SameOrder h h'
   pub stamp : h'.stamp.command ≡ n
-  pub shown : h'.shares.0 ≡ refilledTo es h
-  pub inAll : sharesLeft h' + gave es h ≡ sharesLeft h
+  pub shown : h'.shares.0 ≡ refilled_to es h
+  pub in_all : shares_left h' + gave es h ≡ shares_left h
 
 -- an order of the side after it, of which this holds
 pub record Stands (P : Resting → Type 0) (after : List Resting) : Type 0 where
@@ -61,22 +61,22 @@ pub data Stood (n : Number) (es : List Event) (before : List Resting) (h' : Rest
 -- the side that the order of command n meets, whether it holds buys or sells, before and after, with the order's lines
 pub record Refills (buy : Bool) (n : Number) (before after : List Resting) (es : List Event) : Type 0 where
   -- who gave all is gone
-  pub goes : (h : Resting) → OneOf h before → gave es h ≡ sharesLeft h → All (λ (x : Resting). x.number ≢ h.number) after
+  pub goes : (h : Resting) → OneOf h before → gave es h ≡ shares_left h → All (λ (x : Resting). x.number ≢ h.number) after
   -- an order whose shown part was not used up keeps its stamp
   pub keeps : (h : Resting) → OneOf h before → gave es h < h.shares.0 → Stands (Keeps es h) after
   -- who is due is refilled, nobody else ..
   pub refills : (h : Resting) → OneOf h before → Due es h → Stands (IsRefilled n es h) after
-  pub noneElse : (h' : Resting) → OneOf h' after → Stood n es before h'
+  pub none_else : (h' : Resting) → OneOf h' after → Stood n es before h'
   -- .. behind all displayed at its price that were not refilled
   pub behind : (h g h' g' : Resting) → OneOf h before → gave es h < h.shares.0 → h.displayed ≡ true → OneOf g before → Due es g
-      → h.price ≡ g.price → Keeps es h h' → OneOf h' after → IsRefilled n es g g' → OneOf g' after → ranksBefore buy h' g' ≡ true
+      → h.price ≡ g.price → Keeps es h h' → OneOf h' after → IsRefilled n es g g' → OneOf g' after → ranks_before buy h' g' ≡ true
   -- .. and "in former rank order"
-  pub keepOrder : (g h g' h' : Resting) → OneOf g before → OneOf h before → Due es g → Due es h → ranksBefore buy g h ≡ true
-      → IsRefilled n es g g' → OneOf g' after → IsRefilled n es h h' → OneOf h' after → ranksBefore buy g' h' ≡ true
+  pub keep_order : (g h g' h' : Resting) → OneOf g before → OneOf h before → Due es g → Due es h → ranks_before buy g h ≡ true
+      → IsRefilled n es g g' → OneOf g' after → IsRefilled n es h h' → OneOf h' after → ranks_before buy g' h' ≡ true
 
 -- "in former rank order, .. and a `14` line", which counts the shown part: those of a side, and no other
 pub data RefillLines (es : List Event) : List Resting → List Event → Type 0 where
   empty : RefillLines es [] []
   of_none : {h : Resting} {s : List Resting} {rs : List Event} → (Due es h → ⊥) → RefillLines es s rs → RefillLines es (h ∷ s) rs
-  ofDue : {h : Resting} {s : List Resting} {rs : List Event} → Due es h → RefillLines es s rs
-      → RefillLines es (h ∷ s) (Moved h.number h.price (shares (refilledTo es h)) ∷ rs)
+  of_due : {h : Resting} {s : List Resting} {rs : List Event} → Due es h → RefillLines es s rs
+      → RefillLines es (h ∷ s) (Moved h.number h.price (shares (refilled_to es h)) ∷ rs)

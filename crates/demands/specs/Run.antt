@@ -6,13 +6,13 @@ use Rattle.rules.specs.declared.Event.{Event}
 use Rattle.rules.specs.declared.Order.{Order}
 use Rattle.rules.specs.declared.Reading.TheVariants as reading
 use Rattle.rules.specs.Book.{Book}
-use Rattle.rules.specs.Step.{answerTo}
+use Rattle.rules.specs.Step.{answer_to}
 use Rattle.demands.specs.Once.{Answering}
 
 -- the events of a run of lines, in their order
-unfoldable pub eventsOf : Book → List (List ℕ) → List Event
-eventsOf b [] = []
-eventsOf b (l ∷ ls) = (answerTo b l).events ++ eventsOf (answerTo b l).book ls
+unfoldable pub events_of : Book → List (List ℕ) → List Event
+events_of b [] = []
+events_of b (l ∷ ls) = (answer_to b l).events ++ events_of (answer_to b l).book ls
 
 -- in a run of commands of any kind, lines or calls, one is accepted and enters an order, on the book that stood then
 pub data Enters {B C : Type 0} (a : Answering B C) : B → List C → B → C → Command → Order → Type 0 where

@@ -6,7 +6,7 @@ use Rattle.std.specs.Prelude.{ℕ, ◌+◌, ◌≤◌, ◌<◌, true, false, Lis
 use Rattle.basics.specs.Choice.{if◌then◌else◌}
 use Rattle.basics.specs.Lists.{sum_of, Each, OneOf}
 use Rattle.kinds.specs.declared.HalfCents.{HalfCents}
-use Rattle.kinds.specs.Kinds.{inHalfCents}
+use Rattle.kinds.specs.Kinds.{in_half_cents}
 use Rattle.rules.specs.declared.Away.{Away}
 use Rattle.rules.specs.declared.Order.{Order}
 use Rattle.rules.specs.declared.Resting.{Resting}
@@ -36,10 +36,10 @@ pub data Beside {A B : Type 0} (x : A) (y : B) : List A → List B → Type 0 wh
 -- ISO, neither buys above the best away offer nor sells below the best away bid": side 0 buys, side 1 sells; an away price of 0
 -- is none
 pub record Fair (o : Order) (away : Away) (price : HalfCents) : Type 0 where
-  pub buysWithinLimit : has o.word market ≡ false → o.side ≡ 0 → price.0 ≤ (inHalfCents o.price).0
-  pub sellsWithinLimit : has o.word market ≡ false → o.side ≡ 1 → (inHalfCents o.price).0 ≤ price.0
-  pub buysWithinOffer : has o.word iso ≡ false → o.side ≡ 0 → away.offer.0 ≢ 0 → price.0 ≤ (inHalfCents away.offer).0
-  pub sellsWithinBid : has o.word iso ≡ false → o.side ≡ 1 → away.bid.0 ≢ 0 → (inHalfCents away.bid).0 ≤ price.0
+  pub buys_within_limit : has o.word market ≡ false → o.side ≡ 0 → price.0 ≤ (in_half_cents o.price).0
+  pub sells_within_limit : has o.word market ≡ false → o.side ≡ 1 → (in_half_cents o.price).0 ≤ price.0
+  pub buys_within_offer : has o.word iso ≡ false → o.side ≡ 0 → away.offer.0 ≢ 0 → price.0 ≤ (in_half_cents away.offer).0
+  pub sells_within_bid : has o.word iso ≡ false → o.side ≡ 1 → away.bid.0 ≢ 0 → (in_half_cents away.bid).0 ≤ price.0
 
 -- a lock (02, W6): a displayed order of the incoming order's own side stands at the price of an opposite non-displayed one
 pub record Locked (own : List Resting) (h : Resting) : Type 0 where
@@ -47,21 +47,21 @@ pub record Locked (own : List Resting) (h : Resting) : Type 0 where
   pub by : Resting
   pub there : OneOf by own
   pub shown : by.displayed ≡ true
-  pub atItsPrice : by.price.0 ≡ h.price.0
+  pub at_its_price : by.price.0 ≡ h.price.0
 
 -- "Demand 3's "that order's price" becomes the price given here": its own, but "While that lock stands, .. An incoming market sell, or one
 -- priced below the displayed sell, executes against it half a cent under that price; a buy, the mirror." So "a hidden order barred here
 -- isn't one that could give": this price is beyond the limit of an order limited at the locked one.
 pub data PriceHere (o : Order) (own : List Resting) (h : Resting) : HalfCents → Type 0 where
-  itsOwn : (Locked own h → ⊥) → PriceHere o own h h.price
-  halfUnder : {price : HalfCents} → Locked own h → o.side ≡ 1 → price.0 + 1 ≡ h.price.0 → PriceHere o own h price
-  halfOver : {price : HalfCents} → Locked own h → o.side ≡ 0 → price.0 ≡ h.price.0 + 1 → PriceHere o own h price
+  its_own : (Locked own h → ⊥) → PriceHere o own h h.price
+  half_under : {price : HalfCents} → Locked own h → o.side ≡ 1 → price.0 + 1 ≡ h.price.0 → PriceHere o own h price
+  half_over : {price : HalfCents} → Locked own h → o.side ≡ 0 → price.0 ≡ h.price.0 + 1 → PriceHere o own h price
 
 -- "no more than it holds, at that order's price", beside the orders of the incoming order's own side: who gives nothing is under no further
 -- clause
 pub record LawfulGiving (o : Order) (away : Away) (own : List Resting) (h : Holding) (g : Given) : Type 0 where
   pub no_more : g.shares ≤ size h
-  pub atItsPrice : 0 < g.shares → PriceHere o own h.of g.price
+  pub at_its_price : 0 < g.shares → PriceHere o own h.of g.price
   pub fair : 0 < g.shares → Fair o away g.price
 
 abbrev pub given : List Given → ℕ
@@ -69,10 +69,10 @@ given gs = sum_of (λ (g : Given). g.shares) gs
 
 pub record Lawful (o : Order) (away : Away) (own : List Resting) (against : List Holding) (gs : List Given) : Type 0 where
   pub each : Each (LawfulGiving o away own) against gs
-  pub inAll : given gs ≤ o.shares.0
+  pub in_all : given gs ≤ o.shares.0
 
 -- a lawful share-out totals the order's size
 pub record Fills (o : Order) (away : Away) (own : List Resting) (against : List Holding) : Type 0 where
-  pub shareOut : List Given
-  pub isLawful : Lawful o away own against shareOut
-  pub totals : given shareOut ≡ o.shares.0
+  pub share_out : List Given
+  pub is_lawful : Lawful o away own against share_out
+  pub totals : given share_out ≡ o.shares.0

@@ -11,80 +11,80 @@ use Rattle.rules.specs.declared.Event.TheVariants.{Executed, Rested, Cancelled, 
 use Rattle.rules.specs.declared.EventReading.{EventReading}
 use Rattle.rules.specs.declared.EventReading.TheVariants.{Is, UnknownKind, Short, TrailingBytes, BadDigitOrEnding}
 use Rattle.rules.specs.declared.Resting.{Resting}
-use Rattle.rules.specs.Book.{Book, sharesLeft}
-use Rattle.rules.specs.Day.{linesIn}
-use Rattle.rules.specs.EventLines.{fokKilled}
-use Rattle.rules.specs.EventReading.{eventIn}
+use Rattle.rules.specs.Book.{Book, shares_left}
+use Rattle.rules.specs.Day.{lines_in}
+use Rattle.rules.specs.EventLines.{fok_killed}
+use Rattle.rules.specs.EventReading.{event_in}
 
 -- ── Reading event lines ──
 
 -- the event that a line was read as (02, W1); none where it is no event line, as that of a refusal
-abbrev pub readAs : EventReading → List Event
-readAs (Is e) = e ∷ []
-readAs UnknownKind = []
-readAs Short = []
-readAs TrailingBytes = []
-readAs BadDigitOrEnding = []
+abbrev pub read_as : EventReading → List Event
+read_as (Is e) = e ∷ []
+read_as UnknownKind = []
+read_as Short = []
+read_as TrailingBytes = []
+read_as BadDigitOrEnding = []
 
-unfoldable pub eventsOn : List (List ℕ) → List Event
-eventsOn [] = []
-eventsOn (l ∷ ls) = readAs (eventIn l) ++ eventsOn ls
+unfoldable pub events_on : List (List ℕ) → List Event
+events_on [] = []
+events_on (l ∷ ls) = read_as (event_in l) ++ events_on ls
 
 -- the events that an output tells, line by line
-abbrev pub eventsIn : List ℕ → List Event
-eventsIn bytes = eventsOn (linesIn bytes)
+abbrev pub events_in : List ℕ → List Event
+events_in bytes = events_on (lines_in bytes)
 
 -- ── Shares, summed from events ──
 
 -- Neither a move nor a refill changes what an order has in all (02, W2, W4), so a line `14` counts for nothing in any of these sums.
 
 -- k where the two numbers are one, else nothing
-abbrev pub countedIf : Number → Number → ℕ → ℕ
-countedIf n m k = if eqb n.0 m.0 then k else 0
+abbrev pub counted_if : Number → Number → ℕ → ℕ
+counted_if n m k = if eqb n.0 m.0 then k else 0
 
 -- the shares of order n that an event executes, in either of the two roles that an order plays, incoming and resting
-abbrev pub executedBy : Number → Event → ℕ
-executedBy n (Executed incoming resting price shares) = countedIf n incoming shares.0 + countedIf n resting shares.0
-executedBy n (Rested m price shares) = 0
-executedBy n (Cancelled m shares reason) = 0
-executedBy n (Moved m price shares) = 0
+abbrev pub executed_by : Number → Event → ℕ
+executed_by n (Executed incoming resting price shares) = counted_if n incoming shares.0 + counted_if n resting shares.0
+executed_by n (Rested m price shares) = 0
+executed_by n (Cancelled m shares reason) = 0
+executed_by n (Moved m price shares) = 0
 
 -- those that it gives as the resting one
-abbrev pub givenBy : Number → Event → ℕ
-givenBy n (Executed incoming resting price shares) = countedIf n resting shares.0
-givenBy n (Rested m price shares) = 0
-givenBy n (Cancelled m shares reason) = 0
-givenBy n (Moved m price shares) = 0
+abbrev pub given_by : Number → Event → ℕ
+given_by n (Executed incoming resting price shares) = counted_if n resting shares.0
+given_by n (Rested m price shares) = 0
+given_by n (Cancelled m shares reason) = 0
+given_by n (Moved m price shares) = 0
 
-abbrev pub cancelledBy : Number → Event → ℕ
-cancelledBy n (Executed incoming resting price shares) = 0
-cancelledBy n (Rested m price shares) = 0
-cancelledBy n (Cancelled m shares reason) = countedIf n m shares.0
-cancelledBy n (Moved m price shares) = 0
+abbrev pub cancelled_by : Number → Event → ℕ
+cancelled_by n (Executed incoming resting price shares) = 0
+cancelled_by n (Rested m price shares) = 0
+cancelled_by n (Cancelled m shares reason) = counted_if n m shares.0
+cancelled_by n (Moved m price shares) = 0
 
-abbrev pub executedIn : Number → List Event → ℕ
-executedIn n es = sum_of (executedBy n) es
+abbrev pub executed_in : Number → List Event → ℕ
+executed_in n es = sum_of (executed_by n) es
 
-abbrev pub givenIn : Number → List Event → ℕ
-givenIn n es = sum_of (givenBy n) es
+abbrev pub given_in : Number → List Event → ℕ
+given_in n es = sum_of (given_by n) es
 
-abbrev pub cancelledIn : Number → List Event → ℕ
-cancelledIn n es = sum_of (cancelledBy n) es
+abbrev pub cancelled_in : Number → List Event → ℕ
+cancelled_in n es = sum_of (cancelled_by n) es
 
--- the line that kills a Fill-or-Kill has reason 3; that it cancels "the whole order" is `killedWhole` of `Executes`
+-- the line that kills a Fill-or-Kill has reason 3; that it cancels "the whole order" is `killed_whole` of `Executes`
 abbrev pub kills : Number → Event → Bool
 kills n (Executed incoming resting price shares) = false
 kills n (Rested m price shares) = false
-kills n (Cancelled m shares reason) = eqb n.0 m.0 && eqb reason fokKilled
+kills n (Cancelled m shares reason) = eqb n.0 m.0 && eqb reason fok_killed
 kills n (Moved m price shares) = false
 
-abbrev pub isKilled : Number → List Event → Bool
-isKilled n es = any (kills n) es
+abbrev pub is_killed : Number → List Event → Bool
+is_killed n es = any (kills n) es
 
 -- ── Shares still resting, shown and in reserve (02, W4) ──
 
-abbrev pub restsOn : Number → List Resting → ℕ
-restsOn n s = sum_of (λ (h : Resting). countedIf n h.number (sharesLeft h)) s
+abbrev pub rests_on : Number → List Resting → ℕ
+rests_on n s = sum_of (λ (h : Resting). counted_if n h.number (shares_left h)) s
 
-abbrev pub restingOf : Number → Book → ℕ
-restingOf n b = restsOn n b.buys + restsOn n b.sells
+abbrev pub resting_of : Number → Book → ℕ
+resting_of n b = rests_on n b.buys + rests_on n b.sells

@@ -13,23 +13,23 @@ use Rattle.rules.specs.declared.Event.{Event}
 use Rattle.rules.specs.declared.Event.TheVariants.{Executed, Rested, Cancelled}
 use Rattle.rules.specs.declared.Order.{Order}
 use Rattle.rules.specs.declared.Resting.{Resting}
-use Rattle.rules.specs.Book.{Book, sharesLeft}
+use Rattle.rules.specs.Book.{Book, shares_left}
 use Rattle.rules.specs.Holdings.{Holding, size}
-use Rattle.rules.specs.Settling.{shownOf}
-use Rattle.rules.specs.Working.{floorOf, minimumOf}
+use Rattle.rules.specs.Settling.{shown_of}
+use Rattle.rules.specs.Working.{floor_of, minimum_of}
 use Rattle.demands.specs.ExactlyWhen.{own}
 use Rattle.demands.specs.Refilled.{RefillLines}
 use Rattle.demands.specs.ShareOut.{opposite, against, PriceHere}
-use Rattle.demands.specs.Told.{executedIn}
+use Rattle.demands.specs.Told.{executed_in}
 
 -- ── An order ──
 
 -- "walk the opposite side in rank order .. Each execution is at the resting order's price", or half a cent from it under a lock (02, W6):
 -- one line at most of each opposite holding, in the order of the walk, of a share at least and no more than it holds
 pub data Executions (n : Number) (o : Order) (own : List Resting) : List Holding → List Event → Type 0 where
-  ofNobody : Executions n o own [] []
+  of_nobody : Executions n o own [] []
   of_none : {h : Holding} {s : List Holding} {es : List Event} → Executions n o own s es → Executions n o own (h ∷ s) es
-  ofOne : {h : Holding} {s : List Holding} {es : List Event} {price : HalfCents} (given : Shares) → PriceHere o own h.of price
+  of_one : {h : Holding} {s : List Holding} {es : List Event} {price : HalfCents} (given : Shares) → PriceHere o own h.of price
       → 1 ≤ given.0 → given.0 ≤ size h → Executions n o own s es
       → Executions n o own (h ∷ s) (Executed n h.of.number price given ∷ es)
 
@@ -39,11 +39,11 @@ pub data Executions (n : Number) (o : Order) (own : List Resting) : List Holding
 -- its number rests
 pub data LastLine (n : Number) (o : Order) (executed : ℕ) (own : List Resting) : List Event → Type 0 where
   filled : executed ≡ o.shares.0 → All (λ (h : Resting). h.number ≢ n) own → LastLine n o executed own []
-  rests : (h : Resting) → OneOf h own → h.number ≡ n → h.floor.0 ≡ floorOf o.carried
-      → h.minimum.0 ≡ min (minimumOf o.carried) (sharesLeft h)
-      → h.shares.0 ≡ shownOf h.floor.0 (sharesLeft h) → executed + sharesLeft h ≡ o.shares.0
-      → LastLine n o executed own (Rested n h.price (shares (sharesLeft h)) ∷ [])
-  isCancelled : (left : Shares) (reason : ℕ) → executed + left.0 ≡ o.shares.0 → All (λ (h : Resting). h.number ≢ n) own
+  rests : (h : Resting) → OneOf h own → h.number ≡ n → h.floor.0 ≡ floor_of o.carried
+      → h.minimum.0 ≡ min (minimum_of o.carried) (shares_left h)
+      → h.shares.0 ≡ shown_of h.floor.0 (shares_left h) → executed + shares_left h ≡ o.shares.0
+      → LastLine n o executed own (Rested n h.price (shares (shares_left h)) ∷ [])
+  is_cancelled : (left : Shares) (reason : ℕ) → executed + left.0 ≡ o.shares.0 → All (λ (h : Resting). h.number ≢ n) own
       → LastLine n o executed own (Cancelled n left reason ∷ [])
 
 -- the lines of an order, on the book that stood and the book that it leaves: its executions, its last line, and then those of the refills
@@ -53,11 +53,11 @@ pub record OrderWrites (n : Number) (o : Order) (stood after : Book) (es : List 
   pub last : List Event
   pub refills : List Event
   pub in_turn : es ≡ executions ++ (last ++ refills)
-  pub inRank : Executions n o (own o stood) (against o stood) executions
-  pub atMostOne : LastLine n o (executedIn n es) (own o after) last
-  pub asDue : RefillLines es (opposite o stood) refills
+  pub in_rank : Executions n o (own o stood) (against o stood) executions
+  pub at_most_one : LastLine n o (executed_in n es) (own o after) last
+  pub as_due : RefillLines es (opposite o stood) refills
   pub others : (h : Resting) → OneOf h (own o stood) → OneOf h (own o after)
-  pub noneNew : (h : Resting) → h.number ≢ n → OneOf h (own o after) → OneOf h (own o stood)
+  pub none_new : (h : Resting) → h.number ≢ n → OneOf h (own o after) → OneOf h (own o stood)
 
 -- ── A cancel and a close ──
 
@@ -66,14 +66,14 @@ pub record CancelWrites (of : Number) (before after : List Resting) (es : List E
   pub gone : Resting
   pub stood : OneOf gone before
   pub named : gone.number ≡ of
-  pub told : es ≡ Cancelled of (shares (sharesLeft gone)) 1 ∷ []
+  pub told : es ≡ Cancelled of (shares (shares_left gone)) 1 ∷ []
   pub off : All (λ (h : Resting). h.number ≢ of) after
   pub others : (h : Resting) → h.number ≢ of → OneOf h before → OneOf h after
-  pub noneNew : (h : Resting) → OneOf h after → OneOf h before
+  pub none_new : (h : Resting) → OneOf h after → OneOf h before
 
 -- "Close cancels all buys in rank order, then all sells": a line for each, with all its shares, reason 7
-abbrev pub closeLine : Resting → Event
-closeLine h = Cancelled h.number (shares (sharesLeft h)) 7
+abbrev pub close_line : Resting → Event
+close_line h = Cancelled h.number (shares (shares_left h)) 7
 
 -- a command enters an order
 pub record IsOrder (x : Body) : Type 0 where

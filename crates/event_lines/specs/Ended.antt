@@ -3,12 +3,12 @@ use Rattle.std.specs.Prelude.{ℕ, ◌-◌, List, eqb, ltb, length, get_or}
 use Rattle.basics.specs.Choice.{if◌then◌else◌}
 use Rattle.rules.specs.declared.EventReading.{EventReading}
 use Rattle.rules.specs.declared.EventReading.TheVariants.{Short, TrailingBytes, BadDigitOrEnding}
-use Rattle.rules.specs.CommandLines.{lineFeed}
+use Rattle.rules.specs.CommandLines.{line_feed}
 
 -- what was read of the fields, where a line has its size and its line feed
-unfoldable pub whenEnded : ℕ → List ℕ → EventReading → EventReading
-whenEnded size line fields =
+unfoldable pub when_ended : ℕ → List ℕ → EventReading → EventReading
+when_ended size line fields =
     if ltb (length line) size then Short
     else if ltb size (length line) then TrailingBytes
-    else if eqb (get_or line (size - 1) 0) lineFeed then fields
+    else if eqb (get_or line (size - 1) 0) line_feed then fields
     else BadDigitOrEnding

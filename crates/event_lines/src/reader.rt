@@ -2,9 +2,9 @@
 // (also below two bytes), trailing bytes, bad digit or ending.
 ghost use Rattle.std.specs.Prelude.{◌≡◌, ◌≤◌};
 ghost use Rattle.basics.specs.Choice.{if◌then◌else◌};
-ghost use Rattle.rules.specs.EventLines.{executedFields, restedFields, cancelledFields};
-ghost use Rattle.rules.specs.EventReading.{executedOf, restedOf, cancelledOf, movedOf, eventOf, eventIn};
-ghost use Rattle.event_lines.specs.Ended.{whenEnded};
+ghost use Rattle.rules.specs.EventLines.{executed_fields, rested_fields, cancelled_fields};
+ghost use Rattle.rules.specs.EventReading.{executed_of, rested_of, cancelled_of, moved_of, event_of, event_in};
+ghost use Rattle.event_lines.specs.Ended.{when_ended};
 
 use kinds::{HalfCents, Number, Shares};
 use rules::{Event, EventReading};
@@ -13,7 +13,7 @@ use rules::{Event, EventReading};
 
 // Those of kind 11.
 fn read_executed(s: &[u8]) -> EventReading
-    ensures { result ≡ eventOf executedFields executedOf s.now }
+    ensures { result ≡ event_of executed_fields executed_of s.now }
 {
     let incoming = digits::field_at(s, 2, 4);
     let resting = digits::field_at(s, 10, 4);
@@ -32,7 +32,7 @@ fn read_executed(s: &[u8]) -> EventReading
 
 // The same of kinds 12 and 14, which are alike: an order at a price.
 fn read_at_price(s: &[u8], moved: bool) -> EventReading
-    ensures { result ≡ eventOf restedFields (if moved then movedOf else restedOf) s.now }
+    ensures { result ≡ event_of rested_fields (if moved then moved_of else rested_of) s.now }
 {
     let number = digits::field_at(s, 2, 4);
     let price = digits::field_at(s, 10, 4);
@@ -56,7 +56,7 @@ fn read_at_price(s: &[u8], moved: bool) -> EventReading
 
 // The same of kind 13.
 fn read_cancelled(s: &[u8]) -> EventReading
-    ensures { result ≡ eventOf cancelledFields cancelledOf s.now }
+    ensures { result ≡ event_of cancelled_fields cancelled_of s.now }
 {
     let number = digits::field_at(s, 2, 4);
     let shares = digits::field_at(s, 10, 4);
@@ -76,7 +76,7 @@ fn read_cancelled(s: &[u8]) -> EventReading
 // What was read of the fields, where the line has its size and its line feed.
 fn when_ended(s: &[u8], size: usize, read: EventReading) -> EventReading
     requires { 1 ≤ size }
-    ensures { result ≡ whenEnded size s.now read }
+    ensures { result ≡ when_ended size s.now read }
 {
     if s.len() < size {
         return EventReading::Short;
@@ -92,7 +92,7 @@ fn when_ended(s: &[u8], size: usize, read: EventReading) -> EventReading
 
 // The event that a line is, or why it is none.
 pub fn read_event(s: &[u8]) -> EventReading
-    ensures { result ≡ eventIn s.now }
+    ensures { result ≡ event_in s.now }
 {
     if s.len() < 2 {
         return EventReading::Short;

@@ -4,7 +4,7 @@
 ghost use Rattle.std.specs.Prelude.{[], ◌∷◌, ◌≡◌, ◌≤◌, length};
 ghost use Rattle.basics.specs.Bytes.{onto};
 ghost use Rattle.rules.specs.CommandLines.{line};
-ghost use Rattle.rules.specs.EventLines.{restedFields, withKind, eventLine, refusalLine};
+ghost use Rattle.rules.specs.EventLines.{rested_fields, with_kind, event_line, refusal_line};
 ghost use Rattle.rules.specs.declared.Event.TheVariants.{Executed, Rested, Cancelled, Moved};
 
 use kinds::{HalfCents, Number, Shares};
@@ -19,7 +19,7 @@ pub fn write_executed(
 ) -> usize
     requires { 35 ≤ length out.old }
     ensures value { result ≡ 35 }
-    ensures out_after { out.new ≡ onto (eventLine (Executed incoming resting price shares)) out.old }
+    ensures out_after { out.new ≡ onto (event_line (Executed incoming resting price shares)) out.old }
 {
     digits::write_one(out, 0, 0x11);
     digits::write_four(out, 2, incoming.0);
@@ -40,7 +40,7 @@ fn write_at_price(
 ) -> usize
     requires { 27 ≤ length out.old }
     ensures value { result ≡ 27 }
-    ensures out_after { out.new ≡ onto (line (withKind restedFields) (kind ∷ number.0 ∷ price.0 ∷ shares.0 ∷ []))
+    ensures out_after { out.new ≡ onto (line (with_kind rested_fields) (kind ∷ number.0 ∷ price.0 ∷ shares.0 ∷ []))
         out.old }
 {
     digits::write_one(out, 0, kind);
@@ -55,7 +55,7 @@ fn write_at_price(
 pub fn write_rested(out: &mut [u8], number: Number, price: HalfCents, shares: Shares) -> usize
     requires { 27 ≤ length out.old }
     ensures value { result ≡ 27 }
-    ensures out_after { out.new ≡ onto (eventLine (Rested number price shares)) out.old }
+    ensures out_after { out.new ≡ onto (event_line (Rested number price shares)) out.old }
 {
     write_at_price(out, 0x12, number, price, shares)
 }
@@ -64,7 +64,7 @@ pub fn write_rested(out: &mut [u8], number: Number, price: HalfCents, shares: Sh
 pub fn write_cancelled(out: &mut [u8], number: Number, shares: Shares, reason: u8) -> usize
     requires { 21 ≤ length out.old }
     ensures value { result ≡ 21 }
-    ensures out_after { out.new ≡ onto (eventLine (Cancelled number shares reason)) out.old }
+    ensures out_after { out.new ≡ onto (event_line (Cancelled number shares reason)) out.old }
 {
     digits::write_one(out, 0, 0x13);
     digits::write_four(out, 2, number.0);
@@ -78,7 +78,7 @@ pub fn write_cancelled(out: &mut [u8], number: Number, shares: Shares, reason: u
 pub fn write_moved(out: &mut [u8], number: Number, price: HalfCents, shares: Shares) -> usize
     requires { 27 ≤ length out.old }
     ensures value { result ≡ 27 }
-    ensures out_after { out.new ≡ onto (eventLine (Moved number price shares)) out.old }
+    ensures out_after { out.new ≡ onto (event_line (Moved number price shares)) out.old }
 {
     write_at_price(out, 0x14, number, price, shares)
 }
@@ -87,7 +87,7 @@ pub fn write_moved(out: &mut [u8], number: Number, price: HalfCents, shares: Sha
 pub fn write_refusal(out: &mut [u8], refusal: u8) -> usize
     requires { 5 ≤ length out.old }
     ensures value { result ≡ 5 }
-    ensures out_after { out.new ≡ onto (refusalLine refusal) out.old }
+    ensures out_after { out.new ≡ onto (refusal_line refusal) out.old }
 {
     digits::write_one(out, 0, 0x1f);
     digits::write_one(out, 2, refusal);

@@ -3,7 +3,7 @@
 // A day is run as the program runs it, but in pieces so short that its lines are cut anywhere, and with so little room for output
 // that it runs short.
 ghost use Rattle.std.specs.Prelude.{◌≡◌, ◌+◌, ◌≤◌, ◌<◌, length};
-ghost use Rattle.rules.specs.Refusals.{leastRoom};
+ghost use Rattle.rules.specs.Refusals.{least_room};
 
 use command_lines::lines;
 use day::{night, replay};
@@ -86,7 +86,7 @@ fn hand_over(bytes: &[u8]) -> bool {
 
 // Writes what the end of a day hands over, of the part of a line that waits; whether it was written.
 fn end_day(part: &[u8], out: &mut [u8]) -> bool
-    requires { leastRoom ≤ length out.old }
+    requires { least_room ≤ length out.old }
 {
     let length = night::finish(part, out);
     hand_over(&out[..length])
@@ -103,7 +103,7 @@ fn take_turns(
     took: &mut Takings,
     out: &mut [u8],
 ) -> bool
-    requires { leastRoom ≤ length out.old }
+    requires { least_room ≤ length out.old }
 {
     let mut head = replay::begin();
     tables::clear(x, buys);
@@ -131,7 +131,7 @@ fn take_turns(
 
 // A day, from a fresh book to its end; whether all was written.
 fn run_day(day: &[u8], out: &mut [u8]) -> bool
-    requires { leastRoom ≤ length out.old }
+    requires { least_room ≤ length out.old }
 {
     let mut input = [0u8; 147];
     let mut x: Index = [0; rows::INDEX];
@@ -146,7 +146,7 @@ fn run_day(day: &[u8], out: &mut [u8]) -> bool
 
 // The days, each under the line that names it.
 fn run_days(days: &[u8], out: &mut [u8])
-    requires { leastRoom ≤ length out.old }
+    requires { least_room ≤ length out.old }
 {
     let mut at = 0;
     while at < days.len() {

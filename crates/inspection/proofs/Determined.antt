@@ -3,10 +3,10 @@
 use mathlib.Core.Bool.{Bool}
 use mathlib.Core.Path.{◌≡◌, sym, ◌∙◌}
 use Rattle.inspection.proofs.side_sound.Reads as side-sound
-use Rattle.inspection.proofs.is_sound.Reads as is-sound
+use Rattle.inspection.proofs.is_sound.Reads as is_sound_lem
 
-pub side-sound-determined : (κs : _) (a : _) (r r' : Bool) (s s' : _) → side-sound.Post κs a r s → side-sound.Post κs a r' s' → r ≡ r'
-side-sound-determined κs a r r' s s' p q = p ∙ sym q
+pub side_sound_determined : (κs : _) (a : _) (r r' : Bool) (s s' : _) → side-sound.Post κs a r s → side-sound.Post κs a r' s' → r ≡ r'
+side_sound_determined κs a r r' s s' p q = p ∙ sym q
 
-pub is-sound-determined : (κs : _) (a : _) (r r' : Bool) (s s' : _) → is-sound.Post κs a r s → is-sound.Post κs a r' s' → r ≡ r'
-is-sound-determined κs a r r' s s' p q = p ∙ sym q
+pub is_sound_determined : (κs : _) (a : _) (r r' : Bool) (s s' : _) → is_sound_lem.Post κs a r s → is_sound_lem.Post κs a r' s' → r ≡ r'
+is_sound_determined κs a r r' s s' p q = p ∙ sym q

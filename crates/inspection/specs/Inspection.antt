@@ -1,49 +1,49 @@
 -- What `sound` says of one place of a side, of a side, and of a book's header: as a header and two tables are inspected. LawsInspection
--- shows that together they are `recordSound`.
+-- shows that together they are `record_sound`.
 use Rattle.std.specs.Prelude.{ℕ, zero, suc, ◌-◌, Bool, true, not, ◌&&◌, ◌||◌, List, [], ◌∷◌, eqb, leb, take}
 use Rattle.basics.specs.Lists.{any}
 use Rattle.kinds.specs.declared.Number.{Number}
 use Rattle.rules.specs.declared.Resting.{Resting}
-use Rattle.rules.specs.Book.{numbers, opening, closing, awayInRange, isUnused, ranksBefore, restingInRange}
+use Rattle.rules.specs.Book.{numbers, opening, closing, away_in_range, is_unused, ranks_before, resting_in_range}
 use Rattle.side.specs.declared.tables.Head.{Head}
 
 -- ── One place ──
 
 -- the number is none of these
-abbrev pub noneOf : List ℕ → ℕ → Bool
-noneOf s k = not (any (eqb k) s)
+abbrev pub none_of : List ℕ → ℕ → Bool
+none_of s k = not (any (eqb k) s)
 
 -- an order ranks before the next of those behind it, if there is one
-abbrev pub ranksBeforeNext : Bool → Resting → List Resting → Bool
-ranksBeforeNext buy o [] = true
-ranksBeforeNext buy o (next ∷ behind) = ranksBefore buy o next
+abbrev pub ranks_before_next : Bool → Resting → List Resting → Bool
+ranks_before_next buy o [] = true
+ranks_before_next buy o (next ∷ behind) = ranks_before buy o next
 
 -- what is said of an order: `behind` are those behind it on its side, and `others` the numbers of the other side
-abbrev pub orderSound : Bool → Number → List ℕ → Resting → List Resting → Bool
-orderSound buy last others o behind =
-    restingInRange last o
-    && ranksBeforeNext buy o behind
-    && noneOf (numbers behind) o.number.0
-    && noneOf others o.number.0
+abbrev pub order_sound : Bool → Number → List ℕ → Resting → List Resting → Bool
+order_sound buy last others o behind =
+    resting_in_range last o
+    && ranks_before_next buy o behind
+    && none_of (numbers behind) o.number.0
+    && none_of others o.number.0
 
 -- what is said of a place that holds `o`, with the places `rest` behind it: of all these the first n are used
-unfoldable pub placeSound : Bool → Number → List ℕ → ℕ → Resting → List Resting → Bool
-placeSound buy last others zero o rest = isUnused o
-placeSound buy last others (suc n) o rest = orderSound buy last others o (take n rest)
+unfoldable pub place_sound : Bool → Number → List ℕ → ℕ → Resting → List Resting → Bool
+place_sound buy last others zero o rest = is_unused o
+place_sound buy last others (suc n) o rest = order_sound buy last others o (take n rest)
 
 -- ── One side ──
 
 -- each of some places is sound, of which the first n are used
-unfoldable pub sideSound : Bool → Number → List ℕ → ℕ → List Resting → Bool
-sideSound buy last others n [] = true
-sideSound buy last others n (o ∷ rest) = placeSound buy last others n o rest && sideSound buy last others (n - 1) rest
+unfoldable pub side_sound : Bool → Number → List ℕ → ℕ → List Resting → Bool
+side_sound buy last others n [] = true
+side_sound buy last others n (o ∷ rest) = place_sound buy last others n o rest && side_sound buy last others (n - 1) rest
 
 -- ── The header ──
 
-abbrev pub headSound : Head → Bool
-headSound h =
+abbrev pub head_sound : Head → Bool
+head_sound h =
     leb opening h.held.time
     && leb h.held.time closing
-    && awayInRange h.held.away.bid
-    && awayInRange h.held.away.offer
+    && away_in_range h.held.away.bid
+    && away_in_range h.held.away.offer
     && (not h.held.closed || (eqb h.buys 0 && eqb h.sells 0))

@@ -1,11 +1,11 @@
 // Whether a book is sound (01, The book), decided on its header and two lent tables of rows, whatever they hold.
 ghost use Rattle.std.specs.Prelude.{[], map, ◌≡◌, ◌+◌, ◌-◌, ◌≤◌, ◌<◌, eqb, get_or, drop};
 ghost use Rattle.basics.specs.Lists.{any};
-ghost use Rattle.kinds.specs.Kinds.{shares, sharesInRange};
+ghost use Rattle.kinds.specs.Kinds.{shares, shares_in_range};
 ghost use Rattle.side.specs.Table.{order_of, loaded};
-ghost use Rattle.rules.specs.Book.{numbers, placesASide, sharesLeft, floorInRange, minimumInRange, restingInRange, apart, recordSound};
-ghost use Rattle.side.specs.Tables.{recordOn};
-ghost use Rattle.inspection.specs.Inspection.{ranksBeforeNext, placeSound, sideSound, headSound};
+ghost use Rattle.rules.specs.Book.{numbers, places_aSide, shares_left, floor_in_range, minimum_in_range, resting_in_range, apart, record_sound};
+ghost use Rattle.side.specs.Tables.{record_on};
+ghost use Rattle.inspection.specs.Inspection.{ranks_before_next, place_sound, side_sound, head_sound};
 
 use kinds::{Number, Shares};
 use rules::Resting;
@@ -23,14 +23,14 @@ fn wide(count: u32) -> u64
 }
 
 fn shares_left(o: Resting) -> u64
-    ensures { result ≡ sharesLeft o }
+    ensures { result ≡ shares_left o }
 {
     wide(o.shares.0) + wide(o.reserve.0)
 }
 
 // The shares of both parts are as many as an order may have.
 fn left_in_range(o: Resting) -> bool
-    ensures { result ≡ sharesInRange (shares (sharesLeft o)) }
+    ensures { result ≡ shares_in_range (shares (shares_left o)) }
 {
     let left = shares_left(o);
     (wide(Shares::FEWEST) <= left) & (left <= wide(Shares::MOST))
@@ -38,7 +38,7 @@ fn left_in_range(o: Resting) -> bool
 
 // No Max Floor, and then no reserve; or a share count in range, no less than the shown part, of a displayed order (02, W4).
 fn floor_in_range(o: Resting) -> bool
-    ensures { result ≡ floorInRange o }
+    ensures { result ≡ floor_in_range o }
 {
     let floor = o.floor;
     let none = floor.0 == 0;
@@ -48,14 +48,14 @@ fn floor_in_range(o: Resting) -> bool
 
 // No minimum; or no more than what is left of an order that is not displayed (02, W7).
 fn minimum_in_range(o: Resting) -> bool
-    ensures { result ≡ minimumInRange o }
+    ensures { result ≡ minimum_in_range o }
 {
     (o.minimum.0 == 0) | (!o.displayed & (wide(o.minimum.0) <= shares_left(o)))
 }
 
 // Fields in range; numbers from 1 to the last number; a stamp set by a command from the order's own to the last; a share shown at least.
 fn in_range(last: Number, o: Resting) -> bool
-    ensures { result ≡ restingInRange last o }
+    ensures { result ≡ resting_in_range last o }
 {
     let price = o.price;
     let stamp = o.stamp;
@@ -73,8 +73,8 @@ fn in_range(last: Number, o: Resting) -> bool
 
 // Whether the order ranks before the one at place `next`, if there is one.
 fn ranks_before_next(t: &Rows, n: usize, next: usize, buying: bool, o: Resting) -> bool
-    requires { n ≤ placesASide }
-    ensures { result ≡ ranksBeforeNext buying o (drop next (loaded n t.now)) }
+    requires { n ≤ places_aSide }
+    ensures { result ≡ ranks_before_next buying o (drop next (loaded n t.now)) }
 {
     rows::whole(t);
     if n <= next {
@@ -85,7 +85,7 @@ fn ranks_before_next(t: &Rows, n: usize, next: usize, buying: bool, o: Resting) 
 
 // Whether an order from place `from` on has the number.
 fn has_number(t: &Rows, n: usize, from: usize, number: Number) -> bool
-    requires { (n ≤ placesASide) × (from ≤ n) }
+    requires { (n ≤ places_aSide) × (from ≤ n) }
     ensures { result ≡ any (eqb number.0) (numbers (drop from (loaded n t.now))) }
 {
     rows::whole(t);
@@ -111,8 +111,8 @@ fn place_sound(
     m: usize,
     i: usize,
 ) -> bool
-    requires { (n ≤ placesASide) × (m ≤ placesASide) × (i < placesASide) }
-    ensures { result ≡ placeSound buying last (numbers (loaded m other.now)) (n - i) (order_of (get_or t.now i []))
+    requires { (n ≤ places_aSide) × (m ≤ places_aSide) × (i < places_aSide) }
+    ensures { result ≡ place_sound buying last (numbers (loaded m other.now)) (n - i) (order_of (get_or t.now i []))
         (drop (i + 1) (map order_of t.now)) }
 {
     let o = rows::row(t, i);
@@ -130,8 +130,8 @@ fn place_sound(
 
 // The same of all places of the side.
 pub fn side_sound(t: &Rows, n: usize, buying: bool, last: Number, other: &Rows, m: usize) -> bool
-    requires { (n ≤ placesASide) × (m ≤ placesASide) }
-    ensures { result ≡ sideSound buying last (numbers (loaded m other.now)) n (map order_of t.now) }
+    requires { (n ≤ places_aSide) × (m ≤ places_aSide) }
+    ensures { result ≡ side_sound buying last (numbers (loaded m other.now)) n (map order_of t.now) }
 {
     rows::whole(t);
     let mut i = 0;
@@ -148,7 +148,7 @@ pub fn side_sound(t: &Rows, n: usize, buying: bool, last: Number, other: &Rows, 
 
 // Displayed never meets displayed, and nothing crosses: the best two tell (02, W6).
 fn are_apart(buys: &Rows, n: usize, sells: &Rows, m: usize) -> bool
-    requires { (n ≤ placesASide) × (m ≤ placesASide) }
+    requires { (n ≤ places_aSide) × (m ≤ places_aSide) }
     ensures { result ≡ apart (loaded n buys.now) (loaded m sells.now) }
 {
     rows::whole(buys);
@@ -166,7 +166,7 @@ fn are_apart(buys: &Rows, n: usize, sells: &Rows, m: usize) -> bool
 
 // What sound says of the header alone.
 fn head_sound(h: Head) -> bool
-    ensures { result ≡ headSound h }
+    ensures { result ≡ head_sound h }
 {
     let held = h.held;
     let away = held.away;
@@ -180,7 +180,7 @@ fn head_sound(h: Head) -> bool
 }
 
 pub fn is_sound(h: Head, buys: &Rows, sells: &Rows) -> bool
-    ensures { result ≡ recordSound (recordOn h buys.now sells.now) }
+    ensures { result ≡ record_sound (record_on h buys.now sells.now) }
 {
     let held = h.held;
     let last = held.last;

@@ -3,13 +3,13 @@ use mathlib.Core.Bool.{Bool, true, false, not, ◌&&◌, ◌||◌}
 use mathlib.Core.Path.{◌≡◌, refl}
 use Rattle.basics.specs.Choice.{if◌then◌else◌}
 
-pub choice-by-values : (t a b : Bool) → (t && a || not t && b) ≡ (if t then a else b)
-choice-by-values true true b = refl
-choice-by-values true false b = refl
-choice-by-values false a b = refl
+pub choice_by_values : (t a b : Bool) → (t && a || not t && b) ≡ (if t then a else b)
+choice_by_values true true b = refl
+choice_by_values true false b = refl
+choice_by_values false a b = refl
 
 -- the same behind two other tests
-pub late-by-values : (p q t a b : Bool) → (p || q || t && a || not t && b) ≡ (p || q || (if t then a else b))
-late-by-values true q t a b = refl
-late-by-values false true t a b = refl
-late-by-values false false t a b = choice-by-values t a b
+pub late_by_values : (p q t a b : Bool) → (p || q || t && a || not t && b) ≡ (p || q || (if t then a else b))
+late_by_values true q t a b = refl
+late_by_values false true t a b = refl
+late_by_values false false t a b = choice_by_values t a b

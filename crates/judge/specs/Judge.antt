@@ -4,5 +4,5 @@ use Rattle.rules.specs.declared.Held.{Held}
 use Rattle.rules.specs.Book.{Book}
 
 -- a book that holds just that; its sides are of no account to the header
-abbrev pub bookHolding : Held → Book
-bookHolding h = record { held = h; buys = []; sells = [] }
+abbrev pub book_holding : Held → Book
+book_holding h = record { held = h; buys = []; sells = [] }

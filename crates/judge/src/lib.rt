@@ -3,10 +3,10 @@
 pub mod instructions;
 
 ghost use Rattle.std.specs.Prelude.{◌≡◌};
-ghost use Rattle.rules.specs.Book.{awayInRange};
-ghost use Rattle.rules.specs.Refusals.{first_of, isClose, headerRefusals};
-ghost use Rattle.rules.specs.Refusals.{carriesFloor, carriesMinimum, orderLawful, carriedInRange, orderInRange};
-ghost use Rattle.judge.specs.Judge.{bookHolding};
+ghost use Rattle.rules.specs.Book.{away_in_range};
+ghost use Rattle.rules.specs.Refusals.{first_of, is_close, header_refusals};
+ghost use Rattle.rules.specs.Refusals.{carries_floor, carries_minimum, order_lawful, carried_in_range, order_in_range};
+ghost use Rattle.judge.specs.Judge.{book_holding};
 
 use kinds::{Cents, Shares};
 use rules::{Body, Carried, Command, Held, Order};
@@ -19,7 +19,7 @@ pub const CLOSING: u32 = 57600000;
 // ── The header ──
 
 fn is_close(body: Body) -> bool
-    ensures { result ≡ isClose body }
+    ensures { result ≡ is_close body }
 {
     match body {
         Body::Order(_) => false,
@@ -32,7 +32,7 @@ fn is_close(body: Body) -> bool
 // The lowest of refusals 4 to 7 that the header gets, or 0. The difference of the numbers is taken, so that the last number may
 // be the largest of four bytes.
 pub fn header_refusal(h: Held, c: Command) -> u8
-    ensures { result ≡ first_of (headerRefusals (bookHolding h) c) }
+    ensures { result ≡ first_of (header_refusals (book_holding h) c) }
 {
     let number = c.number;
     let time = c.time;
@@ -60,7 +60,7 @@ pub fn header_refusal(h: Held, c: Command) -> u8
 // ── The fields of a body ──
 
 fn carries_floor(carried: Carried) -> bool
-    ensures { result ≡ carriesFloor carried }
+    ensures { result ≡ carries_floor carried }
 {
     match carried {
         Carried::Nothing => false,
@@ -70,7 +70,7 @@ fn carries_floor(carried: Carried) -> bool
 }
 
 fn carries_minimum(carried: Carried) -> bool
-    ensures { result ≡ carriesMinimum carried }
+    ensures { result ≡ carries_minimum carried }
 {
     match carried {
         Carried::Nothing => false,
@@ -81,7 +81,7 @@ fn carries_minimum(carried: Carried) -> bool
 
 // Refusal 8 of an order: its word is lawful, bit 10 is set just where it carries a Max Floor, and no displayed order carries a minimum.
 pub fn order_lawful(o: Order) -> bool
-    ensures { result ≡ orderLawful o }
+    ensures { result ≡ order_lawful o }
 {
     let carried = o.carried;
     instructions::lawful(o.word)
@@ -91,7 +91,7 @@ pub fn order_lawful(o: Order) -> bool
 
 // A Max Floor or a minimum is 1 to the order's shares.
 fn carried_in_range(size: Shares, carried: Carried) -> bool
-    ensures { result ≡ carriedInRange size carried }
+    ensures { result ≡ carried_in_range size carried }
 {
     match carried {
         Carried::Nothing => true,
@@ -102,7 +102,7 @@ fn carried_in_range(size: Shares, carried: Carried) -> bool
 
 // Refusal 9 of an order: side, shares, price and what it carries.
 pub fn order_in_range(o: Order) -> bool
-    ensures { result ≡ orderInRange o }
+    ensures { result ≡ order_in_range o }
 {
     let market = instructions::has(o.word, rules::MARKET);
     let price = o.price;
@@ -116,7 +116,7 @@ pub fn order_in_range(o: Order) -> bool
 
 // Refusal 9 of a quote: an away price is 0 or in range.
 pub fn away_in_range(p: Cents) -> bool
-    ensures { result ≡ awayInRange p }
+    ensures { result ≡ away_in_range p }
 {
     (p.0 == 0) | p.in_range()
 }

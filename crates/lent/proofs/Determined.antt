@@ -11,10 +11,10 @@ use Rattle.rules.specs.Book.{BookRecord}
 use Rattle.lent.specs.Lent.{Answered}
 use Rattle.lent.proofs.answer_lending.Reads as lending
 
-pub answer-lending-determined : (κs : _) (a : _) (r r' : Reply) (s s' : _) → lending.Post κs a r s → lending.Post κs a r' s'
+pub answer_lending_determined : (κs : _) (a : _) (r r' : Reply) (s s' : _) → lending.Post κs a r s → lending.Post κs a r' s'
     → (r ≡ r') × (s.1.1.1.0.now ≡ s'.1.1.1.0.now)
-answer-lending-determined κs a r r' s s' p q = (p.0 ∙ sym q.0, p.1 ∙ sym q.1)
+answer_lending_determined κs a r r' s s' p q = (p.0 ∙ sym q.0, p.1 ∙ sym q.1)
 
-pub answer-determined : (buys : Bool) (r : BookRecord) (table : List Resting) (line out : List ℕ) (reply reply' : Reply) (t t' : List Resting) (o o' : List ℕ)
+pub answer_determined : (buys : Bool) (r : BookRecord) (table : List Resting) (line out : List ℕ) (reply reply' : Reply) (t t' : List Resting) (o o' : List ℕ)
     → Answered buys r table line out reply t o → Answered buys r table line out reply' t' o' → (reply ≡ reply') × (t ≡ t') × (o ≡ o')
-answer-determined buys r table line out reply reply' t t' o o' p q = (p.0 ∙ sym q.0, p.1 ∙ sym q.1, p.2 ∙ sym q.2)
+answer_determined buys r table line out reply reply' t t' o o' p q = (p.0 ∙ sym q.0, p.1 ∙ sym q.1, p.2 ∙ sym q.2)

@@ -21,13 +21,13 @@ use denote.Laws.{Is}
 use denote.Memory.{lone}
 use denote.RattleType.{RattleType}
 use denote.Struct.Laws as LL
-use Rattle.rules.specs.Book.{placesASide}
+use Rattle.rules.specs.Book.{places_aSide}
 use Rattle.rules.specs.declared.Resting.{Resting}
 use Rattle.rules.specs.contracts.Resting as T
 use Rattle.rules.proofs.Resting.TheLaws as T'
 
 abbrev pub Records : RattleType
-Records = Array T.the_row placesASide
+Records = Array T.the_row places_aSide
 
 abbrev pub resting : Ty
 resting = lone (T.the_row).mir
@@ -39,17 +39,17 @@ abbrev pub word : Ty
 word = ty_int w64
 
 module _ {M : Type 1} {𝓤 : Ura M} (𝓛 : Logic 𝓤) where
-  pub record-typed : (r : Resting) (u : Val) → Is T.the_row r (u ∷ []) → Holds (has_ty resting u) × WT u
-  record-typed r u is = ((LL.lawful T.the_type T'.the_laws 𝓛).typed r _ is).0
+  pub record_typed : (r : Resting) (u : Val) → Is T.the_row r (u ∷ []) → Holds (has_ty resting u) × WT u
+  record_typed r u is = ((LL.lawful T.the_type T'.the_laws 𝓛).typed r _ is).0
 
   pub array_typed : (zs : List Resting) (w : Val) → Is Records zs (w ∷ []) → Holds (has_ty records w) × WT w
-  array_typed zs w is = ((Array-Lawful 𝓛 T.the_row (LL.lawful T.the_type T'.the_laws 𝓛) placesASide).typed zs _ is).0
+  array_typed zs w is = ((Array-Lawful 𝓛 T.the_row (LL.lawful T.the_type T'.the_laws 𝓛) places_aSide).typed zs _ is).0
 
-pub by-test : {X : Type 1} (z : Bool) → (z ≡ true → X) → (z ≡ false → X) → X
-by-test true held failed = held refl
-by-test false held failed = failed refl
+pub by_test : {X : Type 1} (z : Bool) → (z ≡ true → X) → (z ≡ false → X) → X
+by_test true held failed = held refl
+by_test false held failed = failed refl
 
-pub fits : (i : ℕ) → i ≤ placesASide → i < 2 ^ 64
+pub fits : (i : ℕ) → i ≤ places_aSide → i < 2 ^ 64
 fits i h = lt_of_le_of_lt h (lit< tt)
 
 module _ {A : Type 0} where
@@ -63,8 +63,8 @@ module _ {A : Type 0} where
   step (x ∷ from) (y ∷ onto) zero d e l = refl
   step (x ∷ from) (y ∷ onto) (suc i) d e l = ap (λ (r : List A). x ∷ r) (step from onto i d (omega arith) (omega arith))
 
-  pub copied-step : (from onto : List A) (i : ℕ) (d : A) → length from ≡ length onto → i < length from → set (copied from onto i) i (get_or from i d) ≡ copied from onto (i + 1)
-  copied-step from onto i d e l = rw (add-one i) (step from onto i d e l)
+  pub copied_step : (from onto : List A) (i : ℕ) (d : A) → length from ≡ length onto → i < length from → set (copied from onto i) i (get_or from i d) ≡ copied from onto (i + 1)
+  copied_step from onto i d e l = rw (add-one i) (step from onto i d e l)
 
   pub copied_all : (from onto : List A) → length from ≡ length onto → copied from onto (length from) ≡ from
   copied_all [] [] e = refl
@@ -72,9 +72,9 @@ module _ {A : Type 0} where
   copied_all (x ∷ from) [] e = absurd (omega arith)
   copied_all (x ∷ from) (y ∷ onto) e = ap (λ (r : List A). x ∷ r) (copied_all from onto (omega arith))
 
-  pub copied-long : (from onto : List A) (i : ℕ) → length from ≡ length onto → length (copied from onto i) ≡ length onto
-  copied-long from onto zero e = refl
-  copied-long [] [] (suc i) e = refl
-  copied-long [] (y ∷ onto) (suc i) e = absurd (omega arith)
-  copied-long (x ∷ from) [] (suc i) e = absurd (omega arith)
-  copied-long (x ∷ from) (y ∷ onto) (suc i) e = ap suc (copied-long from onto i (omega arith))
+  pub copied_long : (from onto : List A) (i : ℕ) → length from ≡ length onto → length (copied from onto i) ≡ length onto
+  copied_long from onto zero e = refl
+  copied_long [] [] (suc i) e = refl
+  copied_long [] (y ∷ onto) (suc i) e = absurd (omega arith)
+  copied_long (x ∷ from) [] (suc i) e = absurd (omega arith)
+  copied_long (x ∷ from) (y ∷ onto) (suc i) e = ap suc (copied_long from onto i (omega arith))

@@ -1,13 +1,13 @@
 // One side as a lent slice of resting-order records (01, The book: "one side as a lent table of resting-order records"), a thin layer
 // over the book by value: the table is put into the book, the book answers, and what it leaves is taken apart again.
 ghost use Rattle.std.specs.Prelude.{true, false, ◌≡◌, ◌<◌, length, get_or, set, replicate};
-ghost use Rattle.basics.specs.Lists.{firstWhere};
-ghost use Rattle.book.specs.Record.{recordIn, bookWith, placesOn, sideWith, replyOf};
-ghost use Rattle.rules.specs.Book.{placesASide, unused, isUnused};
-ghost use Rattle.rules.specs.Refusals.{first_of, fitRefusals};
+ghost use Rattle.basics.specs.Lists.{first_where};
+ghost use Rattle.book.specs.Record.{record_in, book_with, places_on, side_with, reply_of};
+ghost use Rattle.rules.specs.Book.{places_aSide, unused, is_unused};
+ghost use Rattle.rules.specs.Refusals.{first_of, fit_refusals};
 ghost use Rattle.rules.specs.Step.{step};
-ghost use Rattle.lent.specs.Lent.{placesLent, noPlaces, is_empty, isCounted, side_of, withPlaces, lentStep, workedOf, apartOf};
-ghost use Rattle.lent.specs.Lent.{togetherOf, Answered};
+ghost use Rattle.lent.specs.Lent.{places_lent, no_places, is_empty, is_counted, side_of, with_places, lent_step, worked_of, apart_of};
+ghost use Rattle.lent.specs.Lent.{together_of, Answered};
 
 use book::{Book, NO_ORDERS, Reply, Side};
 use kinds::Number;
@@ -34,14 +34,14 @@ fn get(s: &[Resting], i: usize) -> Resting
 
 // An array of unused places.
 fn blank() -> [Resting; PLACES]
-    ensures { result ≡ replicate placesASide unused }
+    ensures { result ≡ replicate places_aSide unused }
 {
     [rows::UNUSED; PLACES]
 }
 
 // The record at a place of an array.
 fn at(a: [Resting; PLACES], i: usize) -> Resting
-    requires { i < placesASide }
+    requires { i < places_aSide }
     ensures { result ≡ get_or a i unused }
 {
     a[i]
@@ -49,7 +49,7 @@ fn at(a: [Resting; PLACES], i: usize) -> Resting
 
 // An array with one record changed.
 fn with(a: [Resting; PLACES], i: usize, o: Resting) -> [Resting; PLACES]
-    requires { i < placesASide }
+    requires { i < places_aSide }
     ensures { result ≡ set a i o }
 {
     let mut b = a;
@@ -59,7 +59,7 @@ fn with(a: [Resting; PLACES], i: usize, o: Resting) -> [Resting; PLACES]
 
 // All records of a slice that has one for each place, by value.
 fn take(s: &[Resting]) -> [Resting; PLACES]
-    requires { length s.now ≡ placesASide }
+    requires { length s.now ≡ places_aSide }
     ensures { result ≡ s.now }
 {
     let mut a = blank();
@@ -73,7 +73,7 @@ fn take(s: &[Resting]) -> [Resting; PLACES]
 
 // All records of such a slice written over.
 fn give(s: &mut [Resting], a: [Resting; PLACES])
-    requires { length s.old ≡ placesASide }
+    requires { length s.old ≡ places_aSide }
     ensures { s.new ≡ a }
 {
     let mut i = 0;
@@ -87,8 +87,8 @@ fn give(s: &mut [Resting], a: [Resting; PLACES])
 
 // How many leading records are used: the place of the first that is all zero.
 fn used_in(places: [Resting; PLACES]) -> usize
-    ensures value { result ≡ firstWhere isUnused places }
-    ensures places_len { length places ≡ placesASide }
+    ensures value { result ≡ first_where is_unused places }
+    ensures places_len { length places ≡ places_aSide }
 {
     let mut i = 0;
     while i < PLACES {
@@ -102,13 +102,13 @@ fn used_in(places: [Resting; PLACES]) -> usize
 }
 
 fn side_of(book: Book, buys: bool) -> Side
-    ensures { result ≡ sideWith (side_of buys (recordIn book)) }
+    ensures { result ≡ side_with (side_of buys (record_in book)) }
 {
     if buys { book.buys } else { book.sells }
 }
 
 fn with_side(book: Book, buys: bool, side: Side) -> Book
-    ensures { result ≡ bookWith (withPlaces buys (placesOn side) (recordIn book)) }
+    ensures { result ≡ book_with (with_places buys (places_on side) (record_in book)) }
 {
     if buys {
         return Book { buys: side, ..book };
@@ -124,7 +124,7 @@ fn with_side(book: Book, buys: bool, side: Side) -> Book
 
 // Of a side without orders sound says that each place is unused, whatever the side, the last number and the other side are.
 fn is_empty(book: Book, buys: bool) -> bool
-    ensures { result ≡ is_empty (side_of buys (recordIn book)) }
+    ensures { result ≡ is_empty (side_of buys (record_in book)) }
 {
     let s = side_of(book, buys);
     let places = s.places;
@@ -136,7 +136,7 @@ fn is_empty(book: Book, buys: bool) -> bool
 
 // Whether the side's count is that of its leading records.
 fn is_counted(book: Book, buys: bool) -> bool
-    ensures { result ≡ isCounted (side_of buys (recordIn book)) }
+    ensures { result ≡ is_counted (side_of buys (record_in book)) }
 {
     let side = side_of(book, buys);
     let places = side.places;
@@ -144,21 +144,21 @@ fn is_counted(book: Book, buys: bool) -> bool
 }
 
 fn places_in(book: Book, buys: bool) -> [Resting; PLACES]
-    ensures { result ≡ (side_of buys (recordIn book)).places }
+    ensures { result ≡ (side_of buys (record_in book)).places }
 {
     let side = side_of(book, buys);
     side.places
 }
 
 fn take_out(book: Book, buys: bool) -> Book
-    ensures { result ≡ bookWith (withPlaces buys noPlaces (recordIn book)) }
+    ensures { result ≡ book_with (with_places buys no_places (record_in book)) }
 {
     with_side(book, buys, NO_ORDERS)
 }
 
 fn put_in(book: Book, buys: bool, places: [Resting; PLACES]) -> Book
-    ensures value { result ≡ bookWith (withPlaces buys (placesLent places) (recordIn book)) }
-    ensures places_len { length places ≡ placesASide }
+    ensures value { result ≡ book_with (with_places buys (places_lent places) (record_in book)) }
+    ensures places_len { length places ≡ places_aSide }
 {
     let side = Side {
         used: used_in(places),
@@ -169,7 +169,7 @@ fn put_in(book: Book, buys: bool, places: [Resting; PLACES]) -> Book
 
 // Refusal 1, or else 2: the table does not fit, that side of the book is not empty, or its count is not that of its records.
 fn refuse(book: Book, room: usize) -> Reply
-    ensures { result ≡ record { refusal = first_of (fitRefusals room false); length = 0; book = book } }
+    ensures { result ≡ record { refusal = first_of (fit_refusals room false); length = 0; book = book } }
 {
     let refusal = if room < rules::LEAST_ROOM { 1 } else { 2 };
     Reply {
@@ -196,10 +196,10 @@ fn answer_whole(
     line: &[u8],
     out: &mut [u8],
 ) -> Reply
-    ensures value { result ≡ replyOf (step (withPlaces buys (placesLent places) (recordIn book)) line.now out.old) }
+    ensures value { result ≡ reply_of (step (with_places buys (places_lent places) (record_in book)) line.now out.old) }
     ensures out_after { out.new
-        ≡ (step (withPlaces buys (placesLent places) (recordIn book)) line.now out.old).out }
-    ensures places_len { length places ≡ placesASide }
+        ≡ (step (with_places buys (places_lent places) (record_in book)) line.now out.old).out }
+    ensures places_len { length places ≡ places_aSide }
 {
     let whole = put_in(book, buys, places);
     whole.answer(line, out)
@@ -207,7 +207,7 @@ fn answer_whole(
 
 // What it answered, taken apart again.
 fn take_apart(reply: Reply, buys: bool) -> GivenBack
-    ensures { result ≡ apartOf buys reply }
+    ensures { result ≡ apart_of buys reply }
 {
     let after = reply.book;
     let left = places_in(after, buys);
@@ -222,8 +222,8 @@ fn take_apart(reply: Reply, buys: bool) -> GivenBack
 // A line to a book of which one side is given as the records of a table. A refusal hands back the whole book, so what is taken apart is
 // then the book and the table as they came.
 fn work(book: Book, buys: bool, places: [Resting; PLACES], line: &[u8], out: &mut [u8]) -> GivenBack
-    ensures { (result ≡ workedOf (lentStep buys (recordIn book) places line.now out.old))
-        × (out.new ≡ (lentStep buys (recordIn book) places line.now out.old).out) }
+    ensures { (result ≡ worked_of (lent_step buys (record_in book) places line.now out.old))
+        × (out.new ≡ (lent_step buys (record_in book) places line.now out.old).out) }
 {
     if !is_empty(book, buys) {
         return worked_of(refuse(book, out.len()), places);
@@ -248,7 +248,7 @@ fn places_of(worked: GivenBack) -> [Resting; PLACES]
 
 // A line to a book of which one side is lent as a slice of records: its buys, or else its sells.
 pub fn answer(book: Book, buys: bool, table: &mut [Resting], line: &[u8], out: &mut [u8]) -> Reply
-    ensures { Answered buys (recordIn book) table.old line.now out.old result table.new
+    ensures { Answered buys (record_in book) table.old line.now out.old result table.new
         out.new }
 {
     if table.len() != PLACES {
@@ -268,8 +268,8 @@ fn answer_over(
     line: &[u8],
     out: &mut [u8],
 ) -> GivenBack
-    ensures { (result ≡ workedOf (lentStep buys (recordIn book) places line.now out.old))
-        × (out.new ≡ (lentStep buys (recordIn book) places line.now out.old).out) }
+    ensures { (result ≡ worked_of (lent_step buys (record_in book) places line.now out.old))
+        × (out.new ≡ (lent_step buys (record_in book) places line.now out.old).out) }
 {
     let mut table = places;
     let reply = answer(book, buys, &mut table, line, out);
@@ -278,7 +278,7 @@ fn answer_over(
 
 // What came of the lent side, put together again; of a refusal that is the book as it came.
 fn put_together(worked: GivenBack, buys: bool) -> Reply
-    ensures { result ≡ togetherOf buys worked }
+    ensures { result ≡ together_of buys worked }
 {
     let reply = worked.reply;
     let rest = reply.book;
@@ -292,9 +292,9 @@ fn put_together(worked: GivenBack, buys: bool) -> Reply
 
 // A line to a book whose side is taken out and lent, and put in again.
 fn lend(book: Book, buys: bool, line: &[u8], out: &mut [u8]) -> Reply
-    requires { isCounted (side_of buys (recordIn book)) ≡ true }
-    ensures value { result ≡ replyOf (step (recordIn book) line.now out.old) }
-    ensures out_after { out.new ≡ (step (recordIn book) line.now out.old).out }
+    requires { is_counted (side_of buys (record_in book)) ≡ true }
+    ensures value { result ≡ reply_of (step (record_in book) line.now out.old) }
+    ensures out_after { out.new ≡ (step (record_in book) line.now out.old).out }
 {
     let places = places_in(book, buys);
     let apart = take_out(book, buys);
@@ -305,8 +305,8 @@ fn lend(book: Book, buys: bool, line: &[u8], out: &mut [u8]) -> Reply
 // A line to a whole book by way of the table: one side is taken out and lent, and put in again. It answers as the book itself does; a
 // side whose count is not that of its leading records is not sound.
 pub fn answer_lending(book: Book, buys: bool, line: &[u8], out: &mut [u8]) -> Reply
-    ensures value { result ≡ replyOf (step (recordIn book) line.now out.old) }
-    ensures out_after { out.new ≡ (step (recordIn book) line.now out.old).out }
+    ensures value { result ≡ reply_of (step (record_in book) line.now out.old) }
+    ensures out_after { out.new ≡ (step (record_in book) line.now out.old).out }
 {
     if !is_counted(book, buys) {
         return refuse(book, out.len());

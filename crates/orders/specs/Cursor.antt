@@ -4,10 +4,10 @@
 use Rattle.std.specs.Prelude.{ℕ, ◌+◌, ◌≤◌, ◌<◌, max, not, ◌&&◌, List, [], ◌∷◌, ◌++◌, ◌≡◌, eqb, length, get_or, take, drop}
 use Rattle.basics.specs.Choice.{if◌then◌else◌}
 use Rattle.kinds.specs.declared.HalfCents.{HalfCents}
-use Rattle.kinds.specs.Kinds.{halfCents, shares}
+use Rattle.kinds.specs.Kinds.{half_cents, shares}
 use Rattle.rules.specs.declared.Resting.{Resting}
 use Rattle.rules.specs.Book.{unused}
-use Rattle.rules.specs.Holdings.{Holding, shownPart, reservePart, size}
+use Rattle.rules.specs.Holdings.{Holding, shown_part, reserve_part, size}
 use Rattle.orders.specs.declared.cursor.Part.{Part}
 use Rattle.orders.specs.declared.cursor.Cursor.{Cursor}
 use Rattle.orders.specs.declared.cursor.Following.{Following}
@@ -15,26 +15,26 @@ use Rattle.orders.specs.declared.cursor.Following.TheVariants.{Is, End}
 
 -- ── The parts ──
 
-abbrev pub shownAt : ℕ → Resting → Part
-shownAt i o = record { place = i; price = o.price; shares = o.shares; minimum = o.minimum }
+abbrev pub shown_at : ℕ → Resting → Part
+shown_at i o = record { place = i; price = o.price; shares = o.shares; minimum = o.minimum }
 
-abbrev pub reserveAt : ℕ → Resting → Part
-reserveAt i o = record { place = i; price = o.price; shares = o.reserve; minimum = o.minimum }
+abbrev pub reserve_at : ℕ → Resting → Part
+reserve_at i o = record { place = i; price = o.price; shares = o.reserve; minimum = o.minimum }
 
 -- the reserves of the orders from rank i on, in rank order
 unfoldable pub reserves : ℕ → List Resting → List Part
 reserves i [] = []
-reserves i (o ∷ s) = if eqb o.reserve.0 0 then reserves (i + 1) s else reserveAt i o ∷ reserves (i + 1) s
+reserves i (o ∷ s) = if eqb o.reserve.0 0 then reserves (i + 1) s else reserve_at i o ∷ reserves (i + 1) s
 
 -- the parts from rank i on, behind an order at the price `level`; the reserves in `waiting` stand behind every other order at that price
-unfoldable pub partsFrom : ℕ → HalfCents → List Part → List Resting → List Part
-partsFrom i level waiting [] = waiting
-partsFrom i level waiting (o ∷ s) =
-    if eqb o.price.0 level.0 then shownAt i o ∷ partsFrom (i + 1) o.price (waiting ++ reserves i (o ∷ [])) s
-    else waiting ++ (shownAt i o ∷ partsFrom (i + 1) o.price (reserves i (o ∷ [])) s)
+unfoldable pub parts_from : ℕ → HalfCents → List Part → List Resting → List Part
+parts_from i level waiting [] = waiting
+parts_from i level waiting (o ∷ s) =
+    if eqb o.price.0 level.0 then shown_at i o ∷ parts_from (i + 1) o.price (waiting ++ reserves i (o ∷ [])) s
+    else waiting ++ (shown_at i o ∷ parts_from (i + 1) o.price (reserves i (o ∷ [])) s)
 
 abbrev pub parts : List Resting → List Part
-parts s = partsFrom 0 (halfCents 0) [] s
+parts s = parts_from 0 (half_cents 0) [] s
 
 -- ── The same with empty reserves, as holdings at their places ──
 
@@ -53,16 +53,16 @@ part_of p = record {
   minimum = p.holding.of.minimum;
 }
 
--- `behindItsPrice` and `holdings` of rules, with places
-unfoldable pub behindPlaced : Placed → List Placed → List Placed
-behindPlaced r [] = r ∷ []
-behindPlaced r (p ∷ s) =
-    if eqb p.holding.of.price.0 r.holding.of.price.0 && not p.holding.isReserve then p ∷ behindPlaced r s
+-- `behind_its_price` and `holdings` of rules, with places
+unfoldable pub behind_placed : Placed → List Placed → List Placed
+behind_placed r [] = r ∷ []
+behind_placed r (p ∷ s) =
+    if eqb p.holding.of.price.0 r.holding.of.price.0 && not p.holding.is_reserve then p ∷ behind_placed r s
     else r ∷ (p ∷ s)
 
-unfoldable pub placedFrom : ℕ → List Resting → List Placed
-placedFrom i [] = []
-placedFrom i (h ∷ s) = placed_at i (shownPart h) ∷ behindPlaced (placed_at i (reservePart h)) (placedFrom (i + 1) s)
+unfoldable pub placed_from : ℕ → List Resting → List Placed
+placed_from i [] = []
+placed_from i (h ∷ s) = placed_at i (shown_part h) ∷ behind_placed (placed_at i (reserve_part h)) (placed_from (i + 1) s)
 
 -- ── A cursor over them ──
 
@@ -71,10 +71,10 @@ abbrev pub waiting : List Resting → ℕ → ℕ → List Part
 waiting s waits at = reserves waits (drop waits (take at s))
 
 unfoldable pub ahead : List Resting → Cursor → List Part
-ahead s c = partsFrom c.at c.level (waiting s c.waits c.at) (drop c.at s)
+ahead s c = parts_from c.at c.level (waiting s c.waits c.at) (drop c.at s)
 
 abbrev pub start : Cursor
-start = record { at = 0; waits = 0; level = halfCents 0 }
+start = record { at = 0; waits = 0; level = half_cents 0 }
 
 -- a cursor within a side: the order that it names as waiting has a reserve
 pub record IsAt (s : List Resting) (c : Cursor) : Type 0 where
@@ -92,11 +92,11 @@ pub record Skips (s : List Resting) (from to r : ℕ) : Type 0 where
 -- no other order at the price of the reserves that wait is ahead
 abbrev pub LevelEnds : List Resting → Cursor → Type 0
 LevelEnds s c =
-    (w : List Part) → partsFrom c.at c.level w (drop c.at s) ≡ w ++ partsFrom c.at c.level [] (drop c.at s)
+    (w : List Part) → parts_from c.at c.level w (drop c.at s) ≡ w ++ parts_from c.at c.level [] (drop c.at s)
 
 -- the first order whose reserve waits, once the one at `at` has been reached
-abbrev pub firstWaiting : ℕ → ℕ → ℕ → ℕ
-firstWaiting at waits reserve = if eqb waits at && eqb reserve 0 then at + 1 else waits
+abbrev pub first_waiting : ℕ → ℕ → ℕ → ℕ
+first_waiting at waits reserve = if eqb waits at && eqb reserve 0 then at + 1 else waits
 
 -- p is the first of the parts ahead of a cursor, and the next cursor has the others ahead
 pub record Gives (s : List Resting) (c : Cursor) (p : Part) (next : Cursor) : Type 0 where

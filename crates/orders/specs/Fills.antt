@@ -2,23 +2,23 @@
 use Rattle.std.specs.Prelude.{ℕ, ◌+◌, ◌≤◌, Bool, not, ◌&&◌, List, [], ◌∷◌, eqb}
 use Rattle.basics.specs.Choice.{if◌then◌else◌}
 use Rattle.rules.specs.declared.Resting.{Resting}
-use Rattle.rules.specs.Book.{sharesLeft}
+use Rattle.rules.specs.Book.{shares_left}
 use Rattle.side.specs.Shifts.{less_by}
 use Rattle.orders.specs.declared.walk.Taking.{Taking}
 
 -- all that was taken from the order at rank i
-unfoldable pub takenAt : ℕ → List Taking → ℕ
-takenAt i [] = 0
-takenAt i (k ∷ ks) = (if eqb k.place i then k.shares.0 else 0) + takenAt i ks
+unfoldable pub taken_at : ℕ → List Taking → ℕ
+taken_at i [] = 0
+taken_at i (k ∷ ks) = (if eqb k.place i then k.shares.0 else 0) + taken_at i ks
 
 -- the orders from rank i on without what was taken from them
 unfoldable pub lessened : ℕ → List Taking → List Resting → List Resting
 lessened i ks [] = []
-lessened i ks (h ∷ s) = less_by (takenAt i ks) h ∷ lessened (i + 1) ks s
+lessened i ks (h ∷ s) = less_by (taken_at i ks) h ∷ lessened (i + 1) ks s
 
 -- the minimum of an order is no more than what is left of it, so that nothing taken leaves it as it is (02, W7)
 abbrev pub Least : Resting → Type 0
-Least h = h.minimum.0 ≤ sharesLeft h
+Least h = h.minimum.0 ≤ shares_left h
 
 -- an order has something left, shown or in reserve
 abbrev pub keeps : Resting → Bool
@@ -29,5 +29,5 @@ unfoldable pub keepers : List Resting → List Resting
 keepers [] = []
 keepers (h ∷ s) = if keeps h then h ∷ keepers s else keepers s
 
-abbrev pub afterTakings : List Taking → List Resting → List Resting
-afterTakings ks s = keepers (lessened 0 ks s)
+abbrev pub after_takings : List Taking → List Resting → List Resting
+after_takings ks s = keepers (lessened 0 ks s)

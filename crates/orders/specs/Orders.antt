@@ -3,17 +3,17 @@ use Rattle.std.specs.Prelude.{ℕ, Bool, eqb}
 use Rattle.basics.specs.Choice.{if◌then◌else◌}
 use Rattle.kinds.specs.declared.Number.{Number}
 use Rattle.orders.specs.declared.matching.Matched.{Matched}
-use Rattle.rules.specs.Commands.{withAccepted}
+use Rattle.rules.specs.Commands.{with_accepted}
 use Rattle.side.specs.declared.tables.Head.{Head}
 use Rattle.side.specs.declared.tables.Step.{Step}
 
 -- the header after a match: what each side of the market holds, by the side that the order is of
-abbrev pub stepAfter : Head → Number → ℕ → Bool → Matched → Step
-stepAfter h n time buy r =
+abbrev pub step_after : Head → Number → ℕ → Bool → Matched → Step
+step_after h n time buy r =
     if eqb r.refusal 0 then record {
       refusal = 0;
       head = record {
-        held = withAccepted n time h.held;
+        held = with_accepted n time h.held;
         buys = if buy then r.own else r.opposite;
         sells = if buy then r.opposite else r.own;
       };

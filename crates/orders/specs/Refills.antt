@@ -3,20 +3,20 @@ use Rattle.std.specs.Prelude.{ℕ, ◌≤◌, Bool, true, List, ◌≡◌, lengt
 use Rattle.basics.specs.Lists.{All}
 use Rattle.kinds.specs.declared.Number.{Number}
 use Rattle.rules.specs.declared.Resting.{Resting}
-use Rattle.rules.specs.Book.{stamp, inRankOrder, sharesLeft}
-use Rattle.rules.specs.Settling.{firstMove}
+use Rattle.rules.specs.Book.{stamp, in_rank_order, shares_left}
+use Rattle.rules.specs.Settling.{first_move}
 use Rattle.side.specs.Looking.{Older}
 use Rattle.side.specs.Shifts.{Countable}
 
 -- an order that stands has something left, in a number that four bytes hold
 pub record Refillable (h : Resting) : Type 0 where
-  pub isLeft : 1 ≤ sharesLeft h
+  pub is_left : 1 ≤ shares_left h
   pub countable : Countable h
 
 -- the orders from rank `reached` on, which the walk did not reach, show something
 pub record MayRefill (buy : Bool) (n : Number) (reached : ℕ) (s : List Resting) : Type 0 where
   pub within : reached ≤ length s
-  pub ranked : inRankOrder buy s ≡ true
-  pub older : All (Older (stamp n firstMove)) s
+  pub ranked : in_rank_order buy s ≡ true
+  pub older : All (Older (stamp n first_move)) s
   pub shown : All (λ (h : Resting). 1 ≤ h.shares.0) (drop reached s)
   pub left : All Refillable s

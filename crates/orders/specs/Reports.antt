@@ -6,12 +6,12 @@ use Rattle.kinds.specs.declared.Number.{Number}
 use Rattle.rules.specs.declared.Event.{Event}
 use Rattle.rules.specs.declared.Event.TheVariants.{Executed, Cancelled}
 use Rattle.rules.specs.declared.Resting.{Resting}
-use Rattle.rules.specs.Book.{unused, sharesLeft}
+use Rattle.rules.specs.Book.{unused, shares_left}
 use Rattle.orders.specs.declared.walk.Taking.{Taking}
 
 -- an execution against the order at the taking's rank, at what the taking's price becomes
-abbrev pub executionOf : Number → (HalfCents → HalfCents) → List Resting → Taking → Event
-executionOf n here s k = Executed n (get_or s k.place unused).number (here k.price) k.shares
+abbrev pub execution_of : Number → (HalfCents → HalfCents) → List Resting → Taking → Event
+execution_of n here s k = Executed n (get_or s k.place unused).number (here k.price) k.shares
 
-abbrev pub cancelledFor : ℕ → Resting → Event
-cancelledFor reason h = Cancelled h.number (shares (sharesLeft h)) reason
+abbrev pub cancelled_for : ℕ → Resting → Event
+cancelled_for reason h = Cancelled h.number (shares (shares_left h)) reason

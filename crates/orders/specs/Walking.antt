@@ -4,24 +4,24 @@ use Rattle.basics.specs.Choice.{if◌then◌else◌}
 use Rattle.basics.specs.Lists.{All, any}
 use Rattle.kinds.specs.declared.HalfCents.{HalfCents}
 use Rattle.kinds.specs.Kinds.{largest}
-use Rattle.orders.specs.Bound.{boundOf, boundUnder}
+use Rattle.orders.specs.Bound.{bound_of, bound_under}
 use Rattle.orders.specs.Fills.{Least}
-use Rattle.orders.specs.Locks.{lockedPrice, ToldByPrice}
-use Rattle.orders.specs.Cursor.{parts, part_of, placedFrom}
+use Rattle.orders.specs.Locks.{locked_price, ToldByPrice}
+use Rattle.orders.specs.Cursor.{parts, part_of, placed_from}
 use Rattle.rules.specs.declared.Order.{Order}
 use Rattle.rules.specs.declared.Resting.{Resting}
-use Rattle.side.specs.Looking.{priceBound}
+use Rattle.side.specs.Looking.{price_bound}
 use Rattle.side.specs.Shifts.{Countable}
 use Rattle.rules.specs.declared.Away.{Away}
 use Rattle.rules.specs.declared.Ending.{Ending}
 use Rattle.rules.specs.declared.Ending.TheVariants.{Filled, Rests, Cancels}
-use Rattle.rules.specs.Book.{inRankOrder}
-use Rattle.rules.specs.EventLines.{iocRemainder, fokKilled, postOnlyMeets, wouldStillMeet}
-use Rattle.rules.specs.Instructions.{ioc, fok, postOnly, has}
-use Rattle.rules.specs.Working.{buying, limitOf, lockingPrice, reaches, isDisplayedAt, meetsOrPasses, leastOf, Met, takings, remainder, seeks}
+use Rattle.rules.specs.Book.{in_rank_order}
+use Rattle.rules.specs.EventLines.{ioc_remainder, fok_killed, post_only_meets, would_still_meet}
+use Rattle.rules.specs.Instructions.{ioc, fok, post_only, has}
+use Rattle.rules.specs.Working.{buying, limit_of, locking_price, reaches, is_displayed_at, meets_or_passes, least_of, Met, takings, remainder, seeks}
 use Rattle.orders.specs.declared.walk.Taking.{Taking}
 use Rattle.orders.specs.declared.walk.Walked.{Walked}
-use Rattle.orders.specs.Walk.{mostTakings, isBelow, isWithin, takingsFrom, takingsIn, takingsOf, walkedOf}
+use Rattle.orders.specs.Walk.{most_takings, is_below, is_within, takings_from, takings_in, takings_of, walked_of}
 
 -- what working an order needs of the orders on the opposite side, and a sound book gives
 pub record Workable (h : Resting) : Type 0 where
@@ -34,22 +34,22 @@ pub record Workable (h : Resting) : Type 0 where
   pub alone : 0 < h.minimum.0 → h.reserve.0 ≡ 0
 
 -- what an order meets, part by part
-abbrev pub metWith : Away → List Resting → List Resting → Met
-metWith away own opposite = record { away = away; own = own; opposite = opposite }
+abbrev pub met_with : Away → List Resting → List Resting → Met
+met_with away own opposite = record { away = away; own = own; opposite = opposite }
 
 -- what its walk needs of both sides, and a sound book gives
 pub record Walkable (o : Order) (met : Met) : Type 0 where
-  pub limited : (limitOf o).0 < priceBound
-  pub lockingPriced : (lockingPrice (buying o) met.away).0 < largest - 1
-  pub ranked : inRankOrder (not (buying o)) met.opposite ≡ true
+  pub limited : (limit_of o).0 < price_bound
+  pub locking_priced : (locking_price (buying o) met.away).0 < largest - 1
+  pub ranked : in_rank_order (not (buying o)) met.opposite ≡ true
   pub workable : All Workable met.opposite
-  pub lockedBelow : (lockedPrice met.own).0 < largest
+  pub locked_below : (locked_price met.own).0 < largest
   pub told : All (ToldByPrice met.own) met.opposite
   -- an order that may rest has a limit
-  pub priced : has o.word fok ≡ false → has o.word ioc ≡ false → 1 ≤ (limitOf o).0
+  pub priced : has o.word fok ≡ false → has o.word ioc ≡ false → 1 ≤ (limit_of o).0
   -- at a price that equals or passes an opposite order, the locked price alone tells whether a lock stands
-  pub lockTold : (price : HalfCents) → 1 ≤ price.0 → All (λ (h : Resting). reaches (buying o) price h.price ≡ true
-      → any (isDisplayedAt price) met.own ≡ eqb price.0 (lockedPrice met.own).0) met.opposite
+  pub lock_told : (price : HalfCents) → 1 ≤ price.0 → All (λ (h : Resting). reaches (buying o) price h.price ≡ true
+      → any (is_displayed_at price) met.own ≡ eqb price.0 (locked_price met.own).0) met.opposite
 
 -- an order that takes nothing ends its walk at the start
 abbrev pub untouched : Order → Walked
@@ -57,56 +57,56 @@ untouched o = record { count = 0; left = o.shares; at = 0; skipped = 0 }
 
 -- ── A walk up to a bound ──
 
-abbrev pub boundWalk : Order → HalfCents → List Resting → Walked
-boundWalk o bound s = walkedOf (isWithin (buying o) bound) o.shares.0 (parts s)
+abbrev pub bound_walk : Order → HalfCents → List Resting → Walked
+bound_walk o bound s = walked_of (is_within (buying o) bound) o.shares.0 (parts s)
 
 -- Post Only takes nothing, nor does an order whose walk gives less than the least that it must
-abbrev pub isIdle : Order → HalfCents → List Resting → Bool
-isIdle o bound s = has o.word postOnly || ltb (o.shares.0 - (boundWalk o bound s).left.0) (leastOf o)
+abbrev pub is_idle : Order → HalfCents → List Resting → Bool
+is_idle o bound s = has o.word post_only || ltb (o.shares.0 - (bound_walk o bound s).left.0) (least_of o)
 
-unfoldable pub walkFor : Order → HalfCents → List Resting → Walked
-walkFor o bound s = if isIdle o bound s then untouched o else boundWalk o bound s
+unfoldable pub walk_for : Order → HalfCents → List Resting → Walked
+walk_for o bound s = if is_idle o bound s then untouched o else bound_walk o bound s
 
-unfoldable pub takingsFor : Order → HalfCents → List Resting → List Taking
-takingsFor o bound s = if isIdle o bound s then [] else takingsOf (isWithin (buying o) bound) o.shares.0 (parts s)
+unfoldable pub takings_for : Order → HalfCents → List Resting → List Taking
+takings_for o bound s = if is_idle o bound s then [] else takings_of (is_within (buying o) bound) o.shares.0 (parts s)
 
 -- ── The walk of an order on what it meets ──
 
-abbrev pub walkBound : Order → Met → HalfCents
-walkBound o met = boundUnder (buying o) (lockedPrice met.own) (boundOf o met.away)
+abbrev pub walk_bound : Order → Met → HalfCents
+walk_bound o met = bound_under (buying o) (locked_price met.own) (bound_of o met.away)
 
 -- the takings of an order's walk: those of 01, of whoever gives
-abbrev pub takingsBy : Order → Met → List Taking
-takingsBy o met = takingsFrom (map part_of (placedFrom 0 met.opposite)) (takings o met)
+abbrev pub takings_by : Order → Met → List Taking
+takings_by o met = takings_from (map part_of (placed_from 0 met.opposite)) (takings o met)
 
 -- how a walk ended and the table of its takings: these are the order's takings, the shares left its remainder, and no taking is from
 -- place `at` on
 pub record Walks (o : Order) (met : Met) (w : Walked) (took : List (List ℕ)) : Type 0 where
-  pub takes : takingsIn w.count took ≡ takingsBy o met
-  pub counts : w.count ≡ length (takingsBy o met)
-  pub fits : w.count ≤ mostTakings
+  pub takes : takings_in w.count took ≡ takings_by o met
+  pub counts : w.count ≡ length (takings_by o met)
+  pub fits : w.count ≤ most_takings
   pub leaves : w.left.0 ≡ remainder o met
   pub reaches : w.at ≤ length met.opposite
-  pub before : All (isBelow w.at) (takingsBy o met)
+  pub before : All (is_below w.at) (takings_by o met)
 
 -- ── What becomes of the order ──
 
 -- `ending` of rules by the best of those that are left of the opposite side, and by the locked price: LawsLeft shows that they tell
-unfoldable pub restsUnlessBestMeets : Order → HalfCents → List Resting → HalfCents → Ending
-restsUnlessBestMeets o locked [] price = Rests price
-restsUnlessBestMeets o locked (best ∷ s) price =
-    if has o.word postOnly then (if meetsOrPasses (buying o) price best then Cancels postOnlyMeets else Rests price)
-    else if reaches (buying o) price best.price && not (eqb price.0 locked.0) then Cancels wouldStillMeet
+unfoldable pub rests_unless_best_meets : Order → HalfCents → List Resting → HalfCents → Ending
+rests_unless_best_meets o locked [] price = Rests price
+rests_unless_best_meets o locked (best ∷ s) price =
+    if has o.word post_only then (if meets_or_passes (buying o) price best then Cancels post_only_meets else Rests price)
+    else if reaches (buying o) price best.price && not (eqb price.0 locked.0) then Cancels would_still_meet
     else Rests price
 
-abbrev pub unlessBestMeets : Order → HalfCents → List Resting → Ending → Ending
-unlessBestMeets o locked left Filled = Filled
-unlessBestMeets o locked left (Rests price) = restsUnlessBestMeets o locked left price
-unlessBestMeets o locked left (Cancels reason) = Cancels reason
+abbrev pub unless_best_meets : Order → HalfCents → List Resting → Ending → Ending
+unless_best_meets o locked left Filled = Filled
+unless_best_meets o locked left (Rests price) = rests_unless_best_meets o locked left price
+unless_best_meets o locked left (Cancels reason) = Cancels reason
 
-unfoldable pub endingByBest : ℕ → Order → Away → HalfCents → List Resting → Ending
-endingByBest left o away locked opposite =
+unfoldable pub ending_by_best : ℕ → Order → Away → HalfCents → List Resting → Ending
+ending_by_best left o away locked opposite =
     if eqb left 0 then Filled
-    else if has o.word fok then Cancels fokKilled
-    else if has o.word ioc then Cancels iocRemainder
-    else unlessBestMeets o locked opposite (seeks o away)
+    else if has o.word fok then Cancels fok_killed
+    else if has o.word ioc then Cancels ioc_remainder
+    else unless_best_meets o locked opposite (seeks o away)

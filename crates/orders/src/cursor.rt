@@ -2,9 +2,9 @@
 // part at its rank, each reserve behind every other order at its price. A cursor goes from one part to the next and passes the orders
 // once; only where a price has a reserve does it pass that price's orders again, and look behind them once more for each reserve.
 ghost use Rattle.std.specs.Prelude.{◌≡◌, ◌≤◌, ◌<◌};
-ghost use Rattle.rules.specs.Book.{placesASide};
+ghost use Rattle.rules.specs.Book.{places_aSide};
 ghost use Rattle.side.specs.Table.{side, Holds};
-ghost use Rattle.orders.specs.Cursor.{IsAt, Skips, LevelEnds, firstWaiting, Follows};
+ghost use Rattle.orders.specs.Cursor.{IsAt, Skips, LevelEnds, first_waiting, Follows};
 
 use kinds::{HalfCents, Shares};
 use side::rows;
@@ -79,8 +79,8 @@ fn next_reserve(x: &Index, t: &Rows, n: usize, c: Cursor) -> Following
 
 // The first order whose reserve waits, once the one at `at` has been reached.
 fn first_waiting(at: usize, waits: usize, reserve: Shares) -> usize
-    requires { at < placesASide }
-    ensures { result ≡ firstWaiting at waits reserve.0 }
+    requires { at < places_aSide }
+    ensures { result ≡ first_waiting at waits reserve.0 }
 {
     if (waits == at) & (reserve.0 == 0) {
         return at + 1;

@@ -3,9 +3,9 @@ ghost use Rattle.std.specs.Prelude.{true, ◌≡◌, ◌+◌, ◌≤◌, ◌<◌
 ghost use Rattle.basics.specs.Choice.{if◌then◌else◌};
 ghost use Rattle.basics.specs.Lists.{All, every};
 ghost use Rattle.side.specs.Table.{side, Holds, Shows};
-ghost use Rattle.rules.specs.Book.{placesASide};
-ghost use Rattle.orders.specs.Walk.{mostTakings, isBelow, takingsIn};
-ghost use Rattle.orders.specs.Fills.{Least, keeps, lessened, keepers, afterTakings};
+ghost use Rattle.rules.specs.Book.{places_aSide};
+ghost use Rattle.orders.specs.Walk.{most_takings, is_below, takings_in};
+ghost use Rattle.orders.specs.Fills.{Least, keeps, lessened, keepers, after_takings};
 
 use crate::walk;
 use crate::walk::Takings;
@@ -15,9 +15,9 @@ use side::{rows, shifts};
 
 // Takes the takings off the orders.
 fn subtract(x: &Index, t: &mut Rows, n: usize, took: &Takings, count: usize)
-    requires { Holds n x.now t.old × (count ≤ mostTakings) × All (isBelow n) (takingsIn count took.now)
+    requires { Holds n x.now t.old × (count ≤ most_takings) × All (is_below n) (takings_in count took.now)
         × All Least (side n x.now t.old) }
-    ensures { Shows (lessened 0 (takingsIn count took.now) (side n x.now t.old))
+    ensures { Shows (lessened 0 (takings_in count took.now) (side n x.now t.old))
         x.now t.new }
 {
     walk::whole(took);
@@ -38,7 +38,7 @@ fn has_shares(o: Resting) -> bool
 
 // One more where the test holds.
 fn counted(to: usize, one: bool) -> usize
-    requires { to < placesASide }
+    requires { to < places_aSide }
     ensures { result ≡ (if one then to + 1 else to) }
 {
     if one { to + 1 } else { to }
@@ -73,10 +73,10 @@ pub(crate) fn take_off(
     took: &Takings,
     count: usize,
 ) -> usize
-    requires { Holds n x.old t.old × (at ≤ n) × (count ≤ mostTakings) × All (isBelow at) (takingsIn count took.now)
+    requires { Holds n x.old t.old × (at ≤ n) × (count ≤ most_takings) × All (is_below at) (takings_in count took.now)
         × (every keeps (side n x.old t.old) ≡ true) × All Least (side n x.old t.old) }
-    ensures value { result ≡ length (afterTakings (takingsIn count took.now) (side n x.old t.old)) }
-    ensures shows { Shows (afterTakings (takingsIn count took.now) (side n x.old t.old))
+    ensures value { result ≡ length (after_takings (takings_in count took.now) (side n x.old t.old)) }
+    ensures shows { Shows (after_takings (takings_in count took.now) (side n x.old t.old))
         x.new t.new }
 {
     subtract(x, t, n, took, count);

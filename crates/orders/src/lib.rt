@@ -10,11 +10,11 @@ pub mod walk;
 mod work;
 
 ghost use Rattle.std.specs.Prelude.{◌≡◌, ◌≤◌, ◌<◌, length};
-ghost use Rattle.rules.specs.Refusals.{leastRoom};
+ghost use Rattle.rules.specs.Refusals.{least_room};
 ghost use Rattle.rules.specs.declared.Body.TheVariants as body;
-ghost use Rattle.side.specs.Answers.{bodyAnswer, Left, Stands};
-ghost use Rattle.side.specs.Tables.{bookOn};
-ghost use Rattle.orders.specs.Orders.{stepAfter};
+ghost use Rattle.side.specs.Answers.{body_answer, Left, Stands};
+ghost use Rattle.side.specs.Tables.{book_on};
+ghost use Rattle.orders.specs.Orders.{step_after};
 
 use crate::matching::Matched;
 use crate::walk::Takings;
@@ -26,7 +26,7 @@ use side::tables::{Head, Step};
 
 // The header after a match of an order of one side of the market.
 fn step_after(h: Head, number: Number, time: u32, buying: bool, r: Matched) -> Step
-    ensures { result ≡ stepAfter h number time buying r }
+    ensures { result ≡ step_after h number time buying r }
 {
     if r.refusal != 0 {
         return tables::refuse(h, r.refusal);
@@ -73,9 +73,9 @@ pub fn enter(
     took: &mut Takings,
     out: &mut [u8],
 ) -> Step
-    requires { Stands h x.old buys.old y.old sells.old × (leastRoom ≤ length out.old) × (h.held.last.0 < number.0) }
+    requires { Stands h x.old buys.old y.old sells.old × (least_room ≤ length out.old) × (h.held.last.0 < number.0) }
     ensures { Left result x.new buys.new y.new sells.new out.new out.old
-        (bodyAnswer number time (body.Order o) (bookOn h x.old buys.old y.old sells.old)) }
+        (body_answer number time (body.Order o) (book_on h x.old buys.old y.old sells.old)) }
 {
     if !judge::order_lawful(o) {
         return tables::refuse(h, 8);

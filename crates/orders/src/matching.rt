@@ -4,14 +4,14 @@ ghost use Rattle.std.specs.Prelude.{true, not, ◌++◌, ◌≡◌, ◌≤◌, �
 ghost use Rattle.basics.specs.Bytes.{onto};
 ghost use Rattle.basics.specs.Choice.{if◌then◌else◌};
 ghost use Rattle.side.specs.Table.{side, Holds, Shows};
-ghost use Rattle.rules.specs.Book.{placesASide};
-ghost use Rattle.rules.specs.EventLines.{eventLines};
-ghost use Rattle.rules.specs.Refusals.{is_rest, leastRoom};
+ghost use Rattle.rules.specs.Book.{places_aSide};
+ghost use Rattle.rules.specs.EventLines.{event_lines};
+ghost use Rattle.rules.specs.Refusals.{is_rest, least_room};
 ghost use Rattle.kinds.specs.Kinds.{shares};
-ghost use Rattle.rules.specs.Settling.{firstMove, told, settledSide};
-ghost use Rattle.rules.specs.Working.{floorOf, lastLine, remainderOf, withRemainder, refillFate, buying};
+ghost use Rattle.rules.specs.Settling.{first_move, told, settled_side};
+ghost use Rattle.rules.specs.Working.{floor_of, last_line, remainder_of, with_remainder, refill_fate, buying};
 ghost use Rattle.orders.specs.Matching.{match_of, finished, Ready, MayRest, Matches};
-ghost use Rattle.orders.specs.Walking.{metWith};
+ghost use Rattle.orders.specs.Walking.{met_with};
 ghost use Rattle.orders.specs.Refills.{MayRefill};
 
 use crate::walk::Takings;
@@ -41,7 +41,7 @@ pub struct Finished {
 
 // How many orders its own side holds after an order's ending.
 fn places_after(end: Ending, n: usize) -> usize
-    requires { n ≤ placesASide }
+    requires { n ≤ places_aSide }
     ensures { result ≡ n + (if is_rest end then 1 else 0) }
 {
     match end {
@@ -53,7 +53,7 @@ fn places_after(end: Ending, n: usize) -> usize
 
 // The Max Floor of an order, 0 for none (02, W4).
 fn floor_of(carried: Carried) -> Shares
-    ensures { result ≡ shares (floorOf carried) }
+    ensures { result ≡ shares (floor_of carried) }
 {
     match carried {
         Carried::Nothing => Shares(0),
@@ -64,7 +64,7 @@ fn floor_of(carried: Carried) -> Shares
 
 // What rests of an order: it shows its Max Floor, or what is left if that is less, and so of its minimum.
 fn remainder_of(number: Number, o: Order, left: Shares, price: HalfCents) -> Resting
-    ensures { result ≡ remainderOf number o left.0 price }
+    ensures { result ≡ remainder_of number o left.0 price }
 {
     let displayed = instructions::has(o.word, rules::DISPLAYED);
     let back = instructions::has(o.word, rules::CANCEL_BACK);
@@ -102,12 +102,12 @@ fn conclude(
     n: usize,
     out: &mut [u8],
 ) -> usize
-    requires { Holds n x.old t.old × (is_rest end ≡ true → n < placesASide) × (27 ≤ length out.old)
+    requires { Holds n x.old t.old × (is_rest end ≡ true → n < places_aSide) × (27 ≤ length out.old)
         × MayRest (buying o) number end (side n x.old t.old) }
-    ensures value { result ≡ length (eventLines (lastLine number left.0 end)) }
-    ensures shows { Shows (withRemainder number o left.0 end (side n x.old t.old)) x.new
+    ensures value { result ≡ length (event_lines (last_line number left.0 end)) }
+    ensures shows { Shows (with_remainder number o left.0 end (side n x.old t.old)) x.new
         t.new }
-    ensures out_after { out.new ≡ onto (eventLines (lastLine number left.0 end)) out.old }
+    ensures out_after { out.new ≡ onto (event_lines (last_line number left.0 end)) out.old }
 {
     match end {
         Ending::Filled => 0,
@@ -136,17 +136,17 @@ fn finish(
     reached: usize,
     out: &mut [u8],
 ) -> Finished
-    requires { Holds n x.old own.old × (is_rest end ≡ true → n < placesASide)
+    requires { Holds n x.old own.old × (is_rest end ≡ true → n < places_aSide)
         × MayRest (buying o) number end (side n x.old own.old) × Holds m y.old opposite.old
         × MayRefill (not (buying o)) number reached (side m y.old opposite.old)
         × (27 + 27 * m ≤ length out.old) }
     ensures value { result ≡ finished number left end (not (buying o)) (side m y.old opposite.old) }
-    ensures shows { Shows (withRemainder number o left.0 end (side n x.old own.old)) x.new
+    ensures shows { Shows (with_remainder number o left.0 end (side n x.old own.old)) x.new
         own.new }
-    ensures shows_2 { Shows (settledSide number firstMove (not (buying o)) refillFate (side m y.old opposite.old))
+    ensures shows_2 { Shows (settled_side number first_move (not (buying o)) refill_fate (side m y.old opposite.old))
         y.new opposite.new }
-    ensures out_after { out.new ≡ onto (eventLines (lastLine number left.0 end
-        ++ told refillFate (side m y.old opposite.old))) out.old }
+    ensures out_after { out.new ≡ onto (event_lines (last_line number left.0 end
+        ++ told refill_fate (side m y.old opposite.old))) out.old }
 {
     let len = conclude(o, number, end, left, x, own, n, out);
     let refilled = refills::refill(
@@ -180,9 +180,9 @@ pub(crate) fn match_order(
     out: &mut [u8],
 ) -> Matched
     requires { Holds n x.old own.old × Holds m y.old opposite.old
-        × Ready o number (metWith away (side n x.old own.old) (side m y.old opposite.old)) × (leastRoom ≤ length out.old) }
+        × Ready o number (met_with away (side n x.old own.old) (side m y.old opposite.old)) × (least_room ≤ length out.old) }
     ensures { Matches result x.new own.new y.new opposite.new out.new out.old
-        (match_of o number (metWith away (side n x.old own.old) (side m y.old opposite.old))) }
+        (match_of o number (met_with away (side n x.old own.old) (side m y.old opposite.old))) }
 {
     let locked = pricing::locked_price(x, own, n);
     let bound = pricing::bound_under(o, away, locked);

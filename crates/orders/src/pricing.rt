@@ -2,10 +2,10 @@
 // and the price that a Day remainder seeks (step 4).
 ghost use Rattle.std.specs.Prelude.{◌≡◌, ◌-◌, ◌≤◌, ◌<◌};
 ghost use Rattle.kinds.specs.Kinds.{largest};
-ghost use Rattle.rules.specs.Working.{buying, limitOf, lockingPrice, halfACentTheIncomingWay, oneCentLessAggressive, adjusted, seeks};
+ghost use Rattle.rules.specs.Working.{buying, limit_of, locking_price, half_aCent_the_incoming_way, one_cent_less_aggressive, adjusted, seeks};
 ghost use Rattle.side.specs.Table.{side, Holds};
-ghost use Rattle.orders.specs.Bound.{farthest, boundOf, boundUnder};
-ghost use Rattle.orders.specs.Locks.{lockedPrice, executesAt};
+ghost use Rattle.orders.specs.Bound.{farthest, bound_of, bound_under};
+ghost use Rattle.orders.specs.Locks.{locked_price, executes_at};
 
 use judge::instructions;
 use kinds::HalfCents;
@@ -19,7 +19,7 @@ use side::{prices, rows};
 // of the order's own side, and its best order is displayed if any at that price is. 0 where none is displayed there.
 pub(crate) fn locked_price(x: &Index, t: &Rows, n: usize) -> HalfCents
     requires { Holds n x.now t.now }
-    ensures { result ≡ lockedPrice (side n x.now t.now) }
+    ensures { result ≡ locked_price (side n x.now t.now) }
 {
     if n == 0 {
         return HalfCents(0);
@@ -33,7 +33,7 @@ pub(crate) fn locked_price(x: &Index, t: &Rows, n: usize) -> HalfCents
 
 fn half_a_cent(buy: bool, p: HalfCents) -> HalfCents
     requires { p.0 < largest }
-    ensures { result ≡ halfACentTheIncomingWay buy p }
+    ensures { result ≡ half_aCent_the_incoming_way buy p }
 {
     if buy {
         return p.half_above();
@@ -44,7 +44,7 @@ fn half_a_cent(buy: bool, p: HalfCents) -> HalfCents
 // The price of an execution against an order that rests at `price`.
 pub(crate) fn execution_price(buy: bool, locked: HalfCents, price: HalfCents) -> HalfCents
     requires { locked.0 < largest }
-    ensures { result ≡ executesAt buy locked price }
+    ensures { result ≡ executes_at buy locked price }
 {
     if price.0 == locked.0 {
         return half_a_cent(buy, price);
@@ -54,7 +54,7 @@ pub(crate) fn execution_price(buy: bool, locked: HalfCents, price: HalfCents) ->
 
 // The limit, or for a market order the farthest price that there is.
 fn limit_of(o: Order) -> HalfCents
-    requires { (limitOf o).0 ≤ largest }
+    requires { (limit_of o).0 ≤ largest }
     ensures { result ≡ farthest o }
 {
     let price = o.price;
@@ -69,8 +69,8 @@ fn limit_of(o: Order) -> HalfCents
 
 // The limit, or the away price where that comes first and restricts the order.
 fn bound_of(o: Order, away: Away) -> HalfCents
-    requires { ((limitOf o).0 ≤ largest) × ((lockingPrice (buying o) away).0 ≤ largest) }
-    ensures { result ≡ boundOf o away }
+    requires { ((limit_of o).0 ≤ largest) × ((locking_price (buying o) away).0 ≤ largest) }
+    ensures { result ≡ bound_of o away }
 {
     let buy = o.side == 0;
     let limit = limit_of(o);
@@ -86,8 +86,8 @@ fn bound_of(o: Order, away: Away) -> HalfCents
 
 // The same for the prices at which orders rest: those at the locked price would execute half a cent beyond it.
 pub(crate) fn bound_under(o: Order, away: Away, locked: HalfCents) -> HalfCents
-    requires { ((limitOf o).0 ≤ largest) × ((lockingPrice (buying o) away).0 ≤ largest) × (locked.0 < largest) }
-    ensures { result ≡ boundUnder (buying o) locked (boundOf o away) }
+    requires { ((limit_of o).0 ≤ largest) × ((locking_price (buying o) away).0 ≤ largest) × (locked.0 < largest) }
+    ensures { result ≡ bound_under (buying o) locked (bound_of o away) }
 {
     let bound = bound_of(o, away);
     if bound.0 == locked.0 {
@@ -100,7 +100,7 @@ pub(crate) fn bound_under(o: Order, away: Away, locked: HalfCents) -> HalfCents
 
 fn less_aggressive(buy: bool, p: HalfCents) -> HalfCents
     requires { p.0 < largest - 1 }
-    ensures { result ≡ oneCentLessAggressive buy p }
+    ensures { result ≡ one_cent_less_aggressive buy p }
 {
     if buy {
         return p.below();
@@ -122,7 +122,7 @@ fn adjust(o: Order, price: HalfCents) -> Ending
 }
 
 pub(crate) fn seek(o: Order, away: Away) -> Ending
-    requires { ((limitOf o).0 ≤ largest) × ((lockingPrice (buying o) away).0 < largest - 1) }
+    requires { ((limit_of o).0 ≤ largest) × ((locking_price (buying o) away).0 < largest - 1) }
     ensures { result ≡ seeks o away }
 {
     let buy = o.side == 0;

@@ -3,10 +3,10 @@
 ghost use Rattle.std.specs.Prelude.{◌≡◌, ◌≤◌, length};
 ghost use Rattle.basics.specs.Bytes.{onto};
 ghost use Rattle.kinds.specs.Kinds.{shares};
-ghost use Rattle.rules.specs.EventLines.{eventLines};
-ghost use Rattle.rules.specs.Settling.{shownOf, refilled, firstMove, told, settledSide};
-ghost use Rattle.rules.specs.Working.{refillFate};
-ghost use Rattle.settling.specs.OneByOne.{settledIn};
+ghost use Rattle.rules.specs.EventLines.{event_lines};
+ghost use Rattle.rules.specs.Settling.{shown_of, refilled, first_move, told, settled_side};
+ghost use Rattle.rules.specs.Working.{refill_fate};
+ghost use Rattle.settling.specs.OneByOne.{settled_in};
 ghost use Rattle.side.specs.Shifts.{Countable};
 ghost use Rattle.side.specs.Table.{side, Holds, Shows};
 ghost use Rattle.orders.specs.Refills.{MayRefill};
@@ -19,7 +19,7 @@ use side::rows::{Index, Rows};
 
 // The shares that an order shows of those left: its Max Floor, or what is left if that is less; all of them where it has none.
 pub(crate) fn shown_of(floor: Shares, left: Shares) -> Shares
-    ensures { result ≡ shares (shownOf floor.0 left.0) }
+    ensures { result ≡ shares (shown_of floor.0 left.0) }
 {
     if floor.0 == 0 {
         return left;
@@ -55,11 +55,11 @@ pub(crate) fn refill(
     out: &mut [u8],
 ) -> Settled
     requires { Holds n x.old t.old × MayRefill buying number reached (side n x.old t.old)
-        × (length (eventLines (told refillFate (side n x.old t.old))) ≤ length out.old) }
-    ensures value { result ≡ settledIn number firstMove buying refillFate (side n x.old t.old) }
-    ensures shows { Shows (settledSide number firstMove buying refillFate (side n x.old t.old))
+        × (length (event_lines (told refill_fate (side n x.old t.old))) ≤ length out.old) }
+    ensures value { result ≡ settled_in number first_move buying refill_fate (side n x.old t.old) }
+    ensures shows { Shows (settled_side number first_move buying refill_fate (side n x.old t.old))
         x.new t.new }
-    ensures out_after { out.new ≡ onto (eventLines (told refillFate (side n x.old t.old))) out.old }
+    ensures out_after { out.new ≡ onto (event_lines (told refill_fate (side n x.old t.old))) out.old }
 {
     let mut m = Settled {
         held: n,

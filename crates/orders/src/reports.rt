@@ -5,10 +5,10 @@ ghost use Rattle.basics.specs.Lists.{All};
 ghost use Rattle.kinds.specs.Kinds.{largest};
 ghost use Rattle.side.specs.Shifts.{Countable};
 ghost use Rattle.side.specs.Table.{side, Holds};
-ghost use Rattle.rules.specs.EventLines.{eventLines};
-ghost use Rattle.orders.specs.Walk.{mostTakings, isBelow, takingsIn};
-ghost use Rattle.orders.specs.Locks.{executesAt};
-ghost use Rattle.orders.specs.Reports.{executionOf, cancelledFor};
+ghost use Rattle.rules.specs.EventLines.{event_lines};
+ghost use Rattle.orders.specs.Walk.{most_takings, is_below, takings_in};
+ghost use Rattle.orders.specs.Locks.{executes_at};
+ghost use Rattle.orders.specs.Reports.{execution_of, cancelled_for};
 
 use crate::walk::Takings;
 use crate::{pricing, walk};
@@ -30,12 +30,12 @@ pub(crate) fn report(
     locked: HalfCents,
     out: &mut [u8],
 ) -> usize
-    requires { Holds n x.now t.now × (count ≤ mostTakings) × All (isBelow n) (takingsIn count took.now)
+    requires { Holds n x.now t.now × (count ≤ most_takings) × All (is_below n) (takings_in count took.now)
         × (35 * count ≤ length out.old) × (locked.0 < largest) }
     ensures value { result ≡ 35 * count }
-    ensures out_after { out.new ≡ onto (eventLines (map
-        (executionOf number (executesAt buying locked) (side n x.now t.now))
-        (takingsIn count took.now))) out.old }
+    ensures out_after { out.new ≡ onto (event_lines (map
+        (execution_of number (executes_at buying locked) (side n x.now t.now))
+        (takings_in count took.now))) out.old }
 {
     walk::whole(took);
     let mut len = 0;
@@ -54,7 +54,7 @@ pub(crate) fn report(
 pub fn report_cancelled(x: &Index, t: &Rows, n: usize, reason: u8, out: &mut [u8]) -> usize
     requires { Holds n x.now t.now × (21 * n ≤ length out.old) × All Countable (side n x.now t.now) }
     ensures value { result ≡ 21 * n }
-    ensures out_after { out.new ≡ onto (eventLines (map (cancelledFor reason) (side n x.now t.now)))
+    ensures out_after { out.new ≡ onto (event_lines (map (cancelled_for reason) (side n x.now t.now)))
         out.old }
 {
     let mut len = 0;

@@ -1,9 +1,9 @@
 // A walk over one side of the book for a number of shares: what each part of its orders gives, one taking after the other.
 ghost use Rattle.std.specs.Prelude.{false, [], map, ◌≡◌, ◌+◌, ◌-◌, ◌<◌, min, length, get_or, set};
 ghost use Rattle.side.specs.Table.{side, Holds};
-ghost use Rattle.rules.specs.Book.{placesASide};
+ghost use Rattle.rules.specs.Book.{places_aSide};
 ghost use Rattle.orders.specs.Cursor.{parts};
-ghost use Rattle.orders.specs.Walk.{mostTakings, isWithin, isPassed, partGives, taking, takingRow, takingIn, laid, laidAt, walkedOf, takingsOf};
+ghost use Rattle.orders.specs.Walk.{most_takings, is_within, is_passed, part_gives, taking, taking_row, taking_in, laid, laid_at, walked_of, takings_of};
 
 use crate::cursor;
 use crate::cursor::{Cursor, Following, Part};
@@ -45,14 +45,14 @@ pub struct Walked {
 
 // Does nothing, and tells that a lent table has all its rows.
 pub(crate) fn whole(took: &Takings)
-    ensures { length took.now ≡ mostTakings }
+    ensures { length took.now ≡ most_takings }
 {
     let s: &[[u32; 3]] = took;
 }
 
 fn put(took: &mut Takings, i: usize, k: Taking)
-    requires { (i < mostTakings) × (k.place < placesASide) }
-    ensures { took.new ≡ set took.old i (takingRow k) }
+    requires { (i < most_takings) × (k.place < places_aSide) }
+    ensures { took.new ≡ set took.old i (taking_row k) }
 {
     let place = k.place as u32;
     let r = [place, k.price.0, k.shares.0];
@@ -67,8 +67,8 @@ fn place_of(word: u32) -> usize
 }
 
 pub(crate) fn taking_at(took: &Takings, i: usize) -> Taking
-    requires { i < mostTakings }
-    ensures { result ≡ takingIn (get_or took.now i []) }
+    requires { i < most_takings }
+    ensures { result ≡ taking_in (get_or took.now i []) }
 {
     let r = took[i];
     Taking {
@@ -82,7 +82,7 @@ pub(crate) fn taking_at(took: &Takings, i: usize) -> Taking
 
 // Whether a part is skipped: fewer shares are left than the smaller of its order's minimum and what it holds.
 fn is_passed(left: Shares, p: Part) -> bool
-    ensures { result ≡ isPassed left.0 p }
+    ensures { result ≡ is_passed left.0 p }
 {
     let minimum = p.minimum;
     let least = minimum.smaller(p.shares);
@@ -97,12 +97,12 @@ pub(crate) fn first_of(a: usize, b: usize) -> usize
 
 // Takes from a part that is not skipped what it gives, as the next taking. One that gives nothing is no taking.
 fn take_from(took: &mut Takings, count: usize, left: Shares, p: Part) -> Taken
-    requires { (count < mostTakings) × (p.place < placesASide) × (isPassed left.0 p ≡ false) }
+    requires { (count < most_takings) × (p.place < places_aSide) × (is_passed left.0 p ≡ false) }
     ensures value { result ≡ record {
-      count = count + length (taking p (partGives left.0 p));
-      left = record { 0 = left.0 - partGives left.0 p };
+      count = count + length (taking p (part_gives left.0 p));
+      left = record { 0 = left.0 - part_gives left.0 p };
     } }
-    ensures took_after { took.new ≡ laidAt count (map takingRow (taking p (partGives left.0 p))) took.old }
+    ensures took_after { took.new ≡ laid_at count (map taking_row (taking p (part_gives left.0 p))) took.old }
 {
     whole(took);
     let shares = p.shares;
@@ -138,8 +138,8 @@ pub(crate) fn walk(
     took: &mut Takings,
 ) -> Walked
     requires { Holds n x.now t.now }
-    ensures value { result ≡ walkedOf (isWithin buying bound) want.0 (parts (side n x.now t.now)) }
-    ensures took_after { took.new ≡ laid (map takingRow (takingsOf (isWithin buying bound) want.0
+    ensures value { result ≡ walked_of (is_within buying bound) want.0 (parts (side n x.now t.now)) }
+    ensures took_after { took.new ≡ laid (map taking_row (takings_of (is_within buying bound) want.0
         (parts (side n x.now t.now)))) took.old }
 {
     let mut c = Cursor {

@@ -3,9 +3,9 @@
 ghost use Rattle.std.specs.Prelude.{◌≡◌, ◌-◌, ◌≤◌, ◌<◌, drop};
 ghost use Rattle.kinds.specs.Kinds.{shares, largest};
 ghost use Rattle.side.specs.Table.{side, Holds};
-ghost use Rattle.rules.specs.Working.{buying, limitOf, lockingPrice, meetsOrPasses, minimumOf, leastOf};
-ghost use Rattle.orders.specs.Walk.{takingsIn};
-ghost use Rattle.orders.specs.Walking.{walkFor, takingsFor, restsUnlessBestMeets, endingByBest};
+ghost use Rattle.rules.specs.Working.{buying, limit_of, locking_price, meets_or_passes, minimum_of, least_of};
+ghost use Rattle.orders.specs.Walk.{takings_in};
+ghost use Rattle.orders.specs.Walking.{walk_for, takings_for, rests_unless_best_meets, ending_by_best};
 
 use crate::walk::{Takings, Walked};
 use crate::{pricing, walk};
@@ -17,7 +17,7 @@ use side::{prices, rows};
 
 // The minimum of an order, 0 for none (02, W7).
 pub(crate) fn minimum_of(carried: Carried) -> Shares
-    ensures { result ≡ shares (minimumOf carried) }
+    ensures { result ≡ shares (minimum_of carried) }
 {
     match carried {
         Carried::Nothing => Shares(0),
@@ -28,7 +28,7 @@ pub(crate) fn minimum_of(carried: Carried) -> Shares
 
 // The least that an order's walk must give, or nothing executes: all its shares where it is a Fill-or-Kill, else its minimum, 0 for none.
 fn least_of(o: Order) -> Shares
-    ensures { result ≡ shares (leastOf o) }
+    ensures { result ≡ shares (least_of o) }
 {
     if instructions::has(o.word, rules::FOK) {
         return o.shares;
@@ -48,8 +48,8 @@ pub(crate) fn walk_of(
     took: &mut Takings,
 ) -> Walked
     requires { Holds n x.now t.now }
-    ensures value { result ≡ walkFor o bound (side n x.now t.now) }
-    ensures took_after { takingsIn result.count took.new ≡ takingsFor o bound (side n x.now t.now) }
+    ensures value { result ≡ walk_for o bound (side n x.now t.now) }
+    ensures took_after { takings_in result.count took.new ≡ takings_for o bound (side n x.now t.now) }
 {
     let shares = o.shares;
     let nothing = Walked {
@@ -71,7 +71,7 @@ pub(crate) fn walk_of(
 
 // Whether a Post Only order at a price meets or passes an opposite order (02, W6).
 fn meets(buy: bool, price: HalfCents, best: Resting) -> bool
-    ensures { result ≡ meetsOrPasses buy price best }
+    ensures { result ≡ meets_or_passes buy price best }
 {
     if best.displayed {
         return prices::within(buy, price, best.price);
@@ -92,7 +92,7 @@ fn rest_unless_meets(
     price: HalfCents,
 ) -> Ending
     requires { Holds n x.now t.now × (kept ≤ n) }
-    ensures { result ≡ restsUnlessBestMeets o locked (drop kept (side n x.now t.now)) price }
+    ensures { result ≡ rests_unless_best_meets o locked (drop kept (side n x.now t.now)) price }
 {
     if n <= kept {
         return Ending::Rests(price);
@@ -122,8 +122,8 @@ pub(crate) fn ending_of(
     kept: usize,
     left: Shares,
 ) -> Ending
-    requires { Holds n x.now t.now × (kept ≤ n) × (((limitOf o).0 ≤ largest) × ((lockingPrice (buying o) away).0 < largest - 1)) }
-    ensures { result ≡ endingByBest left.0 o away locked (drop kept (side n x.now t.now)) }
+    requires { Holds n x.now t.now × (kept ≤ n) × (((limit_of o).0 ≤ largest) × ((locking_price (buying o) away).0 < largest - 1)) }
+    ensures { result ≡ ending_by_best left.0 o away locked (drop kept (side n x.now t.now)) }
 {
     if left.0 == 0 {
         return Ending::Filled;

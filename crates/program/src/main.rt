@@ -1,9 +1,9 @@
 // Runs a day: command lines on standard input, event lines on standard output, to the end of the input (01, Examples from the
 // desk: the program). It reads, lets `day::night` take a turn, writes what that hands over, and stops at a read or a write that failed.
 ghost use Rattle.std.specs.Prelude.{false, ◌≡◌, ℕ, ◌≤◌, ◌<◌, length, take};
-ghost use Rattle.command_lines.specs.Pieces.{partKept};
+ghost use Rattle.command_lines.specs.Pieces.{part_kept};
 ghost use Rattle.command_lines.specs.declared.lines.Read.TheVariants.{Upto};
-ghost use Rattle.rules.specs.Refusals.{leastRoom};
+ghost use Rattle.rules.specs.Refusals.{least_room};
 
 use command_lines::lines;
 use command_lines::lines::Read;
@@ -45,7 +45,7 @@ fn hand_over(bytes: &[u8]) -> bool {
 
 // Writes what the end of the input hands over, of the part of a line that waits.
 fn end_day(part: &[u8], out: &mut [u8])
-    requires { leastRoom ≤ length out.old }
+    requires { least_room ≤ length out.old }
 {
     let length = night::finish(part, out);
     hand_over(&out[..length]);
@@ -62,7 +62,7 @@ fn run(
     took: &mut Takings,
     out: &mut [u8],
 )
-    requires { (partKept < length input.old) × (leastRoom ≤ length out.old) }
+    requires { (part_kept < length input.old) × (least_room ≤ length out.old) }
 {
     let mut head = replay::begin();
     tables::clear(x, buys);

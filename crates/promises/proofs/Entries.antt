@@ -16,7 +16,7 @@ use prog.Routine.{Routine}
 use Rattle.basics.specs.Bytes.{onto}
 use Rattle.kinds.specs.declared.Number.{Number}
 use Rattle.command_lines.specs.declared.lines.Read.{Read}
-use Rattle.command_lines.specs.Pieces.{readBehind}
+use Rattle.command_lines.specs.Pieces.{read_behind}
 use Rattle.rules.specs.declared.Body.{Body}
 use Rattle.rules.specs.declared.Body.TheVariants as body
 use Rattle.rules.specs.declared.EventReading.{EventReading}
@@ -24,27 +24,27 @@ use Rattle.rules.specs.declared.Order.{Order}
 use Rattle.rules.specs.declared.Reading.{Reading}
 use Rattle.rules.specs.declared.Reading.TheVariants as reading
 use Rattle.rules.specs.Book as book
-use Rattle.rules.specs.CommandLines.{line_of, commandIn}
-use Rattle.rules.specs.EventReading.{eventIn}
-use Rattle.rules.specs.Refusals.{leastRoom}
-use Rattle.rules.specs.Step.{step, stepOn}
+use Rattle.rules.specs.CommandLines.{line_of, command_in}
+use Rattle.rules.specs.EventReading.{event_in}
+use Rattle.rules.specs.Refusals.{least_room}
+use Rattle.rules.specs.Step.{step, step_on}
 use Rattle.side.specs.declared.tables.Head.{Head}
 use Rattle.side.specs.Answers.{Stands}
-use Rattle.side.specs.Tables.{bookOn, head_of}
+use Rattle.side.specs.Tables.{book_on, head_of}
 use Rattle.book.specs.declared.Book.{Book}
 use Rattle.book.specs.declared.Reply.{Reply}
-use Rattle.book.specs.Record.{recordIn, bookWith, replyOf}
+use Rattle.book.specs.Record.{record_in, book_with, reply_of}
 use Rattle.lent.specs.Lent.{Answered}
 use Rattle.lent.specs.contracts.answer as lent-contract
 use Rattle.day.specs.declared.night.Turn.{Turn}
 use Rattle.day.specs.Turns.{Takes}
 use Rattle.day.specs.declared.replay.Fed.{Fed}
 use Rattle.day.specs.Feed.{Feeds}
-use Rattle.day.specs.Pieces.{printedAtEnd}
+use Rattle.day.specs.Pieces.{printed_at_end}
 use Rattle.tally.specs.declared.TalliedPiece as tallied
-use Rattle.tally.specs.Tally.{fedOn}
+use Rattle.tally.specs.Tally.{fed_on}
 use Rattle.command_lines.specs.declared.writer.Written.{Written}
-use Rattle.command_lines.specs.Writing.{writtenFor, bufferOf}
+use Rattle.command_lines.specs.Writing.{written_for, buffer_of}
 use Rattle.book.proofs.Book.fresh.Met as fresh-met
 use Rattle.book.proofs.Book.fresh.Reads as fresh
 use Rattle.book.proofs.Book.fresh.Statement as fresh-statement
@@ -99,210 +99,210 @@ use Rattle.day.proofs.night.finish.Statement as finish-statement
 -- ── The book by value ──
 
 -- `Book::fresh()`
-pub fresh-is-proved : {M : Type 1} → fresh-statement.statement M
-fresh-is-proved = fresh-met.met
+pub fresh_is_proved : {M : Type 1} → fresh-statement.statement M
+fresh_is_proved = fresh-met.met
 
-pub fresh-asks : (κs : _) (a : _) → fresh.Pre κs a ≡ Unit {0}
-fresh-asks κs a = refl
+pub fresh_asks : (κs : _) (a : _) → fresh.Pre κs a ≡ Unit {0}
+fresh_asks κs a = refl
 
-pub fresh-says : (κs : _) (a : _) (r : Book) (s : _) → fresh.Post κs a r s
-    ≡ (r ≡ bookWith (book.recordOf book.fresh))
-fresh-says κs a r s = refl
+pub fresh_says : (κs : _) (a : _) (r : Book) (s : _) → fresh.Post κs a r s
+    ≡ (r ≡ book_with (book.record_of book.fresh))
+fresh_says κs a r s = refl
 
 -- `Book::answer(self, line, out)`: a line of any bytes, to any book, with any output
-pub answer-is-proved : {M : Type 1} → answer-statement.statement M
-answer-is-proved = answer-met.met
+pub answer_is_proved : {M : Type 1} → answer-statement.statement M
+answer_is_proved = answer-met.met
 
-pub answer-asks : (κs : _) (a : _) → answer.Pre κs a ≡ Unit {0}
-answer-asks κs a = refl
+pub answer_asks : (κs : _) (a : _) → answer.Pre κs a ≡ Unit {0}
+answer_asks κs a = refl
 
-pub answer-says : (κs : _) (a : _) (r : Reply) (s : _) → answer.Post κs a r s
-    ≡ ((r ≡ replyOf (step (recordIn a.0) a.1.0.now a.1.1.0.now))
-    × (s.1.1.0.now ≡ (step (recordIn a.0) a.1.0.now a.1.1.0.now).out))
-answer-says κs a r s = refl
+pub answer_says : (κs : _) (a : _) (r : Reply) (s : _) → answer.Post κs a r s
+    ≡ ((r ≡ reply_of (step (record_in a.0) a.1.0.now a.1.1.0.now))
+    × (s.1.1.0.now ≡ (step (record_in a.0) a.1.0.now a.1.1.0.now).out))
+answer_says κs a r s = refl
 
 -- the command that a method asks for, on the book and with the output that are lent
 abbrev Asks : Book → Number → ℕ → Body → List ℕ → Reply → List ℕ → Type 0
 Asks b n time what out r out' =
-    let asked = stepOn (recordIn b) (reading.Is (record { number = n; time = time; body = what })) out in
-    (r ≡ replyOf asked) × (out' ≡ asked.out)
+    let asked = step_on (record_in b) (reading.Is (record { number = n; time = time; body = what })) out in
+    (r ≡ reply_of asked) × (out' ≡ asked.out)
 
 -- `Book::accept(self, number, time, order, out)`: an order
-pub accept-is-proved : {M : Type 1} → accept-statement.statement M
-accept-is-proved = accept-met.met
+pub accept_is_proved : {M : Type 1} → accept-statement.statement M
+accept_is_proved = accept-met.met
 
-pub accept-asks : (κs : _) (a : _) → accept.Pre κs a ≡ Unit {0}
-accept-asks κs a = refl
+pub accept_asks : (κs : _) (a : _) → accept.Pre κs a ≡ Unit {0}
+accept_asks κs a = refl
 
-pub accept-says : (κs : _) (a : _) (r : Reply) (s : _) → accept.Post κs a r s
+pub accept_says : (κs : _) (a : _) (r : Reply) (s : _) → accept.Post κs a r s
     ≡ Asks a.0 a.1.0 a.1.1.0 (body.Order a.1.1.1.0) a.1.1.1.1.0.now r s.1.1.1.1.0.now
-accept-says κs a r s = refl
+accept_says κs a r s = refl
 
 -- `Book::cancel(self, number, time, of, out)`: a cancel
-pub cancel-is-proved : {M : Type 1} → cancel-statement.statement M
-cancel-is-proved = cancel-met.met
+pub cancel_is_proved : {M : Type 1} → cancel-statement.statement M
+cancel_is_proved = cancel-met.met
 
-pub cancel-asks : (κs : _) (a : _) → cancel.Pre κs a ≡ Unit {0}
-cancel-asks κs a = refl
+pub cancel_asks : (κs : _) (a : _) → cancel.Pre κs a ≡ Unit {0}
+cancel_asks κs a = refl
 
-pub cancel-says : (κs : _) (a : _) (r : Reply) (s : _) → cancel.Post κs a r s
+pub cancel_says : (κs : _) (a : _) (r : Reply) (s : _) → cancel.Post κs a r s
     ≡ Asks a.0 a.1.0 a.1.1.0 (body.Cancel a.1.1.1.0) a.1.1.1.1.0.now r s.1.1.1.1.0.now
-cancel-says κs a r s = refl
+cancel_says κs a r s = refl
 
 -- `Book::quote(self, number, time, away, out)`: an away quote
-pub quote-is-proved : {M : Type 1} → quote-statement.statement M
-quote-is-proved = quote-met.met
+pub quote_is_proved : {M : Type 1} → quote-statement.statement M
+quote_is_proved = quote-met.met
 
-pub quote-asks : (κs : _) (a : _) → quote.Pre κs a ≡ Unit {0}
-quote-asks κs a = refl
+pub quote_asks : (κs : _) (a : _) → quote.Pre κs a ≡ Unit {0}
+quote_asks κs a = refl
 
-pub quote-says : (κs : _) (a : _) (r : Reply) (s : _) → quote.Post κs a r s
+pub quote_says : (κs : _) (a : _) (r : Reply) (s : _) → quote.Post κs a r s
     ≡ Asks a.0 a.1.0 a.1.1.0 (body.Quote a.1.1.1.0) a.1.1.1.1.0.now r s.1.1.1.1.0.now
-quote-says κs a r s = refl
+quote_says κs a r s = refl
 
 -- `Book::close(self, number, time, out)`: a close
-pub close-is-proved : {M : Type 1} → close-statement.statement M
-close-is-proved = close-met.met
+pub close_is_proved : {M : Type 1} → close-statement.statement M
+close_is_proved = close-met.met
 
-pub close-asks : (κs : _) (a : _) → close.Pre κs a ≡ Unit {0}
-close-asks κs a = refl
+pub close_asks : (κs : _) (a : _) → close.Pre κs a ≡ Unit {0}
+close_asks κs a = refl
 
-pub close-says : (κs : _) (a : _) (r : Reply) (s : _) → close.Post κs a r s
+pub close_says : (κs : _) (a : _) (r : Reply) (s : _) → close.Post κs a r s
     ≡ Asks a.0 a.1.0 a.1.1.0 body.Close a.1.1.1.0.now r s.1.1.1.0.now
-close-says κs a r s = refl
+close_says κs a r s = refl
 
 -- ── One side lent as a slice of records ──
 
 -- `lent::answer(book, buys, table, line, out)`. The checker writes no `Post` of a slice of structs; what its `ensures` states, in every model of the logic, is one fact
-pub lent-is-proved : {M : Type 1} → lent-statement.statement M
-lent-is-proved = lent_met.met
+pub lent_is_proved : {M : Type 1} → lent-statement.statement M
+lent_is_proved = lent_met.met
 
 pub lent_says : {M : Type 1} {𝓤 : Ura M} (𝓛 : Logic 𝓤) (mem : Memory → SProp 𝓤) (run : Routine → Fun 𝓤)
     (κs : _) (a : _) (g : _) (r : Reply) (s : _)
     → (lent-contract.clauses 𝓛 mem run κs a).ensures g r s
-    ≡ (connectives 𝓤).⌜◌⌝ (Answered a.1.0 (recordIn a.0) a.1.1.0.now a.1.1.1.0.now a.1.1.1.1.0.now r
+    ≡ (connectives 𝓤).⌜◌⌝ (Answered a.1.0 (record_in a.0) a.1.1.0.now a.1.1.1.0.now a.1.1.1.1.0.now r
     s.1.1.0.now s.1.1.1.1.0.now)
 lent_says 𝓛 mem run κs a g r s = refl
 
-pub lent-asks : {M : Type 1} {𝓤 : Ura M} (𝓛 : Logic 𝓤) (mem : Memory → SProp 𝓤) (run : Routine → Fun 𝓤) (κs : _) (a : _) (g : _)
+pub lent_asks : {M : Type 1} {𝓤 : Ura M} (𝓛 : Logic 𝓤) (mem : Memory → SProp 𝓤) (run : Routine → Fun 𝓤) (κs : _) (a : _) (g : _)
     → (lent-contract.clauses 𝓛 mem run κs a).requires g ≡ (connectives 𝓤).⊤ₛ
-lent-asks 𝓛 mem run κs a g = refl
+lent_asks 𝓛 mem run κs a g = refl
 
 -- `lent::answer_lending(book, buys, line, out)`: by way of the table, whichever side is lent, the book answers as it does by itself
-pub lending-is-proved : {M : Type 1} → lending-statement.statement M
-lending-is-proved = lending-met.met
+pub lending_is_proved : {M : Type 1} → lending-statement.statement M
+lending_is_proved = lending-met.met
 
-pub lending-asks : (κs : _) (a : _) → lending.Pre κs a ≡ Unit {0}
-lending-asks κs a = refl
+pub lending_asks : (κs : _) (a : _) → lending.Pre κs a ≡ Unit {0}
+lending_asks κs a = refl
 
-pub lending-says : (κs : _) (a : _) (r : Reply) (s : _) → lending.Post κs a r s
-    ≡ ((r ≡ replyOf (step (recordIn a.0) a.1.1.0.now a.1.1.1.0.now))
-    × (s.1.1.1.0.now ≡ (step (recordIn a.0) a.1.1.0.now a.1.1.1.0.now).out))
-lending-says κs a r s = refl
+pub lending_says : (κs : _) (a : _) (r : Reply) (s : _) → lending.Post κs a r s
+    ≡ ((r ≡ reply_of (step (record_in a.0) a.1.1.0.now a.1.1.1.0.now))
+    × (s.1.1.1.0.now ≡ (step (record_in a.0) a.1.1.0.now a.1.1.1.0.now).out))
+lending_says κs a r s = refl
 
 -- ── Lines read and written ──
 
 -- `command_lines::reader::read_command(s)`: any bytes
-pub read-is-proved : {M : Type 1} → read-statement.statement M
-read-is-proved = read-met.met
+pub read_is_proved : {M : Type 1} → read-statement.statement M
+read_is_proved = read-met.met
 
-pub read-asks : (κs : _) (a : _) → read.Pre κs a ≡ Unit {0}
-read-asks κs a = refl
+pub read_asks : (κs : _) (a : _) → read.Pre κs a ≡ Unit {0}
+read_asks κs a = refl
 
-pub read-says : (κs : _) (a : _) (r : Reading) (s : _) → read.Post κs a r s
-    ≡ (r ≡ commandIn a.0.now)
-read-says κs a r s = refl
+pub read_says : (κs : _) (a : _) (r : Reading) (s : _) → read.Post κs a r s
+    ≡ (r ≡ command_in a.0.now)
+read_says κs a r s = refl
 
 -- `command_lines::writer::write_command(c, out)`: any command that the machine holds, which its line then reads back as
-pub write-is-proved : {M : Type 1} → write-statement.statement M
-write-is-proved = write-met.met
+pub write_is_proved : {M : Type 1} → write-statement.statement M
+write_is_proved = write-met.met
 
-pub write-asks : (κs : _) (a : _) → write.Pre κs a ≡ Unit {0}
-write-asks κs a = refl
+pub write_asks : (κs : _) (a : _) → write.Pre κs a ≡ Unit {0}
+write_asks κs a = refl
 
-pub write-says : (κs : _) (a : _) (r : Written) (s : _) → write.Post κs a r s
-    ≡ ((r ≡ writtenFor a.0 (length a.1.0.now))
-    × ((s.1.0.now ≡ bufferOf a.0 a.1.0.now) × (commandIn (line_of a.0) ≡ reading.Is a.0)))
-write-says κs a r s = refl
+pub write_says : (κs : _) (a : _) (r : Written) (s : _) → write.Post κs a r s
+    ≡ ((r ≡ written_for a.0 (length a.1.0.now))
+    × ((s.1.0.now ≡ buffer_of a.0 a.1.0.now) × (command_in (line_of a.0) ≡ reading.Is a.0)))
+write_says κs a r s = refl
 
 -- `event_lines::reader::read_event(s)`: any bytes (02, W1)
-pub read-event-is-proved : {M : Type 1} → read-event-statement.statement M
-read-event-is-proved = read-event-met.met
+pub read_event_is_proved : {M : Type 1} → read-event-statement.statement M
+read_event_is_proved = read-event-met.met
 
-pub read-event-asks : (κs : _) (a : _) → read-event.Pre κs a ≡ Unit {0}
-read-event-asks κs a = refl
+pub read_event_asks : (κs : _) (a : _) → read-event.Pre κs a ≡ Unit {0}
+read_event_asks κs a = refl
 
-pub read-event-says : (κs : _) (a : _) (r : EventReading) (s : _) → read-event.Post κs a r s
-    ≡ (r ≡ eventIn a.0.now)
-read-event-says κs a r s = refl
+pub read_event_says : (κs : _) (a : _) (r : EventReading) (s : _) → read-event.Post κs a r s
+    ≡ (r ≡ event_in a.0.now)
+read_event_says κs a r s = refl
 
 -- ── A day, piece by piece ──
 
 -- `day::replay::begin()`: the header of a fresh book
-pub begin-is-proved : {M : Type 1} → begin-statement.statement M
-begin-is-proved = begin-met.met
+pub begin_is_proved : {M : Type 1} → begin-statement.statement M
+begin_is_proved = begin-met.met
 
-pub begin-asks : (κs : _) (a : _) → begin.Pre κs a ≡ Unit {0}
-begin-asks κs a = refl
+pub begin_asks : (κs : _) (a : _) → begin.Pre κs a ≡ Unit {0}
+begin_asks κs a = refl
 
-pub begin-says : (κs : _) (a : _) (r : Head) (s : _) → begin.Post κs a r s
+pub begin_says : (κs : _) (a : _) (r : Head) (s : _) → begin.Post κs a r s
     ≡ (r ≡ head_of book.fresh)
-begin-says κs a r s = refl
+begin_says κs a r s = refl
 
 -- `day::replay::feed(h, input, x, buys, y, sells, took, out)`: on a sound book in its header and two sides that are lent
-pub feed-is-proved : {M : Type 1} → feed-statement.statement M
-feed-is-proved = feed-met.met
+pub feed_is_proved : {M : Type 1} → feed-statement.statement M
+feed_is_proved = feed-met.met
 
-pub feed-asks : (κs : _) (a : _) → feed.Pre κs a ≡ Stands a.0 a.1.1.0.now a.1.1.1.0.now a.1.1.1.1.0.now a.1.1.1.1.1.0.now
-feed-asks κs a = refl
+pub feed_asks : (κs : _) (a : _) → feed.Pre κs a ≡ Stands a.0 a.1.1.0.now a.1.1.1.0.now a.1.1.1.1.0.now a.1.1.1.1.1.0.now
+feed_asks κs a = refl
 
-pub feed-says : (κs : _) (a : _) (r : Fed) (s : _) → feed.Post κs a r s
-    ≡ Feeds (bookOn a.0 a.1.1.0.now a.1.1.1.0.now a.1.1.1.1.0.now a.1.1.1.1.1.0.now) a.1.0.now a.1.1.1.1.1.1.1.0.now r
+pub feed_says : (κs : _) (a : _) (r : Fed) (s : _) → feed.Post κs a r s
+    ≡ Feeds (book_on a.0 a.1.1.0.now a.1.1.1.0.now a.1.1.1.1.0.now a.1.1.1.1.1.0.now) a.1.0.now a.1.1.1.1.1.1.1.0.now r
     s.1.1.0.now s.1.1.1.0.now s.1.1.1.1.0.now s.1.1.1.1.1.0.now s.1.1.1.1.1.1.1.0.now
-feed-says κs a r s = refl
+feed_says κs a r s = refl
 
 -- `day::night::take_turn(h, input, have, x, buys, y, sells, took, out)`: all that the program does between a read and a write
-pub turn-is-proved : {M : Type 1} → turn-statement.statement M
-turn-is-proved = turn-met.met
+pub turn_is_proved : {M : Type 1} → turn-statement.statement M
+turn_is_proved = turn-met.met
 
-pub turn-asks : (κs : _) (a : _) → turn.Pre κs a ≡ (Stands a.0 a.1.1.1.0.now a.1.1.1.1.0.now a.1.1.1.1.1.0.now a.1.1.1.1.1.1.0.now
-    × (a.1.1.0 ≤ length a.1.0.now) × (leastRoom ≤ length a.1.1.1.1.1.1.1.1.0.now))
-turn-asks κs a = refl
+pub turn_asks : (κs : _) (a : _) → turn.Pre κs a ≡ (Stands a.0 a.1.1.1.0.now a.1.1.1.1.0.now a.1.1.1.1.1.0.now a.1.1.1.1.1.1.0.now
+    × (a.1.1.0 ≤ length a.1.0.now) × (least_room ≤ length a.1.1.1.1.1.1.1.1.0.now))
+turn_asks κs a = refl
 
-pub turn-says : (κs : _) (a : _) (r : Turn) (s : _) → turn.Post κs a r s
-    ≡ Takes (bookOn a.0 a.1.1.1.0.now a.1.1.1.1.0.now a.1.1.1.1.1.0.now a.1.1.1.1.1.1.0.now) a.1.0.now a.1.1.0 a.1.1.1.1.1.1.1.1.0.now r
+pub turn_says : (κs : _) (a : _) (r : Turn) (s : _) → turn.Post κs a r s
+    ≡ Takes (book_on a.0 a.1.1.1.0.now a.1.1.1.1.0.now a.1.1.1.1.1.0.now a.1.1.1.1.1.1.0.now) a.1.0.now a.1.1.0 a.1.1.1.1.1.1.1.1.0.now r
     s.1.0.now s.1.1.1.0.now s.1.1.1.1.0.now s.1.1.1.1.1.0.now s.1.1.1.1.1.1.0.now s.1.1.1.1.1.1.1.1.0.now
-turn-says κs a r s = refl
+turn_says κs a r s = refl
 
 -- `command_lines::lines::after_read(got, have, room)`: what a read gave
-pub after-read-is-proved : {M : Type 1} → after-read-statement.statement M
-after-read-is-proved = after-read-met.met
+pub after_read_is_proved : {M : Type 1} → after-read-statement.statement M
+after_read_is_proved = after-read-met.met
 
-pub after-read-asks : (κs : _) (a : _) → after_read.Pre κs a ≡ (a.1.0 ≤ a.1.1.0)
-after-read-asks κs a = refl
+pub after_read_asks : (κs : _) (a : _) → after_read.Pre κs a ≡ (a.1.0 ≤ a.1.1.0)
+after_read_asks κs a = refl
 
-pub after-read-says : (κs : _) (a : _) (r : Read) (s : _) → after_read.Post κs a r s
-    ≡ (r ≡ readBehind a.0 a.1.0 a.1.1.0)
-after-read-says κs a r s = refl
+pub after_read_says : (κs : _) (a : _) (r : Read) (s : _) → after_read.Post κs a r s
+    ≡ (r ≡ read_behind a.0 a.1.0 a.1.1.0)
+after_read_says κs a r s = refl
 
 -- `day::night::finish(part, out)`: what it does when the input has ended
-pub finish-is-proved : {M : Type 1} → finish-statement.statement M
-finish-is-proved = finish-met.met
+pub finish_is_proved : {M : Type 1} → finish-statement.statement M
+finish_is_proved = finish-met.met
 
-pub finish-asks : (κs : _) (a : _) → finish.Pre κs a ≡ (5 ≤ length a.1.0.now)
-finish-asks κs a = refl
+pub finish_asks : (κs : _) (a : _) → finish.Pre κs a ≡ (5 ≤ length a.1.0.now)
+finish_asks κs a = refl
 
-pub finish-says : (κs : _) (a : _) (r : ℕ) (s : _) → finish.Post κs a r s
-    ≡ ((r ≡ length (printedAtEnd a.0.now)) × (s.1.0.now ≡ onto (printedAtEnd a.0.now) a.1.0.now))
-finish-says κs a r s = refl
+pub finish_says : (κs : _) (a : _) (r : ℕ) (s : _) → finish.Post κs a r s
+    ≡ ((r ≡ length (printed_at_end a.0.now)) × (s.1.0.now ≡ onto (printed_at_end a.0.now) a.1.0.now))
+finish_says κs a r s = refl
 
 -- `tally::feed(t, number, input)`: the whole lines of a piece, tallied (02, W1)
-pub tally-is-proved : {M : Type 1} → tally-statement.statement M
-tally-is-proved = tally-met.met
+pub tally_is_proved : {M : Type 1} → tally-statement.statement M
+tally_is_proved = tally-met.met
 
-pub tally-asks : (κs : _) (a : _) → tally.Pre κs a ≡ Unit {0}
-tally-asks κs a = refl
+pub tally_asks : (κs : _) (a : _) → tally.Pre κs a ≡ Unit {0}
+tally_asks κs a = refl
 
-pub tally-says : (κs : _) (a : _) (r : tallied.TalliedPiece) (s : _) → tally.Post κs a r s
-    ≡ (r ≡ fedOn a.1.0 a.0 a.1.1.0.now)
-tally-says κs a r s = refl
+pub tally_says : (κs : _) (a : _) (r : tallied.TalliedPiece) (s : _) → tally.Post κs a r s
+    ≡ (r ≡ fed_on a.1.0 a.0 a.1.1.0.now)
+tally_says κs a r s = refl

@@ -3,13 +3,13 @@
 use mathlib.Core.Path.{◌≡◌}
 use Rattle.side.specs.Table.{side}
 use Rattle.side.specs.declared.tables.Step.{Step}
-use Rattle.side.proofs.tables.LawsAnswers.{left-determined}
+use Rattle.side.proofs.tables.LawsAnswers.{left_determined}
 use Rattle.quotes.proofs.quote.Reads as quote
 
-pub quote-determined : (κs : _) (a : _) (r r' : Step) (s s' : _) → quote.Post κs a r s → quote.Post κs a r' s'
+pub quote_determined : (κs : _) (a : _) (r r' : Step) (s s' : _) → quote.Post κs a r s → quote.Post κs a r' s'
     → (r ≡ r')
     × (side r.head.buys s.1.1.1.1.0.now s.1.1.1.1.1.0.now ≡ side r.head.buys s'.1.1.1.1.0.now s'.1.1.1.1.1.0.now)
     × (side r.head.sells s.1.1.1.1.1.1.0.now s.1.1.1.1.1.1.1.0.now
     ≡ side r.head.sells s'.1.1.1.1.1.1.0.now s'.1.1.1.1.1.1.1.0.now)
     × (s.1.1.1.1.1.1.1.1.0.now ≡ s'.1.1.1.1.1.1.1.1.0.now)
-quote-determined κs a r r' s s' p q = left-determined _ _ p q
+quote_determined κs a r r' s s' p q = left_determined _ _ p q

@@ -6,14 +6,14 @@ use Rattle.rules.specs.declared.Fate.{Fate}
 use Rattle.rules.specs.declared.Fate.TheVariants.{IsCancelled, IsSet}
 use Rattle.rules.specs.declared.Resting.{Resting}
 use Rattle.rules.specs.Book.{unused}
-use Rattle.rules.specs.EventLines.{cancelledBack}
+use Rattle.rules.specs.EventLines.{cancelled_back}
 use Rattle.rules.specs.Settling.{set_at}
 use Rattle.rules.specs.Working.{beyond, absent}
 
 -- there is a Locking Price, and an order at a rank whose price is beyond it
-abbrev pub goesOn : Bool → HalfCents → ℕ → List Resting → Bool
-goesOn buy locking at s = ltb at (length s) && not (absent locking) && beyond buy locking (get_or s at unused).price
+abbrev pub goes_on : Bool → HalfCents → ℕ → List Resting → Bool
+goes_on buy locking at s = ltb at (length s) && not (absent locking) && beyond buy locking (get_or s at unused).price
 
 -- what becomes of an order that would now cross
-abbrev pub fateAt : HalfCents → Resting → Fate
-fateAt locking h = if h.back then IsCancelled cancelledBack else IsSet (set_at locking h)
+abbrev pub fate_at : HalfCents → Resting → Fate
+fate_at locking h = if h.back then IsCancelled cancelled_back else IsSet (set_at locking h)

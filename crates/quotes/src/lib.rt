@@ -3,10 +3,10 @@
 mod moves;
 
 ghost use Rattle.std.specs.Prelude.{◌≤◌, ◌<◌, length};
-ghost use Rattle.rules.specs.Refusals.{leastRoom};
+ghost use Rattle.rules.specs.Refusals.{least_room};
 ghost use Rattle.rules.specs.declared.Body.TheVariants as body;
-ghost use Rattle.side.specs.Answers.{bodyAnswer, Left, Stands};
-ghost use Rattle.side.specs.Tables.{bookOn};
+ghost use Rattle.side.specs.Answers.{body_answer, Left, Stands};
+ghost use Rattle.side.specs.Tables.{book_on};
 
 use kinds::Number;
 use rules::{Away, Held};
@@ -25,9 +25,9 @@ pub fn quote(
     sells: &mut Rows,
     out: &mut [u8],
 ) -> Step
-    requires { Stands h x.old buys.old y.old sells.old × (leastRoom ≤ length out.old) × (h.held.last.0 < number.0) }
+    requires { Stands h x.old buys.old y.old sells.old × (least_room ≤ length out.old) × (h.held.last.0 < number.0) }
     ensures { Left result x.new buys.new y.new sells.new out.new out.old
-        (bodyAnswer number time (body.Quote away) (bookOn h x.old buys.old y.old sells.old)) }
+        (body_answer number time (body.Quote away) (book_on h x.old buys.old y.old sells.old)) }
 {
     let bid = away.bid;
     let offer = away.offer;

@@ -5,15 +5,15 @@ ghost use Rattle.basics.specs.Bytes.{onto};
 ghost use Rattle.basics.specs.Lists.{All};
 ghost use Rattle.kinds.specs.Kinds.{largest};
 ghost use Rattle.side.specs.Table.{side, Holds, Shows};
-ghost use Rattle.rules.specs.Book.{stamp, inRankOrder};
-ghost use Rattle.rules.specs.Commands.{quoteFate};
-ghost use Rattle.rules.specs.EventLines.{eventLines};
-ghost use Rattle.rules.specs.Settling.{told, settledSide};
-ghost use Rattle.rules.specs.Working.{lockingPrice};
-ghost use Rattle.side.specs.Looking.{priceBound, Older};
+ghost use Rattle.rules.specs.Book.{stamp, in_rank_order};
+ghost use Rattle.rules.specs.Commands.{quote_fate};
+ghost use Rattle.rules.specs.EventLines.{event_lines};
+ghost use Rattle.rules.specs.Settling.{told, settled_side};
+ghost use Rattle.rules.specs.Working.{locking_price};
+ghost use Rattle.side.specs.Looking.{price_bound, Older};
 ghost use Rattle.side.specs.Shifts.{Countable};
-ghost use Rattle.quotes.specs.Moves.{goesOn, fateAt};
-ghost use Rattle.settling.specs.OneByOne.{settledIn};
+ghost use Rattle.quotes.specs.Moves.{goes_on, fate_at};
+ghost use Rattle.settling.specs.OneByOne.{settled_in};
 
 use kinds::{HalfCents, Number};
 use rules::{Away, Fate, Resting};
@@ -26,7 +26,7 @@ use side::{prices, rows};
 // Whether there is an order at a rank whose price is beyond a Locking Price that is there.
 fn goes_on(x: &Index, t: &Rows, n: usize, at: usize, buying: bool, locking: HalfCents) -> bool
     requires { Holds n x.now t.now }
-    ensures { result ≡ goesOn buying locking at (side n x.now t.now) }
+    ensures { result ≡ goes_on buying locking at (side n x.now t.now) }
 {
     if (n <= at) | (locking.0 == 0) {
         return false;
@@ -37,7 +37,7 @@ fn goes_on(x: &Index, t: &Rows, n: usize, at: usize, buying: bool, locking: Half
 
 // What becomes of an order that is not displayed and would now cross: it is set at the Locking Price, or with Cancel Back cancelled.
 fn fate_beyond(o: Resting, locking: HalfCents) -> Fate
-    ensures { result ≡ fateAt locking o }
+    ensures { result ≡ fate_at locking o }
 {
     if o.back {
         return Fate::IsCancelled(4);
@@ -60,14 +60,14 @@ pub(crate) fn move_side(
     first: u32,
     out: &mut [u8],
 ) -> Settled
-    requires { Holds n x.old t.old × (inRankOrder buying (side n x.old t.old) ≡ true) × (first + n < largest)
-        × (length (eventLines (told (quoteFate away buying) (side n x.old t.old))) ≤ length out.old)
-        × (((lockingPrice buying away).0 < priceBound) × All (Older (stamp number first)) (side n x.old t.old))
+    requires { Holds n x.old t.old × (in_rank_order buying (side n x.old t.old) ≡ true) × (first + n < largest)
+        × (length (event_lines (told (quote_fate away buying) (side n x.old t.old))) ≤ length out.old)
+        × (((locking_price buying away).0 < price_bound) × All (Older (stamp number first)) (side n x.old t.old))
         × All Countable (side n x.old t.old) }
-    ensures value { result ≡ settledIn number first buying (quoteFate away buying) (side n x.old t.old) }
-    ensures shows { Shows (settledSide number first buying (quoteFate away buying) (side n x.old t.old))
+    ensures value { result ≡ settled_in number first buying (quote_fate away buying) (side n x.old t.old) }
+    ensures shows { Shows (settled_side number first buying (quote_fate away buying) (side n x.old t.old))
         x.new t.new }
-    ensures out_after { out.new ≡ onto (eventLines (told (quoteFate away buying) (side n x.old t.old)))
+    ensures out_after { out.new ≡ onto (event_lines (told (quote_fate away buying) (side n x.old t.old)))
         out.old }
 {
     let locking = prices::locking_price(buying, away);

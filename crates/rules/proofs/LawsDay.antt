@@ -6,82 +6,82 @@ use mathlib.Core.Logic.{⊎_elim}
 use mathlib.Core.Path.{◌≡◌, refl, sym, ap, ◌∙◌}
 use lib.Dec.{eqb}
 use Rattle.basics.specs.Lists.{none, also}
-use Rattle.basics.proofs.LawsChoice.{holds-or-not}
-use Rattle.rules.specs.CommandLines.{lineFeed}
-use Rattle.rules.specs.Day.{Cut, inFront, cut, unendedLine, linesIn}
+use Rattle.basics.proofs.LawsChoice.{holds_or_not}
+use Rattle.rules.specs.CommandLines.{line_feed}
+use Rattle.rules.specs.Day.{Cut, in_front, cut, unended_line, lines_in}
 use Rattle.rules.proofs.LawsUnended.{Unended}
 
 -- ── A part of a line ──
 
-inFront-unended : (c : ℕ) (whole : List (List ℕ)) {part : List ℕ} → eqb c lineFeed ≡ false → Unended part → Unended (inFront (c ∷ []) whole part).part
-unfolding inFront
-inFront-unended c [] f a = also f a
-inFront-unended c (l ∷ ls) f a = a
+in_front_unended : (c : ℕ) (whole : List (List ℕ)) {part : List ℕ} → eqb c line_feed ≡ false → Unended part → Unended (in_front (c ∷ []) whole part).part
+unfolding in_front
+in_front_unended c [] f a = also f a
+in_front_unended c (l ∷ ls) f a = a
 
 -- what is cut off holds no line feed
-pub part-unended : (s : List ℕ) → Unended (cut s).part
+pub part_unended : (s : List ℕ) → Unended (cut s).part
 unfolding cut
-part-unended [] = none
-part-unended (c ∷ s) =
+part_unended [] = none
+part_unended (c ∷ s) =
     ⊎_elim
-    (λ (t : eqb c lineFeed ≡ true). rw t (part-unended s))
-    (λ (t : eqb c lineFeed ≡ false). rw t (inFront-unended c (cut s).whole t (part-unended s)))
-    (holds-or-not (eqb c lineFeed))
+    (λ (t : eqb c line_feed ≡ true). rw t (part_unended s))
+    (λ (t : eqb c line_feed ≡ false). rw t (in_front_unended c (cut s).whole t (part_unended s)))
+    (holds_or_not (eqb c line_feed))
 
-inFront-none : (whole : List (List ℕ)) (part : List ℕ) → record { whole = whole; part = part } ≡ inFront [] whole part
-unfolding inFront
-inFront-none [] part = refl
-inFront-none (l ∷ ls) part = refl
+in_front_none : (whole : List (List ℕ)) (part : List ℕ) → record { whole = whole; part = part } ≡ in_front [] whole part
+unfolding in_front
+in_front_none [] part = refl
+in_front_none (l ∷ ls) part = refl
 
-inFront-more : (c : ℕ) (p : List ℕ) (whole : List (List ℕ)) (part : List ℕ)
-    → inFront (c ∷ []) (inFront p whole part).whole (inFront p whole part).part ≡ inFront (c ∷ p) whole part
-unfolding inFront
-inFront-more c p [] part = refl
-inFront-more c p (l ∷ ls) part = refl
+in_front_more : (c : ℕ) (p : List ℕ) (whole : List (List ℕ)) (part : List ℕ)
+    → in_front (c ∷ []) (in_front p whole part).whole (in_front p whole part).part ≡ in_front (c ∷ p) whole part
+unfolding in_front
+in_front_more c p [] part = refl
+in_front_more c p (l ∷ ls) part = refl
 
 -- bytes with no line feed stand in front of what is cut of those behind them
-pub cut-behind : {p : List ℕ} → Unended p → (u : List ℕ) → cut (p ++ u) ≡ inFront p (cut u).whole (cut u).part
+pub cut_behind : {p : List ℕ} → Unended p → (u : List ℕ) → cut (p ++ u) ≡ in_front p (cut u).whole (cut u).part
 unfolding cut
-cut-behind none u = inFront-none (cut u).whole (cut u).part
-cut-behind (also {x = c} {s = p} f a) u = rw (f, cut-behind a u) (inFront-more c p (cut u).whole (cut u).part)
+cut_behind none u = in_front_none (cut u).whole (cut u).part
+cut_behind (also {x = c} {s = p} f a) u = rw (f, cut_behind a u) (in_front_more c p (cut u).whole (cut u).part)
 
 -- ── Lines ──
 
 -- so they are a line with the line feed behind them
-pub first-line : {s : List ℕ} (rest : List ℕ) → Unended s → linesIn (s ++ (lineFeed ∷ rest)) ≡ (s ++ (lineFeed ∷ [])) ∷ linesIn rest
-unfolding linesIn cut inFront
-first-line rest a = rw (cut-behind a (lineFeed ∷ rest)) refl
+pub first_line_lem : {s : List ℕ} (rest : List ℕ) → Unended s → lines_in (s ++ (line_feed ∷ rest)) ≡ (s ++ (line_feed ∷ [])) ∷ lines_in rest
+unfolding lines_in cut in_front
+first_line_lem rest a = rw (cut_behind a (line_feed ∷ rest)) refl
 
 -- and one with none where nothing is behind them
-pub unended-line : {s : List ℕ} → Unended s → linesIn s ≡ unendedLine s
-unfolding linesIn cut inFront
-unended-line {s} a = ap linesIn (sym (append-nil s)) ∙ rw (cut-behind a [], append-nil s) refl
+pub unended_line_lem : {s : List ℕ} → Unended s → lines_in s ≡ unended_line s
+unfolding lines_in cut in_front
+unended_line_lem {s} a = ap lines_in (sym (append-nil s)) ∙ rw (cut_behind a [], append-nil s) refl
 
 -- ── An input that goes on ──
 
 module _ (u : List ℕ) where
-  abbrev goingOn : List (List ℕ) → List ℕ → Cut
-  goingOn whole part = record { whole = whole ++ (cut (part ++ u)).whole; part = (cut (part ++ u)).part }
+  abbrev going_on : List (List ℕ) → List ℕ → Cut
+  going_on whole part = record { whole = whole ++ (cut (part ++ u)).whole; part = (cut (part ++ u)).part }
 
-  front-goes-on : (c : ℕ) (whole : List (List ℕ)) (part : List ℕ) → eqb c lineFeed ≡ false
-      → inFront (c ∷ []) (goingOn whole part).whole (goingOn whole part).part
-      ≡ goingOn (inFront (c ∷ []) whole part).whole (inFront (c ∷ []) whole part).part
-  unfolding inFront cut
-  front-goes-on c [] part f = rw f
-  front-goes-on c (l ∷ ls) part f = refl
+  front_goes_on : (c : ℕ) (whole : List (List ℕ)) (part : List ℕ) → eqb c line_feed ≡ false
+      → in_front (c ∷ []) (going_on whole part).whole (going_on whole part).part
+      ≡ going_on (in_front (c ∷ []) whole part).whole (in_front (c ∷ []) whole part).part
+  unfolding in_front cut
+  front_goes_on c [] part f = rw f
+  front_goes_on c (l ∷ ls) part f = refl
 
-  cut-goes-on : (s : List ℕ) → cut (s ++ u) ≡ goingOn (cut s).whole (cut s).part
+  cut_goes_on : (s : List ℕ) → cut (s ++ u) ≡ going_on (cut s).whole (cut s).part
   unfolding cut
-  cut-goes-on [] = refl
-  cut-goes-on (c ∷ s) =
+  cut_goes_on [] = refl
+  cut_goes_on (c ∷ s) =
       ⊎_elim
-      (λ (t : eqb c lineFeed ≡ true). rw (t, cut-goes-on s))
-      (λ (t : eqb c lineFeed ≡ false). rw (t, cut-goes-on s) (front-goes-on c (cut s).whole (cut s).part t))
-      (holds-or-not (eqb c lineFeed))
+      (λ (t : eqb c line_feed ≡ true). rw (t, cut_goes_on s))
+      (λ (t : eqb c line_feed ≡ false). rw (t, cut_goes_on s) (front_goes_on c (cut s).whole (cut s).part t))
+      (holds_or_not (eqb c line_feed))
 
   -- its lines are the whole lines of what came first, and those of the part behind them with what goes on
-  pub lines-go-on : (s : List ℕ) → linesIn (s ++ u) ≡ (cut s).whole ++ linesIn ((cut s).part ++ u)
-  unfolding linesIn
-  lines-go-on s =
+  pub lines_go_on : (s : List ℕ) → lines_in (s ++ u) ≡ (cut s).whole ++ lines_in ((cut s).part ++ u)
+  unfolding lines_in
+  lines_go_on s =
       let rest = cut ((cut s).part ++ u) in
-      ap (λ (c : Cut). c.whole ++ unendedLine c.part) (cut-goes-on s) ∙ append_assoc (cut s).whole rest.whole (unendedLine rest.part)
+      ap (λ (c : Cut). c.whole ++ unended_line c.part) (cut_goes_on s) ∙ append_assoc (cut s).whole rest.whole (unended_line rest.part)

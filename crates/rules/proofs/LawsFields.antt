@@ -5,67 +5,67 @@ use mathlib.Core.List.{List, [], ◌∷◌, map}
 use mathlib.Core.Logic.{⊎_elim}
 use mathlib.Core.Path.{◌≡◌, refl, sym, ap, ◌∙◌}
 use Rattle.basics.specs.Choice.{if◌then◌else◌}
-use Rattle.basics.proofs.LawsChoice.{holds-or-not, and_left, and_right}
+use Rattle.basics.proofs.LawsChoice.{holds_or_not, and_left, and_right}
 use Rattle.digits.specs.declared.Field.{Field}
 use Rattle.digits.specs.declared.Value.{Value}
 use Rattle.digits.specs.declared.Value.TheVariants as value
 use Rattle.digits.specs.Digits.{number_at, field_of}
-use Rattle.rules.specs.CommandLines.{Numbers, are, none, also, numbersFrom}
+use Rattle.rules.specs.CommandLines.{Numbers, are, none, also, numbers_from}
 
 -- the fields of a form from digit `at` on
-abbrev pub fieldsFrom : ℕ → List ℕ → List ℕ → List Field
-fieldsFrom at [] s = []
-fieldsFrom at (w ∷ ws) s = field_of (number_at w at s) ∷ fieldsFrom (at + 2 * w) ws s
+abbrev pub fields_from : ℕ → List ℕ → List ℕ → List Field
+fields_from at [] s = []
+fields_from at (w ∷ ws) s = field_of (number_at w at s) ∷ fields_from (at + 2 * w) ws s
 
 -- whether all of them are good, after a test before them
-abbrev pub goodAfter : Bool → List Field → Bool
-goodAfter before [] = before
-goodAfter before (f ∷ fs) = goodAfter (before && f.good) fs
+abbrev pub good_after : Bool → List Field → Bool
+good_after before [] = before
+good_after before (f ∷ fs) = good_after (before && f.good) fs
 
-abbrev pub numbersIn : List Field → List ℕ
-numbersIn fs = map (λ (f : Field). f.number) fs
+abbrev pub numbers_in : List Field → List ℕ
+numbers_in fs = map (λ (f : Field). f.number) fs
 
 -- one by one
 taken : List Field → Numbers
 taken [] = are []
 taken (f ∷ fs) = also (if f.good then value.Is f.number else value.Bad) (taken fs)
 
-field-again : (v : Value) → v ≡ (if (field_of v).good then value.Is (field_of v).number else value.Bad)
-field-again (value.Is n) = refl
-field-again value.Bad = refl
+field_again : (v : Value) → v ≡ (if (field_of v).good then value.Is (field_of v).number else value.Bad)
+field_again (value.Is n) = refl
+field_again value.Bad = refl
 
-numbers-taken : (at : ℕ) (ws s : List ℕ) → numbersFrom at ws s ≡ taken (fieldsFrom at ws s)
-unfolding numbersFrom taken
-numbers-taken at [] s = refl
-numbers-taken at (w ∷ ws) s =
-    ap (λ (v : Value). also v (numbersFrom (at + 2 * w) ws s)) (field-again (number_at w at s))
-    ∙ ap (also (if (field_of (number_at w at s)).good then value.Is (field_of (number_at w at s)).number else value.Bad)) (numbers-taken (at + 2 * w) ws s)
+numbers_taken : (at : ℕ) (ws s : List ℕ) → numbers_from at ws s ≡ taken (fields_from at ws s)
+unfolding numbers_from taken
+numbers_taken at [] s = refl
+numbers_taken at (w ∷ ws) s =
+    ap (λ (v : Value). also v (numbers_from (at + 2 * w) ws s)) (field_again (number_at w at s))
+    ∙ ap (also (if (field_of (number_at w at s)).good then value.Is (field_of (number_at w at s)).number else value.Bad)) (numbers_taken (at + 2 * w) ws s)
 
-good-before : (b : Bool) (fs : List Field) → goodAfter b fs ≡ true → b ≡ true
-good-before b [] t = t
-good-before b (f ∷ fs) t = and_left b f.good (good-before (b && f.good) fs t)
+good_before : (b : Bool) (fs : List Field) → good_after b fs ≡ true → b ≡ true
+good_before b [] t = t
+good_before b (f ∷ fs) t = and_left b f.good (good_before (b && f.good) fs t)
 
-taken-good : (b : Bool) (fs : List Field) → goodAfter b fs ≡ true → taken fs ≡ are (numbersIn fs)
+taken_good : (b : Bool) (fs : List Field) → good_after b fs ≡ true → taken fs ≡ are (numbers_in fs)
 unfolding taken
-taken-good b [] t = refl
-taken-good b (f ∷ fs) t = rw (and_right b f.good (good-before (b && f.good) fs t), taken-good (b && f.good) fs t)
+taken_good b [] t = refl
+taken_good b (f ∷ fs) t = rw (and_right b f.good (good_before (b && f.good) fs t), taken_good (b && f.good) fs t)
 
-pub also-none : (v : Value) → also v none ≡ none
-also-none (value.Is n) = refl
-also-none value.Bad = refl
+pub also_none : (v : Value) → also v none ≡ none
+also_none (value.Is n) = refl
+also_none value.Bad = refl
 
-taken-bad : (b : Bool) (fs : List Field) → b ≡ true → goodAfter b fs ≡ false → taken fs ≡ none
+taken_bad : (b : Bool) (fs : List Field) → b ≡ true → good_after b fs ≡ false → taken fs ≡ none
 unfolding taken
-taken-bad b [] e t = let z : true ≡ false = sym e ∙ t in cc
-taken-bad b (f ∷ fs) e t =
+taken_bad b [] e t = let z : true ≡ false = sym e ∙ t in cc
+taken_bad b (f ∷ fs) e t =
     ⊎_elim
-    (λ (g : f.good ≡ true). rw (taken-bad (b && f.good) fs (rw (e, g)) t) (also-none (if f.good then value.Is f.number else value.Bad)))
+    (λ (g : f.good ≡ true). rw (taken_bad (b && f.good) fs (rw (e, g)) t) (also_none (if f.good then value.Is f.number else value.Bad)))
     (λ (g : f.good ≡ false). rw g)
-    (holds-or-not f.good)
+    (holds_or_not f.good)
 
-module _ (at : ℕ) (form s : List ℕ) (fs : List Field) (e : fieldsFrom at form s ≡ fs) where
-  pub numbers-good : goodAfter true fs ≡ true → numbersFrom at form s ≡ are (numbersIn fs)
-  numbers-good t = numbers-taken at form s ∙ ap taken e ∙ taken-good true fs t
+module _ (at : ℕ) (form s : List ℕ) (fs : List Field) (e : fields_from at form s ≡ fs) where
+  pub numbers_good : good_after true fs ≡ true → numbers_from at form s ≡ are (numbers_in fs)
+  numbers_good t = numbers_taken at form s ∙ ap taken e ∙ taken_good true fs t
 
-  pub numbers-bad : goodAfter true fs ≡ false → numbersFrom at form s ≡ none
-  numbers-bad t = numbers-taken at form s ∙ ap taken e ∙ taken-bad true fs refl t
+  pub numbers_bad : good_after true fs ≡ false → numbers_from at form s ≡ none
+  numbers_bad t = numbers_taken at form s ∙ ap taken e ∙ taken_bad true fs refl t

@@ -6,21 +6,21 @@ use mathlib.Core.List.{List, [], ◌∷◌, ◌++◌}
 use mathlib.Core.Logic.{⊎_elim}
 use mathlib.Core.Path.{◌≡◌, refl, sym, ap, subst, ◌∙◌}
 use lib.ListN.{take, drop}
-use Rattle.basics.specs.Lists.{removeAt, gathered, All, none, also}
-use Rattle.basics.proofs.LawsChoice.{holds-or-not}
+use Rattle.basics.specs.Lists.{remove_at, gathered, All, none, also}
+use Rattle.basics.proofs.LawsChoice.{holds_or_not}
 use Rattle.basics.proofs.LawsLists.{all_alike, one_of_all}
 use Rattle.kinds.specs.declared.Number.{Number}
 use Rattle.rules.specs.declared.Fate.{Fate}
 use Rattle.rules.specs.declared.Fate.TheVariants.{Stays, IsCancelled, IsSet}
 use Rattle.rules.specs.declared.Resting.{Resting}
 use Rattle.rules.specs.declared.Stamp.{Stamp}
-use Rattle.rules.specs.Book.{stamp, ranksBefore, inRankOrder}
-use Rattle.rules.specs.Settling.{stampedAs, insert, insertAll, keptBy, setBy, toldBy, staying, setAnew, told, stampedFrom, settledSide}
+use Rattle.rules.specs.Book.{stamp, ranks_before, in_rank_order}
+use Rattle.rules.specs.Settling.{stamped_as, insert, insert_all, kept_by, set_by, told_by, staying, set_anew, told, stamped_from, settled_side}
 use Rattle.rules.proofs.LawsCommands.{IfSet}
-use Rattle.soundness.proofs.LawsInsert.{Added, here, later, added-insert}
-use Rattle.rules.proofs.LawsRank.{ranks-transitive, ranked-first, ranked-rest}
-use Rattle.soundness.proofs.LawsSettled.{nextPlace, staying-are}
-use Rattle.settling.specs.OneByOne.{settledAt}
+use Rattle.soundness.proofs.LawsInsert.{Added, here, later, added_insert}
+use Rattle.rules.proofs.LawsRank.{ranks_transitive, ranked_first, ranked_rest}
+use Rattle.soundness.proofs.LawsSettled.{next_place, staying_are}
+use Rattle.settling.specs.OneByOne.{settled_at}
 
 -- ── What is gathered ──
 
@@ -44,16 +44,16 @@ module _ {B : Type 0} (give : Resting → List B) where
   silence none = refl
   silence (also p a) = rw p (silence a)
 
-added-at : (pre : List Resting) (h : Resting) (post : List Resting) → Added h (pre ++ post) (pre ++ (h ∷ post))
-added-at [] h post = here
-added-at (x ∷ pre) h post = later (added-at pre h post)
+added_at : (pre : List Resting) (h : Resting) (post : List Resting) → Added h (pre ++ post) (pre ++ (h ∷ post))
+added_at [] h post = here
+added_at (x ∷ pre) h post = later (added_at pre h post)
 
 -- ── An order that stays ──
 
-insert-first : (buy : Bool) (x : Resting) {s : List Resting} → All (λ (y : Resting). ranksBefore buy x y ≡ true) s → insert buy x s ≡ x ∷ s
+insert_first : (buy : Bool) (x : Resting) {s : List Resting} → All (λ (y : Resting). ranks_before buy x y ≡ true) s → insert buy x s ≡ x ∷ s
 unfolding insert
-insert-first buy x none = refl
-insert-first buy x (also t a) = rw t
+insert_first buy x none = refl
+insert_first buy x (also t a) = rw t
 
 module _ (fate : Resting → Fate) where
   -- all of these stay
@@ -64,83 +64,83 @@ module _ (fate : Resting → Fate) where
   module _ {s : List Resting} (all : Stay s) where
     pub told_none : told fate s ≡ []
     unfolding told
-    told_none = silence (λ (h : Resting). toldBy (fate h) h) (all_alike (λ h p. rw p) all)
+    told_none = silence (λ (h : Resting). told_by (fate h) h) (all_alike (λ h p. rw p) all)
 
-    pub anew-none : setAnew fate s ≡ []
-    unfolding setAnew
-    anew-none = silence (λ (h : Resting). setBy (fate h)) (all_alike (λ h p. rw p) all)
+    pub anew_none : set_anew fate s ≡ []
+    unfolding set_anew
+    anew_none = silence (λ (h : Resting). set_by (fate h)) (all_alike (λ h p. rw p) all)
 
-    pub settled-none : (n : Number) (k : ℕ) (buy : Bool) → settledSide n k buy fate s ≡ s
-    unfolding settledSide stampedFrom insertAll staying gathered
-    settled-none n k buy = rw anew-none (left all)
+    pub settled_none : (n : Number) (k : ℕ) (buy : Bool) → settled_side n k buy fate s ≡ s
+    unfolding settled_side stamped_from insert_all staying gathered
+    settled_none n k buy = rw anew_none (left all)
       where
         left : {s : List Resting} → Stay s → staying fate s ≡ s
         left none = refl
         left (also {x = h} p a) = rw p (ap (λ (l : List Resting). h ∷ l) (left a))
 
   -- one takes its place by rank among those that stay
-  staying-inserted : {x : Resting} → fate x ≡ Stays → (buy : Bool) (s : List Resting) → inRankOrder buy s ≡ true
+  staying_inserted : {x : Resting} → fate x ≡ Stays → (buy : Bool) (s : List Resting) → in_rank_order buy s ≡ true
       → staying fate (insert buy x s) ≡ insert buy x (staying fate s)
   unfolding staying gathered insert
-  staying-inserted {x = x} stays buy [] r = rw stays
-  staying-inserted {x = x} stays buy (y ∷ s) r =
+  staying_inserted {x = x} stays buy [] r = rw stays
+  staying_inserted {x = x} stays buy (y ∷ s) r =
       ⊎_elim
-      (λ (t : ranksBefore buy x y ≡ true).
-      let behind : All (λ (z : Resting). ranksBefore buy x z ≡ true) (y ∷ s) =
-      also t (all_alike (λ z p. ranks-transitive buy x y z t p) (ranked-first buy y s r)) in
-      rw (t, stays) (sym (insert-first buy x (staying-are fate (y ∷ s) (λ z p e. one_of_all behind p)))))
-      (λ (t : ranksBefore buy x y ≡ false). rw (t, staying-inserted stays buy s (ranked-rest buy y s r)) (by-fate t (fate y)))
-      (holds-or-not (ranksBefore buy x y))
+      (λ (t : ranks_before buy x y ≡ true).
+      let behind : All (λ (z : Resting). ranks_before buy x z ≡ true) (y ∷ s) =
+      also t (all_alike (λ z p. ranks_transitive buy x y z t p) (ranked_first buy y s r)) in
+      rw (t, stays) (sym (insert_first buy x (staying_are fate (y ∷ s) (λ z p e. one_of_all behind p)))))
+      (λ (t : ranks_before buy x y ≡ false). rw (t, staying_inserted stays buy s (ranked_rest buy y s r)) (by_fate t (fate y)))
+      (holds_or_not (ranks_before buy x y))
     where
-      by-fate : ranksBefore buy x y ≡ false → (f : Fate) → keptBy f y ++ insert buy x (staying fate s) ≡ insert buy x (keptBy f y ++ staying fate s)
-      by-fate t Stays = rw t
-      by-fate t (IsCancelled reason) = refl
-      by-fate t (IsSet new) = refl
+      by_fate : ranks_before buy x y ≡ false → (f : Fate) → kept_by f y ++ insert buy x (staying fate s) ≡ insert buy x (kept_by f y ++ staying fate s)
+      by_fate t Stays = rw t
+      by_fate t (IsCancelled reason) = refl
+      by_fate t (IsSet new) = refl
 
 -- ── One order meets its fate, behind some that stay ──
 
 -- whoever is set anew stays from then on
 abbrev pub SetStays : (Resting → Fate) → Stamp → Fate → Type 0
-SetStays fate anew f = IfSet (λ (new : Resting). fate (stampedAs anew new) ≡ Stays) f
+SetStays fate anew f = IfSet (λ (new : Resting). fate (stamped_as anew new) ≡ Stays) f
 
-pub added-others : (at : ℕ) (s : List Resting) (h : Resting) → s ≡ take at s ++ (h ∷ drop (at + 1) s) → Added h (removeAt at s) s
-added-others at s h is = subst (Added h (removeAt at s)) (sym is) (added-at (take at s) h (drop (at + 1) s))
+pub added_others : (at : ℕ) (s : List Resting) (h : Resting) → s ≡ take at s ++ (h ∷ drop (at + 1) s) → Added h (remove_at at s) s
+added_others at s h is = subst (Added h (remove_at at s)) (sym is) (added_at (take at s) h (drop (at + 1) s))
 
 module _ (fate : Resting → Fate) (n : Number) (k : ℕ) (buy : Bool) (at : ℕ) (s : List Resting) (h : Resting)
     (is : s ≡ take at s ++ (h ∷ drop (at + 1) s)) (passed : Stay fate (take at s)) where
   abbrev others : List Resting
-  others = removeAt at s
+  others = remove_at at s
 
-  staying-gone : keptBy (fate h) h ≡ [] → staying fate s ≡ staying fate others
+  staying_gone : kept_by (fate h) h ≡ [] → staying fate s ≡ staying fate others
   unfolding staying
-  staying-gone gone = one_more (λ (x : Resting). keptBy (fate x) x) gone (added-others at s h is)
+  staying_gone gone = one_more (λ (x : Resting). kept_by (fate x) x) gone (added_others at s h is)
 
   -- what is gathered of none that stays
-  gathered-one : {B : Type 0} (give : Resting → List B) → ((x : Resting) → fate x ≡ Stays → give x ≡ []) → (f : Fate) → fate h ≡ f → SetStays fate (stamp n k) f
-      → gathered give s ≡ give h ++ gathered give (settledAt n k buy f at s)
-  gathered-one give silent Stays e i = rw (silent h e)
-  gathered-one give silent (IsCancelled reason) e i = ap (gathered give) is ∙ past give (all_alike silent passed) h (drop (at + 1) s)
-  gathered-one give silent (IsSet new) e i =
-      let x = stampedAs (stamp n k) new in
+  gathered_one : {B : Type 0} (give : Resting → List B) → ((x : Resting) → fate x ≡ Stays → give x ≡ []) → (f : Fate) → fate h ≡ f → SetStays fate (stamp n k) f
+      → gathered give s ≡ give h ++ gathered give (settled_at n k buy f at s)
+  gathered_one give silent Stays e i = rw (silent h e)
+  gathered_one give silent (IsCancelled reason) e i = ap (gathered give) is ∙ past give (all_alike silent passed) h (drop (at + 1) s)
+  gathered_one give silent (IsSet new) e i =
+      let x = stamped_as (stamp n k) new in
       ap (gathered give) is ∙ past give (all_alike silent passed) h (drop (at + 1) s)
-      ∙ rw (one_more give (silent x i) (added-insert buy x others))
+      ∙ rw (one_more give (silent x i) (added_insert buy x others))
 
   module _ (i : SetStays fate (stamp n k) (fate h)) where
-    pub told-one : told fate s ≡ toldBy (fate h) h ++ told fate (settledAt n k buy (fate h) at s)
+    pub told_one : told fate s ≡ told_by (fate h) h ++ told fate (settled_at n k buy (fate h) at s)
     unfolding told
-    told-one = gathered-one (λ (x : Resting). toldBy (fate x) x) (λ x p. rw p) (fate h) refl i
+    told_one = gathered_one (λ (x : Resting). told_by (fate x) x) (λ x p. rw p) (fate h) refl i
 
-    pub anew-one : setAnew fate s ≡ setBy (fate h) ++ setAnew fate (settledAt n k buy (fate h) at s)
-    unfolding setAnew
-    anew-one = gathered-one (λ (x : Resting). setBy (fate x)) (λ x p. rw p) (fate h) refl i
+    pub anew_one : set_anew fate s ≡ set_by (fate h) ++ set_anew fate (settled_at n k buy (fate h) at s)
+    unfolding set_anew
+    anew_one = gathered_one (λ (x : Resting). set_by (fate x)) (λ x p. rw p) (fate h) refl i
 
-    pub settled-one : inRankOrder buy others ≡ true
-        → settledSide n k buy fate s ≡ settledSide n (nextPlace (fate h) k) buy fate (settledAt n k buy (fate h) at s)
-    unfolding settledSide insertAll stampedFrom
-    settled-one r = by-fate (fate h) refl i anew-one
+    pub settled_one : in_rank_order buy others ≡ true
+        → settled_side n k buy fate s ≡ settled_side n (next_place (fate h) k) buy fate (settled_at n k buy (fate h) at s)
+    unfolding settled_side insert_all stamped_from
+    settled_one r = by_fate (fate h) refl i anew_one
       where
-        by-fate : (f : Fate) → fate h ≡ f → SetStays fate (stamp n k) f → setAnew fate s ≡ setBy f ++ setAnew fate (settledAt n k buy f at s)
-            → settledSide n k buy fate s ≡ settledSide n (nextPlace f k) buy fate (settledAt n k buy f at s)
-        by-fate Stays e i a = refl
-        by-fate (IsCancelled reason) e i a = rw (a, staying-gone (rw e))
-        by-fate (IsSet new) e i a = rw (a, staying-gone (rw e), staying-inserted fate i buy others r)
+        by_fate : (f : Fate) → fate h ≡ f → SetStays fate (stamp n k) f → set_anew fate s ≡ set_by f ++ set_anew fate (settled_at n k buy f at s)
+            → settled_side n k buy fate s ≡ settled_side n (next_place f k) buy fate (settled_at n k buy f at s)
+        by_fate Stays e i a = refl
+        by_fate (IsCancelled reason) e i a = rw (a, staying_gone (rw e))
+        by_fate (IsSet new) e i a = rw (a, staying_gone (rw e), staying_inserted fate i buy others r)

@@ -8,29 +8,29 @@ use lib.ListN.{length, get_or, take, drop, length-append, take-append-drop}
 use lib.Seq.{take_at, drop-cons, length-take-le}
 use native.Mathlib.Numerals.{add-one}
 use native.Mathlib.Omega.{arith}
-use Rattle.basics.specs.Bytes.{onto, ontoFrom}
-use Rattle.basics.specs.Lists.{removeAt, gathered, All, none, also}
-use Rattle.basics.proofs.LawsBytes.{onto-none, onto-next}
-use Rattle.basics.proofs.LawsLists.{all_alike, length-removeAt}
+use Rattle.basics.specs.Bytes.{onto, onto_from}
+use Rattle.basics.specs.Lists.{remove_at, gathered, All, none, also}
+use Rattle.basics.proofs.LawsBytes.{onto_none, onto_next}
+use Rattle.basics.proofs.LawsLists.{all_alike, length_remove_at}
 use Rattle.kinds.specs.declared.Number.{Number}
 use Rattle.side.specs.Table.{side, Holds, Shows}
-use Rattle.side.proofs.rows.LawsShown.{length-side, holds-shows}
+use Rattle.side.proofs.rows.LawsShown.{length_side, holds_shows}
 use Rattle.rules.specs.declared.Event.{Event}
 use Rattle.rules.specs.declared.Fate.{Fate}
 use Rattle.rules.specs.declared.Fate.TheVariants.{Stays, IsCancelled, IsSet}
 use Rattle.rules.specs.declared.Resting.{Resting}
-use Rattle.rules.specs.Book.{unused, stamp, inRankOrder}
-use Rattle.rules.specs.EventLines.{eventLines}
-use Rattle.rules.specs.Settling.{stampedAs, setBy, toldBy, setAnew, told, settledSide}
+use Rattle.rules.specs.Book.{unused, stamp, in_rank_order}
+use Rattle.rules.specs.EventLines.{event_lines}
+use Rattle.rules.specs.Settling.{stamped_as, set_by, told_by, set_anew, told, settled_side}
 use Rattle.rules.proofs.LawsCommands.{IfSet}
-use Rattle.rules.proofs.LawsEvents.{eventLines-append, none-long}
-use Rattle.soundness.proofs.LawsInsert.{Added, here, later, added-insert, added-length, added-all, ranked-insert}
-use Rattle.rules.proofs.LawsRank.{earlier-place, earlier-transitive, ranked-first, ranked-rest, ranked-more}
-use Rattle.soundness.proofs.LawsSettled.{nextPlace}
+use Rattle.rules.proofs.LawsEvents.{event_lines_append, none_long}
+use Rattle.soundness.proofs.LawsInsert.{Added, here, later, added_insert, added_length, added_all, ranked_insert}
+use Rattle.rules.proofs.LawsRank.{earlier_place, earlier_transitive, ranked_first, ranked_rest, ranked_more}
+use Rattle.soundness.proofs.LawsSettled.{next_place}
 use Rattle.settling.specs.declared.Settled.{Settled}
 use Rattle.side.specs.Looking.{Older}
-use Rattle.settling.specs.OneByOne.{settledAt, afterOne, setBelow, settledIn}
-use Rattle.settling.proofs.LawsOneByOne.{Stay, SetStays, added-others, told-one, anew-one, settled-one, told_none, anew-none, settled-none}
+use Rattle.settling.specs.OneByOne.{settled_at, after_one, set_below, settled_in}
+use Rattle.settling.proofs.LawsOneByOne.{Stay, SetStays, added_others, told_one, anew_one, settled_one, told_none, anew_none, settled_none}
 
 -- ── One order more or fewer ──
 
@@ -38,137 +38,137 @@ all_but : {P : Resting → Type 0} {x : Resting} {s r : List Resting} → Added 
 all_but here (also p a) = a
 all_but (later d) (also p a) = also p (all_but d a)
 
-ranked-but : (buy : Bool) {x : Resting} {s r : List Resting} → Added x s r → inRankOrder buy r ≡ true → inRankOrder buy s ≡ true
-ranked-but buy {x = x} (here {s = s}) o = ranked-rest buy x s o
-ranked-but buy (later {y = y} {s = s} {r = r} d) o = ranked-more buy y s (all_but d (ranked-first buy y r o)) (ranked-but buy d (ranked-rest buy y r o))
+ranked_but : (buy : Bool) {x : Resting} {s r : List Resting} → Added x s r → in_rank_order buy r ≡ true → in_rank_order buy s ≡ true
+ranked_but buy {x = x} (here {s = s}) o = ranked_rest buy x s o
+ranked_but buy (later {y = y} {s = s} {r = r} d) o = ranked_more buy y s (all_but d (ranked_first buy y r o)) (ranked_but buy d (ranked_rest buy y r o))
 
 -- a claim of the first ones, when one that passes comes among all
-all-fewer : {P : Resting → Type 0} (i : ℕ) (s : List Resting) → All P (take (suc i) s) → All P (take i s)
-all-fewer zero s a = none
-all-fewer (suc i) [] a = none
-all-fewer (suc i) (x ∷ s) (also p a) = also p (all-fewer i s a)
+all_fewer : {P : Resting → Type 0} (i : ℕ) (s : List Resting) → All P (take (suc i) s) → All P (take i s)
+all_fewer zero s a = none
+all_fewer (suc i) [] a = none
+all_fewer (suc i) (x ∷ s) (also p a) = also p (all_fewer i s a)
 
-all-front : {P : Resting → Type 0} {x : Resting} (i : ℕ) → P x → {s r : List Resting} → Added x s r → All P (take i s) → All P (take i r)
-all-front zero p d a = none
-all-front (suc i) p (here {s = s}) a = also p (all-fewer i s a)
-all-front (suc i) p (later d) (also q a) = also q (all-front i p d a)
+all_front : {P : Resting → Type 0} {x : Resting} (i : ℕ) → P x → {s r : List Resting} → Added x s r → All P (take i s) → All P (take i r)
+all_front zero p d a = none
+all_front (suc i) p (here {s = s}) a = also p (all_fewer i s a)
+all_front (suc i) p (later d) (also q a) = also q (all_front i p d a)
 
 -- ── The invariant ──
 
 -- a side s is left of s₀, with `len` bytes of lines written onto out₀, and the next move is the k-th
 pub record Settling (fate : Resting → Fate) (n : Number) (buy : Bool) (first : ℕ) (s₀ : List Resting) (out₀ : List ℕ)
     (s : List Resting) (k len : ℕ) (out : List ℕ) : Type 0 where
-  pub ends : settledSide n k buy fate s ≡ settledSide n first buy fate s₀
-  pub counts : k + length (setAnew fate s) ≡ first + length (setAnew fate s₀)
+  pub ends : settled_side n k buy fate s ≡ settled_side n first buy fate s₀
+  pub counts : k + length (set_anew fate s) ≡ first + length (set_anew fate s₀)
   pub done : List Event
   pub lines : done ++ told fate s ≡ told fate s₀
-  pub long : len ≡ length (eventLines done)
-  pub written : out ≡ onto (eventLines done) out₀
-  pub ranked : inRankOrder buy s ≡ true
+  pub long : len ≡ length (event_lines done)
+  pub written : out ≡ onto (event_lines done) out₀
+  pub ranked : in_rank_order buy s ≡ true
   pub older : All (Older (stamp n k)) s
 
-pub settling-start : (fate : Resting → Fate) (n : Number) (buy : Bool) (first : ℕ) (s : List Resting) (out : List ℕ) → inRankOrder buy s ≡ true
+pub settling_start : (fate : Resting → Fate) (n : Number) (buy : Bool) (first : ℕ) (s : List Resting) (out : List ℕ) → in_rank_order buy s ≡ true
     → All (Older (stamp n first)) s → Settling fate n buy first s out s first 0 out
-unfolding eventLines
-settling-start fate n buy first s out r o =
-    record { ends = refl; counts = refl; done = []; lines = refl; long = refl; written = onto-none out; ranked = r; older = o }
+unfolding event_lines
+settling_start fate n buy first s out r o =
+    record { ends = refl; counts = refl; done = []; lines = refl; long = refl; written = onto_none out; ranked = r; older = o }
 
-pub anew-fit : (fate : Resting → Fate) (s : List Resting) → length (setAnew fate s) ≤ length s
-unfolding setAnew gathered
-anew-fit fate [] = omega arith
-anew-fit fate (h ∷ s) = by-fate (fate h) (anew-fit fate s)
+pub anew_fit : (fate : Resting → Fate) (s : List Resting) → length (set_anew fate s) ≤ length s
+unfolding set_anew gathered
+anew_fit fate [] = omega arith
+anew_fit fate (h ∷ s) = by_fate (fate h) (anew_fit fate s)
   where
-    by-fate : (f : Fate) → length (setAnew fate s) ≤ length s → length (setBy f ++ setAnew fate s) ≤ suc (length s)
-    by-fate Stays l = omega arith
-    by-fate (IsCancelled reason) l = omega arith
-    by-fate (IsSet new) l = omega arith
+    by_fate : (f : Fate) → length (set_anew fate s) ≤ length s → length (set_by f ++ set_anew fate s) ≤ suc (length s)
+    by_fate Stays l = omega arith
+    by_fate (IsCancelled reason) l = omega arith
+    by_fate (IsSet new) l = omega arith
 
 module _ {fate : Resting → Fate} {n : Number} {buy : Bool} {first : ℕ} {s₀ : List Resting} {out₀ : List ℕ} {s : List Resting} {k len : ℕ} {out : List ℕ}
     (m : Settling fate n buy first s₀ out₀ s k len out) where
   -- the places among the command's moves do not run out
   pub next_fits : k ≤ first + length s₀
-  next_fits = omega (arith, m.counts, anew-fit fate s₀)
+  next_fits = omega (arith, m.counts, anew_fit fate s₀)
 
   module _ {at : ℕ} (l : at < length s) (h : Resting) (is : h ≡ get_or s at unused) where
     parted : s ≡ take at s ++ (h ∷ drop (at + 1) s)
     parted = rw (is, add-one at) (sym (take-append-drop at s) ∙ ap (λ (r : List Resting). take at s ++ r) (drop-cons s at unused l))
 
-    pub ranked-others : inRankOrder buy (removeAt at s) ≡ true
-    ranked-others = ranked-but buy (added-others at s h parted) m.ranked
+    pub ranked_others : in_rank_order buy (remove_at at s) ≡ true
+    ranked_others = ranked_but buy (added_others at s h parted) m.ranked
 
-    pub older-others : All (Older (stamp n k)) (removeAt at s)
-    older-others = all_but (added-others at s h parted) m.older
+    pub older_others : All (Older (stamp n k)) (remove_at at s)
+    older_others = all_but (added_others at s h parted) m.older
 
     -- those before the order at a rank stay, and it meets its fate
     module _ (passed : Stay fate (take at s)) (stays : SetStays fate (stamp n k) (fate h)) where
       abbrev left : List Resting
-      left = settledAt n k buy (fate h) at s
+      left = settled_at n k buy (fate h) at s
 
       abbrev line : List ℕ
-      line = eventLines (toldBy (fate h) h)
+      line = event_lines (told_by (fate h) h)
 
-      told-now : (m.done ++ toldBy (fate h) h) ++ told fate left ≡ told fate s₀
-      told-now =
-          append_assoc m.done (toldBy (fate h) h) (told fate left)
-          ∙ ap (λ (es : List Event). m.done ++ es) (sym (told-one fate n k buy at s h parted passed stays)) ∙ m.lines
+      told_now : (m.done ++ told_by (fate h) h) ++ told fate left ≡ told fate s₀
+      told_now =
+          append_assoc m.done (told_by (fate h) h) (told fate left)
+          ∙ ap (λ (es : List Event). m.done ++ es) (sym (told_one fate n k buy at s h parted passed stays)) ∙ m.lines
 
-      long-now : len + length line ≡ length (eventLines (m.done ++ toldBy (fate h) h))
-      long-now = rw (eventLines-append m.done (toldBy (fate h) h), length-append, m.long)
+      long_now : len + length line ≡ length (event_lines (m.done ++ told_by (fate h) h))
+      long_now = rw (event_lines_append m.done (told_by (fate h) h), length-append, m.long)
 
       -- there is room for its line
-      pub room-now : len + length line ≤ length (eventLines (told fate s₀))
-      room-now = rw (← told-now, eventLines-append (m.done ++ toldBy (fate h) h), length-append) (omega (arith, long-now))
+      pub room_now : len + length line ≤ length (event_lines (told fate s₀))
+      room_now = rw (← told_now, event_lines_append (m.done ++ told_by (fate h) h), length-append) (omega (arith, long_now))
 
-      pub fewer-lines : length (told fate s) ≡ length (toldBy (fate h) h) + length (told fate left)
-      fewer-lines = rw (told-one fate n k buy at s h parted passed stays, length-append)
+      pub fewer_lines : length (told fate s) ≡ length (told_by (fate h) h) + length (told fate left)
+      fewer_lines = rw (told_one fate n k buy at s h parted passed stays, length-append)
 
-      pub settling-one : setBelow (fate h)
-          → Settling fate n buy first s₀ out₀ left (nextPlace (fate h) k) (len + length line) (ontoFrom len line out) × Stay fate (take at left)
-      settling-one below =
-          let counted = ap length (anew-one fate n k buy at s h parted passed stays) in
+      pub settling_one : set_below (fate h)
+          → Settling fate n buy first s₀ out₀ left (next_place (fate h) k) (len + length line) (onto_from len line out) × Stay fate (take at left)
+      settling_one below =
+          let counted = ap length (anew_one fate n k buy at s h parted passed stays) in
           let stand = standing (fate h) stays below in (
             record {
-              ends = sym (settled-one fate n k buy at s h parted passed stays ranked-others) ∙ m.ends;
-              counts = omega (arith, m.counts, counted, length-append (setBy (fate h)) (setAnew fate left), next-is (fate h));
-              done = m.done ++ toldBy (fate h) h;
-              lines = told-now;
-              long = long-now;
+              ends = sym (settled_one fate n k buy at s h parted passed stays ranked_others) ∙ m.ends;
+              counts = omega (arith, m.counts, counted, length-append (set_by (fate h)) (set_anew fate left), next_is (fate h));
+              done = m.done ++ told_by (fate h) h;
+              lines = told_now;
+              long = long_now;
               written =
-                  ap (ontoFrom len line) m.written ∙ onto-next (eventLines m.done) line out₀ len (sym m.long)
-                  ∙ ap (λ (x : List ℕ). onto x out₀) (sym (eventLines-append m.done (toldBy (fate h) h)));
+                  ap (onto_from len line) m.written ∙ onto_next (event_lines m.done) line out₀ len (sym m.long)
+                  ∙ ap (λ (x : List ℕ). onto x out₀) (sym (event_lines_append m.done (told_by (fate h) h)));
               ranked = stand.1;
               older = stand.2;
             },
             stand.0,
           )
         where
-          next-is : (f : Fate) → nextPlace f k ≡ k + length (setBy f)
-          next-is Stays = omega arith
-          next-is (IsCancelled reason) = omega arith
-          next-is (IsSet new) = omega arith
+          next_is : (f : Fate) → next_place f k ≡ k + length (set_by f)
+          next_is Stays = omega arith
+          next_is (IsCancelled reason) = omega arith
+          next_is (IsSet new) = omega arith
 
-          front : Stay fate (take at (removeAt at s))
+          front : Stay fate (take at (remove_at at s))
           front = rw (take_at (take at s) (drop (at + 1) s) at (length-take-le at s (omega arith))) passed
 
-          standing : (f : Fate) → SetStays fate (stamp n k) f → setBelow f → let s' = settledAt n k buy f at s in
-              Stay fate (take at s') × (inRankOrder buy s' ≡ true) × All (Older (stamp n (nextPlace f k))) s'
+          standing : (f : Fate) → SetStays fate (stamp n k) f → set_below f → let s' = settled_at n k buy f at s in
+              Stay fate (take at s') × (in_rank_order buy s' ≡ true) × All (Older (stamp n (next_place f k))) s'
           standing Stays p b = (passed, m.ranked, m.older)
-          standing (IsCancelled reason) p b = (front, ranked-others, older-others)
+          standing (IsCancelled reason) p b = (front, ranked_others, older_others)
           standing (IsSet new) p b =
-              let x = stampedAs (stamp n k) new in
+              let x = stamped_as (stamp n k) new in
               let next = stamp n (suc k) in
-              let added = added-insert buy x (removeAt at s) in
-              let before = earlier-place n k (suc k) (omega arith) in
-              let others : All (Older next) (removeAt at s) =
-              all_alike (λ y o. record { priced = o.priced; stamped = earlier-transitive y.stamp (stamp n k) next o.stamped before }) older-others in (
-                all-front at p added front,
-                ranked-insert buy x (removeAt at s) (all_alike (λ y o. o.stamped) older-others) ranked-others,
-                added-all (record { priced = b; stamped = before }) added others,
+              let added = added_insert buy x (remove_at at s) in
+              let before = earlier_place n k (suc k) (omega arith) in
+              let others : All (Older next) (remove_at at s) =
+              all_alike (λ y o. record { priced = o.priced; stamped = earlier_transitive y.stamp (stamp n k) next o.stamped before }) older_others in (
+                all_front at p added front,
+                ranked_insert buy x (remove_at at s) (all_alike (λ y o. o.stamped) older_others) ranked_others,
+                added_all (record { priced = b; stamped = before }) added others,
               )
 
 -- what holds of all, and of whoever is set anew, holds of those that are left
-removed-all : {P : Resting → Type 0} (at : ℕ) {s : List Resting} → All P s → All P (removeAt at s)
-removed-all at a = all-joined (front at a) (behind (at + 1) a)
+removed_all : {P : Resting → Type 0} (at : ℕ) {s : List Resting} → All P s → All P (remove_at at s)
+removed_all at a = all_joined (front at a) (behind (at + 1) a)
   where
     front : {P : Resting → Type 0} (k : ℕ) {s : List Resting} → All P s → All P (take k s)
     front zero a = none
@@ -180,15 +180,15 @@ removed-all at a = all-joined (front at a) (behind (at + 1) a)
     behind (suc k) none = none
     behind (suc k) (also p a) = behind k a
 
-    all-joined : {P : Resting → Type 0} {s u : List Resting} → All P s → All P u → All P (s ++ u)
-    all-joined none b = b
-    all-joined (also p a) b = also p (all-joined a b)
+    all_joined : {P : Resting → Type 0} {s u : List Resting} → All P s → All P u → All P (s ++ u)
+    all_joined none b = b
+    all_joined (also p a) b = also p (all_joined a b)
 
-pub settled-at-all : {P : Resting → Type 0} (n : Number) (k : ℕ) (buy : Bool) (f : Fate) → IfSet (λ (new : Resting). P (stampedAs (stamp n k) new)) f
-    → (at : ℕ) {s : List Resting} → All P s → All P (settledAt n k buy f at s)
-settled-at-all n k buy Stays p at a = a
-settled-at-all n k buy (IsCancelled reason) p at a = removed-all at a
-settled-at-all n k buy (IsSet new) p at {s = s} a = added-all p (added-insert buy (stampedAs (stamp n k) new) (removeAt at s)) (removed-all at a)
+pub settled_at_all : {P : Resting → Type 0} (n : Number) (k : ℕ) (buy : Bool) (f : Fate) → IfSet (λ (new : Resting). P (stamped_as (stamp n k) new)) f
+    → (at : ℕ) {s : List Resting} → All P s → All P (settled_at n k buy f at s)
+settled_at_all n k buy Stays p at a = a
+settled_at_all n k buy (IsCancelled reason) p at a = removed_all at a
+settled_at_all n k buy (IsSet new) p at {s = s} a = added_all p (added_insert buy (stamped_as (stamp n k) new) (remove_at at s)) (removed_all at a)
 
 -- ── In an index and a table of rows ──
 
@@ -198,7 +198,7 @@ same_numbers p q r = λ i. record { held = p i; next = q i; length = r i }
 -- a side is settled, and its lines are written
 abbrev pub IsSettled : (Resting → Fate) → Number → Bool → ℕ → List Resting → List ℕ → Settled → List ℕ → List (List ℕ) → List ℕ → Type 0
 IsSettled fate n buy first s₀ out₀ m x t out =
-    (m ≡ settledIn n first buy fate s₀) × (Shows (settledSide n first buy fate s₀) x t × (out ≡ onto (eventLines (told fate s₀)) out₀))
+    (m ≡ settled_in n first buy fate s₀) × (Shows (settled_side n first buy fate s₀) x t × (out ≡ onto (event_lines (told fate s₀)) out₀))
 
 module _ {fate : Resting → Fate} {n : Number} {buy : Bool} {first : ℕ} {s₀ : List Resting} {out₀ : List ℕ} {out : List ℕ}
     (m : Settled) (x : List ℕ) (t : List (List ℕ)) (holds : Holds m.held x t)
@@ -207,41 +207,41 @@ module _ {fate : Resting → Fate} {n : Number} {buy : Bool} {first : ℕ} {s₀
   now = side m.held x t
 
   whole : length now ≡ m.held
-  whole = length-side m.held x t
+  whole = length_side m.held x t
 
   -- what `settle` leaves
   module _ {at : ℕ} (passed : Stay fate (take at now)) (l : at < m.held) (h : Resting) (is : h ≡ get_or now at unused) where
-    fewer : length (removeAt at now) ≡ m.held - 1
-    fewer = length-removeAt at now (omega (arith, whole)) ∙ rw whole
+    fewer : length (remove_at at now) ≡ m.held - 1
+    fewer = length_remove_at at now (omega (arith, whole)) ∙ rw whole
 
-    after_is : (f : Fate) → afterOne m f h ≡ record {
-      held = length (settledAt n m.next buy f at now);
-      next = nextPlace f m.next;
-      length = m.length + length (eventLines (toldBy f h));
+    after_is : (f : Fate) → after_one m f h ≡ record {
+      held = length (settled_at n m.next buy f at now);
+      next = next_place f m.next;
+      length = m.length + length (event_lines (told_by f h));
     }
-    after_is Stays = same_numbers (sym whole) refl (omega (arith, none-long))
+    after_is Stays = same_numbers (sym whole) refl (omega (arith, none_long))
     after_is (IsCancelled reason) = same_numbers (sym fewer) refl refl
     after_is (IsSet new) =
-        let more = added-length (added-insert buy (stampedAs (stamp n m.next) new) (removeAt at now)) in
+        let more = added_length (added_insert buy (stamped_as (stamp n m.next) new) (remove_at at now)) in
         same_numbers (omega (arith, more, fewer)) (omega arith) refl
 
-    pub settle-leaves : (f : Fate) → f ≡ fate h → SetStays fate (stamp n m.next) (fate h) → setBelow (fate h)
-        → (m' : Settled) (x' : List ℕ) (t' : List (List ℕ)) (out' : List ℕ) → m' ≡ afterOne m f h → Shows (settledAt n m.next buy f at now) x' t'
-        → out' ≡ ontoFrom m.length (eventLines (toldBy f h)) out → let s' = side m'.held x' t' in
+    pub settle_leaves : (f : Fate) → f ≡ fate h → SetStays fate (stamp n m.next) (fate h) → set_below (fate h)
+        → (m' : Settled) (x' : List ℕ) (t' : List (List ℕ)) (out' : List ℕ) → m' ≡ after_one m f h → Shows (settled_at n m.next buy f at now) x' t'
+        → out' ≡ onto_from m.length (event_lines (told_by f h)) out → let s' = side m'.held x' t' in
         Holds m'.held x' t' × Settling fate n buy first s₀ out₀ s' m'.next m'.length out' × Stay fate (take at s')
-        × (length (told fate now) ≡ length (toldBy f h) + length (told fate s')) × (s' ≡ settledAt n m.next buy f at now)
-    settle-leaves f e stays below m' x' t' out' p q r =
+        × (length (told fate now) ≡ length (told_by f h) + length (told fate s')) × (s' ≡ settled_at n m.next buy f at now)
+    settle_leaves f e stays below m' x' t' out' p q r =
         let l' : at < length now = omega (arith, whole) in
-        let one = settling-one settling l' h is passed stays below in
-        rw (p ∙ after_is f, r, q.is) (q.holds, rw e one.0, rw e one.1, rw e (fewer-lines settling l' h is passed stays), refl)
+        let one = settling_one settling l' h is passed stays below in
+        rw (p ∙ after_is f, r, q.is) (q.holds, rw e one.0, rw e one.1, rw e (fewer_lines settling l' h is passed stays), refl)
 
   -- where all that are left stay, the side is settled
-  pub settled-all : Stay fate now → IsSettled fate n buy first s₀ out₀ m x t out
-  settled-all all =
-      let is : now ≡ settledSide n first buy fate s₀ = sym (settled-none fate all n m.next buy) ∙ settling.ends in
-      let told-all : settling.done ≡ told fate s₀ =
+  pub settled_all : Stay fate now → IsSettled fate n buy first s₀ out₀ m x t out
+  settled_all all =
+      let is : now ≡ settled_side n first buy fate s₀ = sym (settled_none fate all n m.next buy) ∙ settling.ends in
+      let told_all : settling.done ≡ told fate s₀ =
       sym (append-nil settling.done) ∙ ap (λ (es : List Event). settling.done ++ es) (sym (told_none fate all)) ∙ settling.lines in (
-        same_numbers (sym whole ∙ ap length is) (omega (arith, settling.counts, ap length (anew-none fate all)))
-            (settling.long ∙ ap (λ (es : List Event). length (eventLines es)) told-all),
-        (rw (← is) (holds-shows m.held x t holds), settling.written ∙ ap (λ (es : List Event). onto (eventLines es) out₀) told-all),
+        same_numbers (sym whole ∙ ap length is) (omega (arith, settling.counts, ap length (anew_none fate all)))
+            (settling.long ∙ ap (λ (es : List Event). length (event_lines es)) told_all),
+        (rw (← is) (holds_shows m.held x t holds), settling.written ∙ ap (λ (es : List Event). onto (event_lines es) out₀) told_all),
       )

@@ -1,16 +1,16 @@
 // Resting orders of one side that are settled other than by executions, in place, one after the other: each stays, is cancelled, or is set
 // anew and takes its place again (rules/specs/Settling). One function for both sides of the market, and for whatever settles them.
 ghost use Rattle.std.specs.Prelude.{true, ◌≡◌, ◌+◌, ◌≤◌, ◌<◌, length};
-ghost use Rattle.basics.specs.Bytes.{ontoFrom};
-ghost use Rattle.basics.specs.Lists.{removeAt, All};
+ghost use Rattle.basics.specs.Bytes.{onto_from};
+ghost use Rattle.basics.specs.Lists.{remove_at, All};
 ghost use Rattle.kinds.specs.Kinds.{largest};
 ghost use Rattle.side.specs.Table.{side, Holds, Shows};
-ghost use Rattle.rules.specs.Book.{stamp, inRankOrder};
-ghost use Rattle.rules.specs.EventLines.{eventLines};
-ghost use Rattle.rules.specs.Settling.{stampedAs, toldBy};
+ghost use Rattle.rules.specs.Book.{stamp, in_rank_order};
+ghost use Rattle.rules.specs.EventLines.{event_lines};
+ghost use Rattle.rules.specs.Settling.{stamped_as, told_by};
 ghost use Rattle.side.specs.Looking.{Older};
 ghost use Rattle.side.specs.Shifts.{Countable};
-ghost use Rattle.settling.specs.OneByOne.{settledAt, afterOne, setBelow};
+ghost use Rattle.settling.specs.OneByOne.{settled_at, after_one, set_below};
 
 use event_lines::writer;
 use kinds::Number;
@@ -31,7 +31,7 @@ pub struct Settled {
 
 // An order with a new stamp.
 fn stamped_as(o: Resting, anew: Stamp) -> Resting
-    ensures { result ≡ stampedAs anew o }
+    ensures { result ≡ stamped_as anew o }
 {
     Resting { stamp: anew, ..o }
 }
@@ -50,13 +50,13 @@ pub fn settle(
     out: &mut [u8],
 ) -> Settled
     requires { Holds m.held x.old t.old × (at < m.held)
-        × (inRankOrder buying (removeAt at (side m.held x.old t.old)) ≡ true)
-        × (m.length + length (eventLines (toldBy fate o)) ≤ length out.old) × (m.next < largest) × Countable o
-        × (setBelow fate × All (Older (stamp number m.next)) (removeAt at (side m.held x.old t.old))) }
-    ensures value { result ≡ afterOne m fate o }
-    ensures shows { Shows (settledAt number m.next buying fate at (side m.held x.old t.old))
+        × (in_rank_order buying (remove_at at (side m.held x.old t.old)) ≡ true)
+        × (m.length + length (event_lines (told_by fate o)) ≤ length out.old) × (m.next < largest) × Countable o
+        × (set_below fate × All (Older (stamp number m.next)) (remove_at at (side m.held x.old t.old))) }
+    ensures value { result ≡ after_one m fate o }
+    ensures shows { Shows (settled_at number m.next buying fate at (side m.held x.old t.old))
         x.new t.new }
-    ensures out_after { out.new ≡ ontoFrom m.length (eventLines (toldBy fate o)) out.old }
+    ensures out_after { out.new ≡ onto_from m.length (event_lines (told_by fate o)) out.old }
 {
     let held = m.held;
     let next = m.next;

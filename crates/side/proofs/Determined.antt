@@ -8,11 +8,11 @@ use Rattle.side.proofs.find.Reads as find
 use Rattle.side.proofs.ranks_before.Reads as ranks-before
 use Rattle.side.proofs.place.Reads as place
 
-pub find-determined : (κs : _) (a : _) (r r' : ℕ) (s s' : _) → find.Post κs a r s → find.Post κs a r' s' → r ≡ r'
-find-determined κs a r r' s s' p q = p ∙ sym q
+pub find_determined : (κs : _) (a : _) (r r' : ℕ) (s s' : _) → find.Post κs a r s → find.Post κs a r' s' → r ≡ r'
+find_determined κs a r r' s s' p q = p ∙ sym q
 
-pub ranks-before-determined : (κs : _) (a : _) (r r' : Bool) (s s' : _) → ranks-before.Post κs a r s → ranks-before.Post κs a r' s' → r ≡ r'
-ranks-before-determined κs a r r' s s' p q = p ∙ sym q
+pub ranks_before_determined : (κs : _) (a : _) (r r' : Bool) (s s' : _) → ranks-before.Post κs a r s → ranks-before.Post κs a r' s' → r ≡ r'
+ranks_before_determined κs a r r' s s' p q = p ∙ sym q
 
-pub place-determined : (κs : _) (a : _) (r r' : ℕ) (s s' : _) → place.Post κs a r s → place.Post κs a r' s' → r ≡ r'
-place-determined κs a r r' s s' p q = p ∙ sym q
+pub place_determined : (κs : _) (a : _) (r r' : ℕ) (s s' : _) → place.Post κs a r s → place.Post κs a r' s' → r ≡ r'
+place_determined κs a r r' s s' p q = p ∙ sym q

@@ -9,67 +9,67 @@ use lib.Dec.{ltb}
 use lib.ListN.{length, get_or}
 use native.Mathlib.Omega.{arith}
 use borrow.Author.Tests.{lt-ltb, le-ltb}
-use Rattle.basics.specs.Lists.{firstWhere, All, none, also}
-use Rattle.basics.proofs.LawsChoice.{holds-or-not, lt-or-le}
+use Rattle.basics.specs.Lists.{first_where, All, none, also}
+use Rattle.basics.proofs.LawsChoice.{holds_or_not, lt_or_le}
 use Rattle.rules.specs.declared.Resting.{Resting}
-use Rattle.rules.specs.Book.{unused, ranksBefore, inRankOrder}
-use Rattle.rules.proofs.LawsRank.{ranks-transitive, ranked-first, ranked-rest}
-use Rattle.side.specs.Table.{flagOf, levelOf, levelIn, ranked as ranks, side, Holds}
-use Rattle.side.proofs.rows.LawsIndex.{ranked-at}
-use Rattle.side.proofs.rows.LawsShown.{length-side, level-at}
+use Rattle.rules.specs.Book.{unused, ranks_before, in_rank_order}
+use Rattle.rules.proofs.LawsRank.{ranks_transitive, ranked_first, ranked_rest}
+use Rattle.side.specs.Table.{flag_of, level_of, level_in, ranked as ranks, side, Holds}
+use Rattle.side.proofs.rows.LawsIndex.{ranked_at}
+use Rattle.side.proofs.rows.LawsShown.{length_side, level_at_lem}
 use Rattle.side.specs.Looking.{Newest}
-use Rattle.side.proofs.LawsPlaces.{first-within, first-before}
-use Rattle.side.proofs.LawsLevels.{placeByLevel, rank-by-level, place-by-level}
+use Rattle.side.proofs.LawsPlaces.{first_within, first_before}
+use Rattle.side.proofs.LawsLevels.{place_by_level, rank_by_level, place_by_level_lem}
 
 -- an order that the new one does not rank before stands in front of its place, on a side in rank order
-place-behind : (buy : Bool) (o : Resting) (s : List Resting) → inRankOrder buy s ≡ true → (i : ℕ) → i < length s
-    → ranksBefore buy o (get_or s i unused) ≡ false → i < firstWhere (ranksBefore buy o) s
-unfolding firstWhere
-place-behind buy o [] r i l p = let z : ⊥ = omega arith in absurd z
-place-behind buy o (x ∷ s) r zero l p = rw p (omega arith)
-place-behind buy o (x ∷ s) r (suc i) l p =
+place_behind : (buy : Bool) (o : Resting) (s : List Resting) → in_rank_order buy s ≡ true → (i : ℕ) → i < length s
+    → ranks_before buy o (get_or s i unused) ≡ false → i < first_where (ranks_before buy o) s
+unfolding first_where
+place_behind buy o [] r i l p = let z : ⊥ = omega arith in absurd z
+place_behind buy o (x ∷ s) r zero l p = rw p (omega arith)
+place_behind buy o (x ∷ s) r (suc i) l p =
     ⊎_elim
-    (λ (t : ranksBefore buy o x ≡ true). absurd (true≢false (sym (behind (ranked-first buy x s r) i (omega arith) t) ∙ p)))
-    (λ (t : ranksBefore buy o x ≡ false). rw t (omega (arith, place-behind buy o s (ranked-rest buy x s r) i (omega arith) p)))
-    (holds-or-not (ranksBefore buy o x))
+    (λ (t : ranks_before buy o x ≡ true). absurd (true≢false (sym (behind (ranked_first buy x s r) i (omega arith) t) ∙ p)))
+    (λ (t : ranks_before buy o x ≡ false). rw t (omega (arith, place_behind buy o s (ranked_rest buy x s r) i (omega arith) p)))
+    (holds_or_not (ranks_before buy o x))
   where
-    behind : {s : List Resting} → All (λ (y : Resting). ranksBefore buy x y ≡ true) s → (i : ℕ) → i < length s → ranksBefore buy o x ≡ true
-        → ranksBefore buy o (get_or s i unused) ≡ true
+    behind : {s : List Resting} → All (λ (y : Resting). ranks_before buy x y ≡ true) s → (i : ℕ) → i < length s → ranks_before buy o x ≡ true
+        → ranks_before buy o (get_or s i unused) ≡ true
     behind none i l t = let z : ⊥ = omega arith in absurd z
-    behind (also {x = y} q a) zero l t = ranks-transitive buy o x y t q
+    behind (also {x = y} q a) zero l t = ranks_transitive buy o x y t q
     behind (also q a) (suc i) l t = behind a i (omega arith) t
 
 -- ── By the places of an index ──
 
 -- how many orders of a side, from the worst on, an order of this level ranks before
 abbrev pub passed : ℕ → List ℕ → List (List ℕ) → Bool → ℕ → ℕ
-passed n x t buy level = n - placeByLevel buy level (side n x t)
+passed n x t buy level = n - place_by_level buy level (side n x t)
 
-module _ (n : ℕ) (x : List ℕ) (t : List (List ℕ)) (holds : Holds n x t) (buy : Bool) (o : Resting) (ranked : inRankOrder buy (side n x t) ≡ true)
-    (newest : Newest o (side n x t)) (level : ℕ) (mine : level ≡ levelOf buy o) where
-  place_is : placeByLevel buy level (side n x t) ≡ firstWhere (ranksBefore buy o) (side n x t)
-  place_is = rw mine (place-by-level buy o (side n x t) newest)
+module _ (n : ℕ) (x : List ℕ) (t : List (List ℕ)) (holds : Holds n x t) (buy : Bool) (o : Resting) (ranked : in_rank_order buy (side n x t) ≡ true)
+    (newest : Newest o (side n x t)) (level : ℕ) (mine : level ≡ level_of buy o) where
+  place_is : place_by_level buy level (side n x t) ≡ first_where (ranks_before buy o) (side n x t)
+  place_is = rw mine (place_by_level_lem buy o (side n x t) newest)
 
   -- one look tells whether the order at that place is among them
-  pub looked : (i : ℕ) → i < n → ltb level (levelIn buy (get_or t (get_or x i 0) [])) ≡ ltb i (passed n x t buy level)
+  pub looked : (i : ℕ) → i < n → ltb level (level_in buy (get_or t (get_or x i 0) [])) ≡ ltb i (passed n x t buy level)
   looked i l =
       let s = side n x t in
       let k = n - 1 - i in
-      let in-side : k < length s = omega (arith, length-side n x t) in
+      let in_side : k < length s = omega (arith, length_side n x t) in
       let at : n - 1 - k ≡ i = omega arith in
-      let slot : get_or (ranks n x) k 0 ≡ get_or x i 0 = ranked-at n x k (omega arith) ∙ ap (λ (j : ℕ). get_or x j 0) at in
-      let its : levelIn buy (get_or t (get_or x i 0) []) ≡ levelOf buy (get_or s k unused) = rw slot at (level-at n x t k (omega arith) holds buy) in
-      let test : ltb level (levelIn buy (get_or t (get_or x i 0) [])) ≡ ranksBefore buy o (get_or s k unused) =
-      rw (mine, its) (sym (rank-by-level buy o s newest k in-side)) in
+      let slot : get_or (ranks n x) k 0 ≡ get_or x i 0 = ranked_at n x k (omega arith) ∙ ap (λ (j : ℕ). get_or x j 0) at in
+      let its : level_in buy (get_or t (get_or x i 0) []) ≡ level_of buy (get_or s k unused) = rw slot at (level_at_lem n x t k (omega arith) holds buy) in
+      let test : ltb level (level_in buy (get_or t (get_or x i 0) [])) ≡ ranks_before buy o (get_or s k unused) =
+      rw (mine, its) (sym (rank_by_level buy o s newest k in_side)) in
       ⊎_elim
-      (λ (b : ranksBefore buy o (get_or s k unused) ≡ true).
-      test ∙ b ∙ sym (lt-ltb i (passed n x t buy level) (omega (arith, place_is, first-before (ranksBefore buy o) unused s k in-side b))))
-      (λ (b : ranksBefore buy o (get_or s k unused) ≡ false).
-      test ∙ b ∙ sym (le-ltb i (passed n x t buy level) (omega (arith, place_is, place-behind buy o s ranked k in-side b))))
-      (holds-or-not (ranksBefore buy o (get_or s k unused)))
+      (λ (b : ranks_before buy o (get_or s k unused) ≡ true).
+      test ∙ b ∙ sym (lt-ltb i (passed n x t buy level) (omega (arith, place_is, first_before (ranks_before buy o) unused s k in_side b))))
+      (λ (b : ranks_before buy o (get_or s k unused) ≡ false).
+      test ∙ b ∙ sym (le-ltb i (passed n x t buy level) (omega (arith, place_is, place_behind buy o s ranked k in_side b))))
+      (holds_or_not (ranks_before buy o (get_or s k unused)))
 
-  pub all-looked : n - passed n x t buy level ≡ firstWhere (ranksBefore buy o) (side n x t)
-  all-looked = omega (arith, place_is, first-within (ranksBefore buy o) (side n x t), length-side n x t)
+  pub all_looked : n - passed n x t buy level ≡ first_where (ranks_before buy o) (side n x t)
+  all_looked = omega (arith, place_is, first_within (ranks_before buy o) (side n x t), length_side n x t)
 
 -- ── How far the looks narrow it ──
 
@@ -80,7 +80,7 @@ Within n m low range = (low ≤ m) × (m ≤ low + range) × (low + range ≤ n)
 module _ (n m low range : ℕ) (within : Within n m low range) where
   -- three looks together
   pub quartered : (q a b c : ℕ) → 1 ≤ q → 4 * q ≤ range + 1
-      → a ≡ flagOf (ltb (low + q - 1) m) → b ≡ flagOf (ltb (low + 2 * q - 1) m) → c ≡ flagOf (ltb (low + 3 * q - 1) m)
+      → a ≡ flag_of (ltb (low + q - 1) m) → b ≡ flag_of (ltb (low + 2 * q - 1) m) → c ≡ flag_of (ltb (low + 3 * q - 1) m)
       → (a + b + c ≤ 3) × Within n m (low + q * (a + b + c)) (range - 3 * q)
   quartered q a b c some l e f g =
       ⊎_elim
@@ -96,14 +96,14 @@ module _ (n m low range : ℕ) (within : Within n m low range) where
       rw (e, f, g, lt-ltb (low + q - 1) m (omega arith), lt-ltb (low + 2 * q - 1) m (omega arith), le-ltb (low + 3 * q - 1) m (omega arith)) (omega arith))
       (λ (w : low + 3 * q ≤ m).
       rw (e, f, g, lt-ltb (low + q - 1) m (omega arith), lt-ltb (low + 2 * q - 1) m (omega arith), lt-ltb (low + 3 * q - 1) m (omega arith)) (omega arith))
-      (lt-or-le m (low + 3 * q)))
-      (lt-or-le m (low + 2 * q)))
-      (lt-or-le m (low + q))
+      (lt_or_le m (low + 3 * q)))
+      (lt_or_le m (low + 2 * q)))
+      (lt_or_le m (low + q))
 
   -- one look
-  pub halved : (a : ℕ) → 1 ≤ range → a ≡ flagOf (ltb low m) → Within n m (low + a) (range - 1)
+  pub halved : (a : ℕ) → 1 ≤ range → a ≡ flag_of (ltb low m) → Within n m (low + a) (range - 1)
   halved a some e =
       ⊎_elim
       (λ (u : low < m). rw (e, lt-ltb low m u) (omega arith))
       (λ (u : m ≤ low). rw (e, le-ltb low m u) (omega arith))
-      (lt-or-le low m)
+      (lt_or_le low m)

@@ -8,27 +8,27 @@ use lib.Dec.{eqb}
 use lib.ListN.{length, get_or}
 use native.Mathlib.Omega.{arith}
 use borrow.Author.Tests.{eq-eqb, eqb-true, not-true}
-use Rattle.basics.specs.Lists.{firstWhere, any, distinct}
-use Rattle.basics.proofs.LawsChoice.{holds-or-not, and_left, and_right, or-neither}
+use Rattle.basics.specs.Lists.{first_where, any, distinct}
+use Rattle.basics.proofs.LawsChoice.{holds_or_not, and_left, and_right, or_neither}
 use Rattle.kinds.specs.declared.Number.{Number}
 use Rattle.rules.specs.declared.Resting.{Resting}
 use Rattle.rules.specs.Book.{unused, numbers}
 use Rattle.rules.specs.Commands.{is_number}
 use Rattle.side.specs.Table.{order_of, ranked, side, Holds}
-use Rattle.side.proofs.rows.LawsIndex.{ranked-at}
-use Rattle.side.proofs.rows.LawsShown.{length-side, order-at}
+use Rattle.side.proofs.rows.LawsIndex.{ranked_at}
+use Rattle.side.proofs.rows.LawsShown.{length_side, order_at}
 
 -- a number that is not among some stands on none of their orders
-not-among : (n : ℕ) (s : List Resting) → any (eqb n) (numbers s) ≡ false → (k : ℕ) → k < length s → eqb n (get_or s k unused).number.0 ≡ false
+not_among : (n : ℕ) (s : List Resting) → any (eqb n) (numbers s) ≡ false → (k : ℕ) → k < length s → eqb n (get_or s k unused).number.0 ≡ false
 unfolding any
-not-among n [] e k l = let z : ⊥ = omega arith in absurd z
-not-among n (h ∷ s) e zero l = (or-neither (eqb n h.number.0) (any (eqb n) (numbers s)) e).0
-not-among n (h ∷ s) e (suc k) l = not-among n s (or-neither (eqb n h.number.0) (any (eqb n) (numbers s)) e).1 k (omega arith)
+not_among n [] e k l = let z : ⊥ = omega arith in absurd z
+not_among n (h ∷ s) e zero l = (or_neither (eqb n h.number.0) (any (eqb n) (numbers s)) e).0
+not_among n (h ∷ s) e (suc k) l = not_among n s (or_neither (eqb n h.number.0) (any (eqb n) (numbers s)) e).1 k (omega arith)
 
 -- where no number stands twice, an order of a number is the first of it
 only_one : (number : Number) (s : List Resting) → distinct (numbers s) ≡ true → (k : ℕ) → k < length s → is_number number (get_or s k unused) ≡ true
-    → k ≡ firstWhere (is_number number) s
-unfolding distinct firstWhere
+    → k ≡ first_where (is_number number) s
+unfolding distinct first_where
 only_one number [] d k l e = let z : ⊥ = omega arith in absurd z
 only_one number (h ∷ s) d zero l e = rw e
 only_one number (h ∷ s) d (suc k) l e =
@@ -36,17 +36,17 @@ only_one number (h ∷ s) d (suc k) l e =
     ⊎_elim
     (λ (t : is_number number h ≡ true).
     let same : h.number.0 ≡ (get_or s k unused).number.0 = eqb-true h.number.0 number.0 t ∙ sym (eqb-true (get_or s k unused).number.0 number.0 e) in
-    absurd (true≢false (sym (eq-eqb h.number.0 (get_or s k unused).number.0 same) ∙ not-among h.number.0 s others k (omega arith))))
+    absurd (true≢false (sym (eq-eqb h.number.0 (get_or s k unused).number.0 same) ∙ not_among h.number.0 s others k (omega arith))))
     (λ (t : is_number number h ≡ false).
     rw t (ap suc (only_one number s (and_right (not (any (eqb h.number.0) (numbers s))) (distinct (numbers s)) d) k (omega arith) e)))
-    (holds-or-not (is_number number h))
+    (holds_or_not (is_number number h))
 
 -- a row in use, whose place in the index is i
-pub hint-leads : (n : ℕ) (x : List ℕ) (t : List (List ℕ)) → Holds n x t → (number : Number) → distinct (numbers (side n x t)) ≡ true
-    → (slot i : ℕ) → get_or x i 0 ≡ slot → i < n → is_number number (order_of (get_or t slot [])) ≡ true → n - 1 - i ≡ firstWhere (is_number number) (side n x t)
-hint-leads n x t holds number d slot i named l its =
+pub hint_leads : (n : ℕ) (x : List ℕ) (t : List (List ℕ)) → Holds n x t → (number : Number) → distinct (numbers (side n x t)) ≡ true
+    → (slot i : ℕ) → get_or x i 0 ≡ slot → i < n → is_number number (order_of (get_or t slot [])) ≡ true → n - 1 - i ≡ first_where (is_number number) (side n x t)
+hint_leads n x t holds number d slot i named l its =
     let k = n - 1 - i in
     let back : n - 1 - k ≡ i = omega arith in
-    let at : get_or (ranked n x) k 0 ≡ slot = ranked-at n x k (omega arith) ∙ ap (λ (j : ℕ). get_or x j 0) back ∙ named in
-    let found : order_of (get_or t slot []) ≡ get_or (side n x t) k unused = rw at at (order-at n x t k (omega arith)) in
-    only_one number (side n x t) d k (omega (arith, length-side n x t)) (ap (is_number number) (sym found) ∙ its)
+    let at : get_or (ranked n x) k 0 ≡ slot = ranked_at n x k (omega arith) ∙ ap (λ (j : ℕ). get_or x j 0) back ∙ named in
+    let found : order_of (get_or t slot []) ≡ get_or (side n x t) k unused = rw at at (order_at n x t k (omega arith)) in
+    only_one number (side n x t) d k (omega (arith, length_side n x t)) (ap (is_number number) (sym found) ∙ its)

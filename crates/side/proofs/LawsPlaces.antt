@@ -9,79 +9,79 @@ use lib.ListN.{length, get_or}
 use native.Mathlib.Omega.{arith}
 use borrow.Author.Tests.{eqb-true, le-ltb}
 use Rattle.basics.specs.Choice.{if◌then◌else◌}
-use Rattle.basics.specs.Lists.{firstWhere}
-use Rattle.basics.proofs.LawsChoice.{holds-or-not}
+use Rattle.basics.specs.Lists.{first_where}
+use Rattle.basics.proofs.LawsChoice.{holds_or_not}
 use Rattle.rules.specs.declared.Resting.{Resting}
 use Rattle.rules.specs.declared.Stamp.{Stamp}
-use Rattle.rules.specs.Book.{earlier, ranksBefore}
+use Rattle.rules.specs.Book.{earlier, ranks_before}
 
 -- ── The first that passes a test ──
 
 module _ {A : Type 0} (test : A → Bool) where
   -- its place is one of the list's, or the one behind its last
-  pub first-within : (s : List A) → firstWhere test s ≤ length s
-  unfolding firstWhere
-  first-within [] = omega arith
-  first-within (h ∷ s) =
+  pub first_within : (s : List A) → first_where test s ≤ length s
+  unfolding first_where
+  first_within [] = omega arith
+  first_within (h ∷ s) =
       ⊎_elim
       (λ (t : test h ≡ true). rw t (omega arith))
-      (λ (t : test h ≡ false). rw t (omega (arith, first-within s)))
-      (holds-or-not (test h))
+      (λ (t : test h ≡ false). rw t (omega (arith, first_within s)))
+      (holds_or_not (test h))
 
   -- whatever passes the test stands there or behind it
-  pub first-before : (d : A) (s : List A) (i : ℕ) → i < length s → test (get_or s i d) ≡ true → firstWhere test s ≤ i
-  unfolding firstWhere
-  first-before d [] i l p = let z : ⊥ = omega arith in absurd z
-  first-before d (x ∷ s) zero l p = rw p (omega arith)
-  first-before d (x ∷ s) (suc i) l p =
+  pub first_before : (d : A) (s : List A) (i : ℕ) → i < length s → test (get_or s i d) ≡ true → first_where test s ≤ i
+  unfolding first_where
+  first_before d [] i l p = let z : ⊥ = omega arith in absurd z
+  first_before d (x ∷ s) zero l p = rw p (omega arith)
+  first_before d (x ∷ s) (suc i) l p =
       ⊎_elim
       (λ (t : test x ≡ true). rw t (omega arith))
-      (λ (t : test x ≡ false). rw t (omega (arith, first-before d s i (omega arith) p)))
-      (holds-or-not (test x))
+      (λ (t : test x ≡ false). rw t (omega (arith, first_before d s i (omega arith) p)))
+      (holds_or_not (test x))
 
 -- ── Rank by values ──
 
-pub earlier-by-values : (s t : Stamp)
+pub earlier_by_values : (s t : Stamp)
     → (ltb s.command.0 t.command.0 || eqb s.command.0 t.command.0 && ltb s.place t.place) ≡ earlier s t
-earlier-by-values s t =
+earlier_by_values s t =
     ⊎_elim
     (λ (e : eqb s.command.0 t.command.0 ≡ true).
     let same : s.command.0 ≡ t.command.0 = eqb-true s.command.0 t.command.0 e in
     rw (e, le-ltb s.command.0 t.command.0 (omega arith)))
-    (λ (e : eqb s.command.0 t.command.0 ≡ false). rw e (or-none (ltb s.command.0 t.command.0)))
-    (holds-or-not (eqb s.command.0 t.command.0))
+    (λ (e : eqb s.command.0 t.command.0 ≡ false). rw e (or_none (ltb s.command.0 t.command.0)))
+    (holds_or_not (eqb s.command.0 t.command.0))
   where
-    or-none : (b : Bool) → (b || false) ≡ b
-    or-none true = refl
-    or-none false = refl
+    or_none : (b : Bool) → (b || false) ≡ b
+    or_none true = refl
+    or_none false = refl
 
-pub ranks-by-values : (buy : Bool) (x y : Resting)
+pub ranks_by_values : (buy : Bool) (x y : Resting)
     → (buy && ltb y.price.0 x.price.0 || not buy && ltb x.price.0 y.price.0
     || eqb x.price.0 y.price.0
     && (x.displayed && not y.displayed || (x.displayed || not y.displayed) && earlier x.stamp y.stamp))
-    ≡ ranksBefore buy x y
-unfolding ranksBefore
-ranks-by-values buy x y =
+    ≡ ranks_before buy x y
+unfolding ranks_before
+ranks_by_values buy x y =
     ⊎_elim
     (λ (t : eqb x.price.0 y.price.0 ≡ true).
     let e : x.price.0 ≡ y.price.0 = eqb-true x.price.0 y.price.0 t in
     rw (t, le-ltb y.price.0 x.price.0 (omega arith), le-ltb x.price.0 y.price.0 (omega arith))
-    (at-one-price buy x.displayed y.displayed (earlier x.stamp y.stamp)))
-    (λ (t : eqb x.price.0 y.price.0 ≡ false). rw t (apart-prices buy (ltb y.price.0 x.price.0) (ltb x.price.0 y.price.0)))
-    (holds-or-not (eqb x.price.0 y.price.0))
+    (at_one_price_lem buy x.displayed y.displayed (earlier x.stamp y.stamp)))
+    (λ (t : eqb x.price.0 y.price.0 ≡ false). rw t (apart_prices buy (ltb y.price.0 x.price.0) (ltb x.price.0 y.price.0)))
+    (holds_or_not (eqb x.price.0 y.price.0))
   where
-    at-one-price : (b d e l : Bool) → (b && false || not b && false || true && (d && not e || (d || not e) && l)) ≡ (if not (beq d e) then d else l)
-    at-one-price true true true l = refl
-    at-one-price true true false l = refl
-    at-one-price true false true l = refl
-    at-one-price true false false l = refl
-    at-one-price false true true l = refl
-    at-one-price false true false l = refl
-    at-one-price false false true l = refl
-    at-one-price false false false l = refl
+    at_one_price_lem : (b d e l : Bool) → (b && false || not b && false || true && (d && not e || (d || not e) && l)) ≡ (if not (beq d e) then d else l)
+    at_one_price_lem true true true l = refl
+    at_one_price_lem true true false l = refl
+    at_one_price_lem true false true l = refl
+    at_one_price_lem true false false l = refl
+    at_one_price_lem false true true l = refl
+    at_one_price_lem false true false l = refl
+    at_one_price_lem false false true l = refl
+    at_one_price_lem false false false l = refl
 
-    apart-prices : (b p q : Bool) → (b && p || not b && q || false) ≡ (if b then p else q)
-    apart-prices true true q = refl
-    apart-prices true false q = refl
-    apart-prices false p true = refl
-    apart-prices false p false = refl
+    apart_prices : (b p q : Bool) → (b && p || not b && q || false) ≡ (if b then p else q)
+    apart_prices true true q = refl
+    apart_prices true false q = refl
+    apart_prices false p true = refl
+    apart_prices false p false = refl

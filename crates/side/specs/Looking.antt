@@ -1,6 +1,6 @@
 -- What is looked for on a side: the place of an order that is newer than all that stand there, and where a hint leads.
 use Rattle.std.specs.Prelude.{ℕ, ◌<◌, true, List, ◌≡◌, length}
-use Rattle.basics.specs.Lists.{firstWhere, All}
+use Rattle.basics.specs.Lists.{first_where, All}
 use Rattle.kinds.specs.declared.Number.{Number}
 use Rattle.rules.specs.declared.Resting.{Resting}
 use Rattle.rules.specs.declared.Stamp.{Stamp}
@@ -8,19 +8,19 @@ use Rattle.rules.specs.Book.{earlier}
 use Rattle.rules.specs.Commands.{is_number}
 
 -- a price is below this, so that its level fits a word; it is far above any that a book would hold
-abbrev pub priceBound : ℕ
-priceBound = 2147483648
+abbrev pub price_bound : ℕ
+price_bound = 2147483648
 
 -- an order whose stamp is earlier than this one
 pub record Older (next : Stamp) (h : Resting) : Type 0 where
-  pub priced : h.price.0 < priceBound
+  pub priced : h.price.0 < price_bound
   pub stamped : earlier h.stamp next ≡ true
 
 -- an order is the newest of a side
 pub record Newest (o : Resting) (s : List Resting) : Type 0 where
-  pub priced : o.price.0 < priceBound
+  pub priced : o.price.0 < price_bound
   pub others : All (Older o.stamp) s
 
 -- where a hint leads: nowhere, or to the order of the number
 abbrev pub Hinted : Number → List Resting → ℕ → Type 0
-Hinted number s r = r < length s → r ≡ firstWhere (is_number number) s
+Hinted number s r = r < length s → r ≡ first_where (is_number number) s

@@ -1,34 +1,34 @@
 -- A side of the book in a table of rows and an index: which word of a row is which field, and which rows hold the side, in which order.
 use Rattle.std.specs.Prelude.{ℕ, zero, suc, ◌+◌, ◌-◌, ◌*◌, ◌%◌, ◌≤◌, Bool, true, false, not, List, [], ◌∷◌, map, ◌≡◌, eqb, length, get_or, take}
 use Rattle.basics.specs.Choice.{if◌then◌else◌}
-use Rattle.basics.specs.Lists.{times, insertAt, removeAt}
-use Rattle.kinds.specs.Kinds.{halfCents, shares, number}
+use Rattle.basics.specs.Lists.{times, insert_at, remove_at}
+use Rattle.kinds.specs.Kinds.{half_cents, shares, number}
 use Rattle.rules.specs.declared.Resting.{Resting}
-use Rattle.rules.specs.Book.{placesASide, stamp}
+use Rattle.rules.specs.Book.{places_aSide, stamp}
 
 -- ── A row ──
 
 -- a choice as a word
-abbrev pub flagOf : Bool → ℕ
-flagOf b = if b then 1 else 0
+abbrev pub flag_of : Bool → ℕ
+flag_of b = if b then 1 else 0
 
 -- Price and display in one word, for each side of the market: of two orders the better has the lower one, and two at one price and display
 -- have the same. A price that no book would hold is cut to what a word has room for.
-abbrev pub levelOf : Bool → Resting → ℕ
-levelOf buy o =
+abbrev pub level_of : Bool → Resting → ℕ
+level_of buy o =
     let twice = o.price.0 % 2147483648 * 2 in
-    if buy then 4294967295 - (twice + flagOf o.displayed) else twice + flagOf (not o.displayed)
+    if buy then 4294967295 - (twice + flag_of o.displayed) else twice + flag_of (not o.displayed)
 
 -- an order as a row, and a row as an order
 abbrev pub row_of : Resting → List ℕ
 row_of o =
-    o.number.0 ∷ o.price.0 ∷ o.shares.0 ∷ levelOf true o ∷ levelOf false o ∷ flagOf o.back
+    o.number.0 ∷ o.price.0 ∷ o.shares.0 ∷ level_of true o ∷ level_of false o ∷ flag_of o.back
     ∷ o.stamp.command.0 ∷ o.stamp.place ∷ o.reserve.0 ∷ o.floor.0 ∷ o.minimum.0 ∷ []
 
 abbrev pub order_of : List ℕ → Resting
 order_of r = record {
   number = number (get_or r 0 0);
-  price = halfCents (get_or r 1 0);
+  price = half_cents (get_or r 1 0);
   shares = shares (get_or r 2 0);
   displayed = eqb (get_or r 4 0 % 2) 0;
   back = not (eqb (get_or r 5 0) 0);
@@ -39,8 +39,8 @@ order_of r = record {
 }
 
 -- the level in a row
-abbrev pub levelIn : Bool → List ℕ → ℕ
-levelIn buy r = if buy then get_or r 3 0 else get_or r 4 0
+abbrev pub level_in : Bool → List ℕ → ℕ
+level_in buy r = if buy then get_or r 3 0 else get_or r 4 0
 
 -- the orders that the first n rows hold, as they stand
 abbrev pub loaded : ℕ → List (List ℕ) → List Resting
@@ -52,16 +52,16 @@ loaded n t = map order_of (take n t)
 abbrev pub hints : ℕ
 hints = 4096
 
-abbrev pub indexSize : ℕ
-indexSize = placesASide + 1 + hints
+abbrev pub index_size : ℕ
+index_size = places_aSide + 1 + hints
 
 -- where the hint of an order's number stands
-abbrev pub hintOf : ℕ → ℕ
-hintOf n = placesASide + 1 + n % hints
+abbrev pub hint_of : ℕ → ℕ
+hint_of n = places_aSide + 1 + n % hints
 
 -- a loop over an index passes parts of so many places
-abbrev pub placesAPart : ℕ
-placesAPart = 64
+abbrev pub places_aPart : ℕ
+places_aPart = 64
 
 -- the first n bytes of an index name the rows in use, the best order's last: the rows of the side in rank order
 unfoldable pub ranked : ℕ → List ℕ → List ℕ
@@ -70,7 +70,7 @@ ranked (suc n) x = get_or x n 0 ∷ ranked n x
 
 -- the byte at place `from` of an index comes to stand at place `to`, and those between move one place towards `from`
 abbrev pub rotated : ℕ → ℕ → List ℕ → List ℕ
-rotated from to x = insertAt to (get_or x from 0) (removeAt from x)
+rotated from to x = insert_at to (get_or x from 0) (remove_at from x)
 
 -- the rows that some bytes name
 abbrev pub rows_at : List (List ℕ) → List ℕ → List (List ℕ)
@@ -82,14 +82,14 @@ side n x t = map order_of (rows_at t (ranked n x))
 
 -- the bytes of the places name rows of the table, and none twice: so a row that is not in use is free
 pub record Names (x : List ℕ) : Type 0 where
-  pub long : length x ≡ indexSize
-  pub in_table : (j : ℕ) → placesASide ≤ j → times j (ranked placesASide x) ≡ 0
-  pub once : (j : ℕ) → times j (ranked placesASide x) ≤ 1
+  pub long : length x ≡ index_size
+  pub in_table : (j : ℕ) → places_aSide ≤ j → times j (ranked places_aSide x) ≡ 0
+  pub once : (j : ℕ) → times j (ranked places_aSide x) ≤ 1
 
 -- an index and a table hold a side of n orders, each in a row of its own
 pub record Holds (n : ℕ) (x : List ℕ) (t : List (List ℕ)) : Type 0 where
-  pub fits : n ≤ placesASide
-  pub all : length t ≡ placesASide
+  pub fits : n ≤ places_aSide
+  pub all : length t ≡ places_aSide
   pub names : Names x
   pub words : rows_at t (ranked n x) ≡ map row_of (side n x t)
 

@@ -8,9 +8,9 @@ pub mod tables;
 
 ghost use Rattle.std.specs.Prelude.{true, [], ◌≡◌, ◌≤◌, ◌<◌, max, eqb, ltb, get_or};
 ghost use Rattle.basics.specs.Choice.{if◌then◌else◌};
-ghost use Rattle.basics.specs.Lists.{firstWhere, distinct};
-ghost use Rattle.side.specs.Table.{levelIn, side, Names, Holds};
-ghost use Rattle.rules.specs.Book.{placesASide, unused, numbers, earlier as earlierStamp, ranksBefore, inRankOrder};
+ghost use Rattle.basics.specs.Lists.{first_where, distinct};
+ghost use Rattle.side.specs.Table.{level_in, side, Names, Holds};
+ghost use Rattle.rules.specs.Book.{places_aSide, unused, numbers, earlier as earlierStamp, ranks_before, in_rank_order};
 ghost use Rattle.rules.specs.Commands.{is_number};
 ghost use Rattle.side.specs.Looking.{Newest, Hinted};
 
@@ -32,7 +32,7 @@ fn is_at(x: &Index, t: &Rows, n: usize, i: usize, number: Number) -> bool
 // The rank of the order of a number, or `n` where none has it.
 pub fn find(x: &Index, t: &Rows, n: usize, number: Number) -> usize
     requires { Holds n x.now t.now }
-    ensures { result ≡ firstWhere (is_number number) (side n x.now t.now) }
+    ensures { result ≡ first_where (is_number number) (side n x.now t.now) }
 {
     let mut i = 0;
     while i < n {
@@ -60,7 +60,7 @@ fn greater(a: u8, b: u8) -> u8
 // A place before `n` of an index whose byte names a row, or one that is no earlier than `n`. It looks for it part by part, with no branch
 // on a single byte and one on what a part gave; that it finds the place, if there is one, is not promised.
 fn place_of(x: &Index, n: usize, slot: u8) -> usize
-    requires { n ≤ placesASide }
+    requires { n ≤ places_aSide }
     ensures { result < n → get_or x.now result 0 ≡ slot }
 {
     rows::whole_index(x);
@@ -112,7 +112,7 @@ fn earlier(s: Stamp, t: Stamp) -> bool
 
 // Whether `x` ranks before `y`. By values and not by ways, so that it compiles to no branch.
 pub fn ranks_before(buying: bool, x: Resting, y: Resting) -> bool
-    ensures { result ≡ ranksBefore buying x y }
+    ensures { result ≡ ranks_before buying x y }
 {
     let stamped = earlier(x.stamp, y.stamp);
     let nearer = (buying & (y.price.0 < x.price.0)) | (!buying & (x.price.0 < y.price.0));
@@ -125,8 +125,8 @@ pub fn ranks_before(buying: bool, x: Resting, y: Resting) -> bool
 // 1 where the new order, whose level is `mine`, ranks before the one in the row that place `i` of the index names, else 0. A
 // number and not a choice: the sum of three of them is no branch.
 fn is_passed(x: &Index, t: &Rows, i: usize, buying: bool, mine: u32) -> usize
-    requires { Names x.now × (i < placesASide) }
-    ensures { result ≡ (if ltb mine (levelIn buying (get_or t.now (get_or x.now i 0) [])) then 1 else 0) }
+    requires { Names x.now × (i < places_aSide) }
+    ensures { result ≡ (if ltb mine (level_in buying (get_or t.now (get_or x.now i 0) [])) then 1 else 0) }
 {
     rows::whole_index(x);
     let level = rows::level_at(t, rows::wide(x[i]), buying);
@@ -137,8 +137,8 @@ fn is_passed(x: &Index, t: &Rows, i: usize, buying: bool, mine: u32) -> usize
 // which that place lies twice, by three orders that it looks at together; how many turns there are depends on `n` alone. Of the newest
 // order price and display decide the rank.
 pub(crate) fn place(x: &Index, t: &Rows, n: usize, buying: bool, o: Resting) -> usize
-    requires { Holds n x.now t.now × (inRankOrder buying (side n x.now t.now) ≡ true) × Newest o (side n x.now t.now) }
-    ensures { result ≡ firstWhere (ranksBefore buying o) (side n x.now t.now) }
+    requires { Holds n x.now t.now × (in_rank_order buying (side n x.now t.now) ≡ true) × Newest o (side n x.now t.now) }
+    ensures { result ≡ first_where (ranks_before buying o) (side n x.now t.now) }
 {
     let mine = rows::level_of(o, buying);
     let mut low = 0;

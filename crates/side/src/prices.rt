@@ -1,7 +1,7 @@
 // The prices that both sides of the market go by: whether one is beyond a bound, and the Locking Price (01, How an order is worked).
 ghost use Rattle.std.specs.Prelude.{not, ◌≡◌, ◌≤◌};
 ghost use Rattle.kinds.specs.Kinds.{largest};
-ghost use Rattle.rules.specs.Working.{beyond, lockingPrice};
+ghost use Rattle.rules.specs.Working.{beyond, locking_price};
 
 use kinds::HalfCents;
 use rules::Away;
@@ -14,8 +14,8 @@ pub fn within(buying: bool, bound: HalfCents, price: HalfCents) -> bool
 }
 
 pub fn locking_price(buy: bool, away: Away) -> HalfCents
-    requires { (lockingPrice buy away).0 ≤ largest }
-    ensures { result ≡ lockingPrice buy away }
+    requires { (locking_price buy away).0 ≤ largest }
+    ensures { result ≡ locking_price buy away }
 {
     if buy {
         return away.offer.in_half_cents();

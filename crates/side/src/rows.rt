@@ -3,9 +3,9 @@
 // know which word of a row is which field.
 ghost use Rattle.std.specs.Prelude.{◌≡◌, [], ◌≤◌, ◌<◌, length, get_or, set};
 ghost use Rattle.kinds.specs.Kinds.{shares};
-ghost use Rattle.rules.specs.Book.{placesASide, isUnused, unused, sharesLeft};
+ghost use Rattle.rules.specs.Book.{places_aSide, is_unused, unused, shares_left};
 ghost use Rattle.side.specs.Shifts.{Countable};
-ghost use Rattle.side.specs.Table.{flagOf, levelOf, levelIn, order_of, row_of, hintOf, ranked, side, indexSize, Names, Holds};
+ghost use Rattle.side.specs.Table.{flag_of, level_of, level_in, order_of, row_of, hint_of, ranked, side, index_size, Names, Holds};
 
 use kinds::{HalfCents, Number, Shares};
 use rules::{Resting, Stamp};
@@ -53,7 +53,7 @@ pub const UNUSED: Resting = Resting {
 
 // Whether a record is that of an unused place.
 pub fn is_unused(o: Resting) -> bool
-    ensures { result ≡ isUnused o }
+    ensures { result ≡ is_unused o }
 {
     let stamp = o.stamp;
     (o.number.0 == 0)
@@ -71,7 +71,7 @@ pub fn is_unused(o: Resting) -> bool
 // The shares of an order, shown and in reserve (02, W4).
 pub fn shares_left(o: Resting) -> Shares
     requires { Countable o }
-    ensures { result ≡ shares (sharesLeft o) }
+    ensures { result ≡ shares (shares_left o) }
 {
     Shares(o.shares.0 + o.reserve.0)
 }
@@ -99,14 +99,14 @@ fn order_of(r: [u32; WORDS]) -> Resting
 
 // A choice as a word.
 fn flag(b: bool) -> u32
-    ensures { result ≡ flagOf b }
+    ensures { result ≡ flag_of b }
 {
     if b { 1 } else { 0 }
 }
 
 // Price and display in one word, by which a new order's place is found on a side of the market.
 pub(crate) fn level_of(o: Resting, buying: bool) -> u32
-    ensures { result ≡ levelOf buying o }
+    ensures { result ≡ level_of buying o }
 {
     let twice = o.price.0 % 2147483648 * 2;
     if buying {
@@ -135,7 +135,7 @@ fn row_of(o: Resting) -> [u32; WORDS]
 }
 
 pub fn row(t: &Rows, i: usize) -> Resting
-    requires { i < placesASide }
+    requires { i < places_aSide }
     ensures { result ≡ order_of (get_or t.now i []) }
 {
     let r = t[i];
@@ -144,15 +144,15 @@ pub fn row(t: &Rows, i: usize) -> Resting
 
 // The level of the order in a row.
 pub(crate) fn level_at(t: &Rows, i: usize, buying: bool) -> u32
-    requires { i < placesASide }
-    ensures { result ≡ levelIn buying (get_or t.now i []) }
+    requires { i < places_aSide }
+    ensures { result ≡ level_in buying (get_or t.now i []) }
 {
     let r = t[i];
     if buying { r[3] } else { r[4] }
 }
 
 pub(crate) fn put_row(t: &mut Rows, i: usize, o: Resting)
-    requires { i < placesASide }
+    requires { i < places_aSide }
     ensures { t.new ≡ set t.old i (row_of o) }
 {
     let r = row_of(o);
@@ -170,15 +170,15 @@ pub fn wide(b: u8) -> usize
 
 // Where the hint of an order's number stands in an index.
 pub(crate) fn hint_of(number: Number) -> usize
-    ensures { result ≡ hintOf number.0 }
+    ensures { result ≡ hint_of number.0 }
 {
     PLACES + 1 + (number.0 as usize) % HINTS
 }
 
 // The row of the order at a rank.
 pub(crate) fn slot_at(x: &Index, n: usize, i: usize) -> usize
-    requires { Names x.now × (i < n) × (n ≤ placesASide) }
-    ensures { (result ≡ get_or (ranked n x.now) i 0) × (result < placesASide) }
+    requires { Names x.now × (i < n) × (n ≤ places_aSide) }
+    ensures { (result ≡ get_or (ranked n x.now) i 0) × (result < places_aSide) }
 {
     whole_index(x);
     wide(x[n - 1 - i])
@@ -194,14 +194,14 @@ pub fn at(x: &Index, t: &Rows, n: usize, i: usize) -> Resting
 
 // Does nothing, and tells that a lent table has all its rows: of a lent array the length is known only once a slice is made of it.
 pub fn whole(t: &Rows)
-    ensures { length t.now ≡ placesASide }
+    ensures { length t.now ≡ places_aSide }
 {
     let s: &[[u32; WORDS]] = t;
 }
 
 // The same of an index.
 pub(crate) fn whole_index(x: &Index)
-    ensures { length x.now ≡ indexSize }
+    ensures { length x.now ≡ index_size }
 {
     let s: &[u8] = x;
 }

@@ -1,9 +1,9 @@
 // Orders moved in and out of one side, in place: the index is turned, and the rows stay where they are.
 ghost use Rattle.std.specs.Prelude.{◌&&◌, ◌≡◌, ◌+◌, ◌-◌, ◌≤◌, ◌<◌, min, ltb, leb, get_or, set};
 ghost use Rattle.basics.specs.Choice.{if◌then◌else◌};
-ghost use Rattle.basics.specs.Lists.{insertAt, removeAt};
-ghost use Rattle.side.specs.Table.{placesAPart, rotated, side, Holds, Shows};
-ghost use Rattle.rules.specs.Book.{placesASide, unused};
+ghost use Rattle.basics.specs.Lists.{insert_at, remove_at};
+ghost use Rattle.side.specs.Table.{places_aPart, rotated, side, Holds, Shows};
+ghost use Rattle.rules.specs.Book.{places_aSide, unused};
 ghost use Rattle.side.specs.Shifts.{less_by};
 
 use crate::rows;
@@ -15,7 +15,7 @@ use rules::Resting;
 
 // A place of the index within the part that begins at `part`: 0 where it is no later than that, PART where it is behind the part.
 fn within(place: usize, part: usize) -> u8
-    ensures { result ≡ min (place - part) placesAPart }
+    ensures { result ≡ min (place - part) places_aPart }
 {
     if place <= part {
         return 0;
@@ -33,7 +33,7 @@ fn turned(lo: u8, hi: u8, j: u8, neighbour: u8, own: u8) -> u8
 
 // The byte at place `from` comes to stand at place `to`, which is no later, and those between move one up.
 fn raise(x: &mut Index, from: usize, to: usize)
-    requires { (to ≤ from) × (from < placesASide) }
+    requires { (to ≤ from) × (from < places_aSide) }
     ensures { x.new ≡ rotated from to x.old }
 {
     rows::whole_index(x);
@@ -57,7 +57,7 @@ fn raise(x: &mut Index, from: usize, to: usize)
 
 // The same to a place that is no earlier: those between move one down.
 fn lower(x: &mut Index, from: usize, to: usize)
-    requires { (from ≤ to) × (to < placesASide) }
+    requires { (from ≤ to) × (to < places_aSide) }
     ensures { x.new ≡ rotated from to x.old }
 {
     rows::whole_index(x);
@@ -83,8 +83,8 @@ fn lower(x: &mut Index, from: usize, to: usize)
 
 // The side with one more order, at rank `at`: it takes the first free row.
 pub(crate) fn insert(x: &mut Index, t: &mut Rows, n: usize, at: usize, o: Resting)
-    requires { Holds n x.old t.old × (at ≤ n) × (n < placesASide) }
-    ensures { Shows (insertAt at o (side n x.old t.old)) x.new t.new }
+    requires { Holds n x.old t.old × (at ≤ n) × (n < places_aSide) }
+    ensures { Shows (insert_at at o (side n x.old t.old)) x.new t.new }
 {
     rows::whole_index(x);
     let slot = x[n];
@@ -97,7 +97,7 @@ pub(crate) fn insert(x: &mut Index, t: &mut Rows, n: usize, at: usize, o: Restin
 // The side without the order at rank `at`: its row is free.
 pub fn remove(x: &mut Index, t: &Rows, n: usize, at: usize)
     requires { Holds n x.old t.now × (at < n) }
-    ensures { Shows (removeAt at (side n x.old t.now)) x.new t.now }
+    ensures { Shows (remove_at at (side n x.old t.now)) x.new t.now }
 {
     let last = n - 1;
     lower(x, last - at, last);

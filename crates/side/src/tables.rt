@@ -2,8 +2,8 @@
 // worked. The places of a side are loaded once, and saved once.
 ghost use Rattle.std.specs.Prelude.{[], map, ◌≡◌, ◌≤◌, ◌<◌};
 ghost use Rattle.side.specs.Table.{row_of, side, Holds, Shows};
-ghost use Rattle.rules.specs.Book.{placesASide, places_of};
-ghost use Rattle.side.specs.Tables.{numberedAt, Numbered};
+ghost use Rattle.rules.specs.Book.{places_aSide, places_of};
+ghost use Rattle.side.specs.Tables.{numbered_at, Numbered};
 
 use crate::rows;
 use crate::rows::{Index, PLACES, Rows};
@@ -49,15 +49,15 @@ pub fn load(t: &mut Rows, places: [Resting; PLACES])
 
 // The place at which a byte of a numbered index finds its row: the first `n` rows hold orders, the best in the first row.
 fn numbered(n: usize, i: usize) -> usize
-    requires { (n ≤ placesASide) × (i < placesASide) }
-    ensures { (result ≡ numberedAt n i) × (result < placesASide) }
+    requires { (n ≤ places_aSide) × (i < places_aSide) }
+    ensures { (result ≡ numbered_at n i) × (result < places_aSide) }
 {
     if i < n { n - 1 - i } else { i }
 }
 
 // An index of a side whose orders stand in the first `n` rows, in rank order.
 pub fn number(x: &mut Index, n: usize)
-    requires { n ≤ placesASide }
+    requires { n ≤ places_aSide }
     ensures { Numbered n x.new }
 {
     rows::whole_index(x);

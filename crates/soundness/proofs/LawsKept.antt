@@ -11,13 +11,13 @@ use native.Mathlib.Omega.{arith}
 use borrow.Author.Tests.{le-leb, leb-true, ltb-true, eq-eqb, eqb-true}
 use Rattle.basics.specs.Choice.{if◌then◌else◌}
 use Rattle.basics.specs.Lists.{every, distinct}
-use Rattle.basics.proofs.LawsChoice.{holds-or-not, and_left, and_right}
+use Rattle.basics.proofs.LawsChoice.{holds_or_not, and_left, and_right}
 use Rattle.basics.proofs.LawsLists.{all_alike}
 use Rattle.kinds.specs.declared.Cents.{Cents}
 use Rattle.kinds.specs.declared.Number.{Number}
 use Rattle.kinds.specs.declared.HalfCents.{HalfCents}
-use Rattle.kinds.specs.Kinds.{halvesACent, inHalfCents, restingPriceInRange}
-use Rattle.kinds.proofs.LawsRanges.{price-rests}
+use Rattle.kinds.specs.Kinds.{halves_aCent, in_half_cents, resting_price_in_range}
+use Rattle.kinds.proofs.LawsRanges.{price_rests}
 use Rattle.rules.specs.declared.Away.{Away}
 use Rattle.rules.specs.declared.Body.{Body}
 use Rattle.rules.specs.declared.Body.TheVariants as body
@@ -28,197 +28,197 @@ use Rattle.rules.specs.declared.Order.{Order}
 use Rattle.rules.specs.declared.Reading.{Reading}
 use Rattle.rules.specs.declared.Reading.TheVariants as reading
 use Rattle.rules.specs.declared.Resting.{Resting}
-use Rattle.rules.specs.Book.{Book, BookRecord, fresh, opening, closing, placesASide, stamp, inRankOrder, apart, awayInRange, sound, unused, isUnused, ordersIn, places_of, bookIn, recordOf, placesSound, recordSound}
-use Rattle.rules.specs.CommandLines.{commandIn}
-use Rattle.rules.specs.Commands.{withAccepted, withAway, shut, cancel, quote, carriedOut, does}
-use Rattle.rules.specs.Day.{bookAfter}
-use Rattle.rules.specs.Refusals.{leastRoom, first_of, restsOnFullSide, bodyRefusals, lineRefusals, refusals}
-use Rattle.rules.specs.Settling.{settledSide, firstMove, settled, bothSettled}
-use Rattle.rules.specs.Step.{doneBy, answer, answerTo, step, stepOn}
-use Rattle.rules.specs.Working.{lockingPrice, absent, beyond, reaches, buying, metBy, ending}
-use Rattle.rules.proofs.LawsCommands.{fateBy, IfSet, if-set, set_same, crosses-present, crosses-hidden, crosses-beyond, order-does, close-does}
-use Rattle.rules.proofs.LawsRefusals.{fit-facts}
-use Rattle.soundness.proofs.LawsAccepted.{accepted, AcceptedOrder, accepted-order, accepted-quote}
-use Rattle.soundness.proofs.LawsOrder.{accept-sides}
-use Rattle.soundness.proofs.LawsSettled.{SetSound, LeftSound, SoundFates, sides-settled}
-use Rattle.soundness.proofs.LawsSides.{shownIn, Sides, sides-flip, sides-none, sides-of, buys-sound, sides-sound, later-stamp, sides-later}
-use Rattle.soundness.proofs.LawsSound.{Sound, sound-is, is-sound}
+use Rattle.rules.specs.Book.{Book, BookRecord, fresh, opening, closing, places_aSide, stamp, in_rank_order, apart, away_in_range, sound, unused, is_unused, orders_in, places_of, book_in, record_of, places_sound, record_sound}
+use Rattle.rules.specs.CommandLines.{command_in}
+use Rattle.rules.specs.Commands.{with_accepted, with_away, shut, cancel, quote, carried_out, does}
+use Rattle.rules.specs.Day.{book_after}
+use Rattle.rules.specs.Refusals.{least_room, first_of, rests_on_full_side, body_refusals, line_refusals, refusals}
+use Rattle.rules.specs.Settling.{settled_side, first_move, settled, both_settled}
+use Rattle.rules.specs.Step.{done_by, answer, answer_to, step, step_on}
+use Rattle.rules.specs.Working.{locking_price, absent, beyond, reaches, buying, met_by, ending}
+use Rattle.rules.proofs.LawsCommands.{fate_by, IfSet, if_set, set_same, crosses_present, crosses_hidden, crosses_beyond, order_does, close_does}
+use Rattle.rules.proofs.LawsRefusals.{fit_facts}
+use Rattle.soundness.proofs.LawsAccepted.{accepted, AcceptedOrder, accepted_order, accepted_quote}
+use Rattle.soundness.proofs.LawsOrder.{accept_sides}
+use Rattle.soundness.proofs.LawsSettled.{SetSound, LeftSound, SoundFates, sides_settled}
+use Rattle.soundness.proofs.LawsSides.{shown_in, Sides, sides_flip, sides_none, sides_of, buys_sound, sides_sound, later_stamp, sides_later}
+use Rattle.soundness.proofs.LawsSound.{Sound, sound_is, is_sound_lem}
 
 -- ── The prices of those that are set anew ──
 
 -- both away prices of an accepted quote are in range, and the Locking Price is, where it is there
-pub locking-ranged : (buy : Bool) (away : Away) → (awayInRange away.bid && awayInRange away.offer) ≡ true
-    → awayInRange (if buy then away.offer else away.bid) ≡ true
-locking-ranged true away a = and_right (awayInRange away.bid) (awayInRange away.offer) a
-locking-ranged false away a = and_left (awayInRange away.bid) (awayInRange away.offer) a
+pub locking_ranged : (buy : Bool) (away : Away) → (away_in_range away.bid && away_in_range away.offer) ≡ true
+    → away_in_range (if buy then away.offer else away.bid) ≡ true
+locking_ranged true away a = and_right (away_in_range away.bid) (away_in_range away.offer) a
+locking_ranged false away a = and_left (away_in_range away.bid) (away_in_range away.offer) a
 
-present-ranged : (p : Cents) → awayInRange p ≡ true → absent (inHalfCents p) ≡ false → restingPriceInRange (inHalfCents p) ≡ true
-present-ranged p a e =
+present_ranged : (p : Cents) → away_in_range p ≡ true → absent (in_half_cents p) ≡ false → resting_price_in_range (in_half_cents p) ≡ true
+present_ranged p a e =
     ⊎_elim
     (λ (t : eqb p.0 0 ≡ true).
-    let z : halvesACent * p.0 ≡ 0 = omega (arith, eqb-true p.0 0 t) in
-    absurd (true≢false (sym (eq-eqb (halvesACent * p.0) 0 z) ∙ e)))
-    (λ (t : eqb p.0 0 ≡ false). price-rests p (rw t at a))
-    (holds-or-not (eqb p.0 0))
+    let z : halves_aCent * p.0 ≡ 0 = omega (arith, eqb-true p.0 0 t) in
+    absurd (true≢false (sym (eq-eqb (halves_aCent * p.0) 0 z) ∙ e)))
+    (λ (t : eqb p.0 0 ≡ false). price_rests p (rw t at a))
+    (holds_or_not (eqb p.0 0))
 
 -- a price that is reached is reached from further away
-reaches-further : (buy : Bool) (q near far : HalfCents) → reaches buy q near ≡ true → beyond buy far near ≡ true → reaches buy q far ≡ true
-reaches-further true q near far a b =
+reaches_further : (buy : Bool) (q near far : HalfCents) → reaches buy q near ≡ true → beyond buy far near ≡ true → reaches buy q far ≡ true
+reaches_further true q near far a b =
     let l : near.0 ≤ q.0 = leb-true near.0 q.0 a in let k : far.0 < near.0 = ltb-true far.0 near.0 b in le-leb far.0 q.0 (omega (arith, l, k))
-reaches-further false q near far a b =
+reaches_further false q near far a b =
     let l : q.0 ≤ near.0 = leb-true q.0 near.0 a in let k : near.0 < far.0 = ltb-true near.0 far.0 b in le-leb q.0 far.0 (omega (arith, l, k))
 
 -- so is that of whoever is set at it, which is still apart from the opposite side, for it is less aggressive than before; all else stays
-sound-fates : (b : Book) (c : Body) → first_of (bodyRefusals b c) ≡ 0 → (last : Number) (buy : Bool) → SoundFates shownIn last buy (fateBy c buy)
-sound-fates b c accepted last buy opposite h r apart =
-    left-if-set (fateBy c buy h)
-    (if-set (SetSound buy opposite) c buy h
+sound_fates : (b : Book) (c : Body) → first_of (body_refusals b c) ≡ 0 → (last : Number) (buy : Bool) → SoundFates shown_in last buy (fate_by c buy)
+sound_fates b c accepted last buy opposite h r apart =
+    left_if_set (fate_by c buy h)
+    (if_set (SetSound buy opposite) c buy h
     (λ away is t.
-    let ranged = accepted-quote b away (subst (λ (x : Body). first_of (bodyRefusals b x) ≡ 0) is accepted) in
+    let ranged = accepted_quote b away (subst (λ (x : Body). first_of (body_refusals b x) ≡ 0) is accepted) in
     record {
-      priced = present-ranged (if buy then away.offer else away.bid) (locking-ranged buy away ranged) (crosses-present buy away h t);
-      isApart =
+      priced = present_ranged (if buy then away.offer else away.bid) (locking_ranged buy away ranged) (crosses_present buy away h t);
+      is_apart =
           all_alike
-          (λ o p. rw (crosses-hidden buy away h t)
-          (reaches-further buy o.price h.price (lockingPrice buy away) (rw (crosses-hidden buy away h t) at p) (crosses-beyond buy away h t)))
+          (λ o p. rw (crosses_hidden buy away h t)
+          (reaches_further buy o.price h.price (locking_price buy away) (rw (crosses_hidden buy away h t) at p) (crosses_beyond buy away h t)))
           apart;
       shows = r.holding;
       floored = r.floored;
       least = r.least;
     }))
   where
-    left-if-set : (f : Fate) → IfSet (SetSound buy opposite) f → LeftSound buy opposite h f
-    left-if-set Stays i = r.holding
-    left-if-set (IsCancelled reason) i = tt
-    left-if-set (IsSet new) i = i
+    left_if_set : (f : Fate) → IfSet (SetSound buy opposite) f → LeftSound buy opposite h f
+    left_if_set Stays i = r.holding
+    left_if_set (IsCancelled reason) i = tt
+    left_if_set (IsSet new) i = i
 
 -- ── An accepted command ──
 
-module _ (b : Book) (s : Sound b) (n : Number) (time : ℕ) (next : n.0 ≡ b.held.last.0 + 1) (isOpen : b.held.closed ≡ false)
-    (opened : leb opening time ≡ true) (inTime : leb time closing ≡ true) where
-  accept-sound : (o : Order) → AcceptedOrder b o → Sound (does n time (body.Order o) b).book
-  unfolding restsOnFullSide
-  accept-sound o a =
-      rw (order-does n time b o).0
-      (sides-sound (withAccepted n time b.held) opened inTime s.bid s.offer isOpen (buying o)
-      (accept-sides n o (metBy o b) (sides-of (buying o) b s) next a.isLawful a.carries a.hides a.in_range a.room firstMove
-      (ending o (metBy o b)) refl))
+module _ (b : Book) (s : Sound b) (n : Number) (time : ℕ) (next : n.0 ≡ b.held.last.0 + 1) (is_open : b.held.closed ≡ false)
+    (opened : leb opening time ≡ true) (in_time : leb time closing ≡ true) where
+  accept_sound : (o : Order) → AcceptedOrder b o → Sound (does n time (body.Order o) b).book
+  unfolding rests_on_full_side
+  accept_sound o a =
+      rw (order_does n time b o).0
+      (sides_sound (with_accepted n time b.held) opened in_time s.bid s.offer is_open (buying o)
+      (accept_sides n o (met_by o b) (sides_of (buying o) b s) next a.is_lawful a.carries a.hides a.in_range a.room first_move
+      (ending o (met_by o b)) refl))
 
   -- both sides, settled by the fates of a command
-  both-sides : (c : Body) → first_of (bodyRefusals b c) ≡ 0 → (k : ℕ)
-      → Sides false n (settledSide n k false (fateBy c false) b.sells) (settledSide n firstMove true (fateBy c true) b.buys)
-  both-sides c accepted k =
-      let sides = sides-of true b s in
+  both_sides_lem : (c : Body) → first_of (body_refusals b c) ≡ 0 → (k : ℕ)
+      → Sides false n (settled_side n k false (fate_by c false) b.sells) (settled_side n first_move true (fate_by c true) b.buys)
+  both_sides_lem c accepted k =
+      let sides = sides_of true b s in
       let above : b.held.last.0 < n.0 = omega (arith, next) in
-      let fates = sound-fates b c accepted n in
-      let new = later-stamp (stamp n firstMove) above sides.ownInRange in
-      let buys = sides-settled n firstMove (fateBy c true) (set_same c true) (fates true) new (sides-later sides (omega (arith, above))) in
-      sides-settled n k (fateBy c false) (set_same c false) (fates false) (later-stamp (stamp n k) above sides.oppositeInRange) (sides-flip true buys)
+      let fates = sound_fates b c accepted n in
+      let new = later_stamp (stamp n first_move) above sides.own_in_range in
+      let buys = sides_settled n first_move (fate_by c true) (set_same c true) (fates true) new (sides_later sides (omega (arith, above))) in
+      sides_settled n k (fate_by c false) (set_same c false) (fates false) (later_stamp (stamp n k) above sides.opposite_in_range) (sides_flip true buys)
 
-  cancel-sound : (of : Number) → first_of (bodyRefusals b (body.Cancel of)) ≡ 0 → Sound (does n time (body.Cancel of) b).book
-  unfolding does carriedOut cancel bothSettled settled
-  cancel-sound of accepted =
-      sides-sound (withAccepted n time b.held) opened inTime s.bid s.offer isOpen false (both-sides (body.Cancel of) accepted _)
+  cancel_sound : (of : Number) → first_of (body_refusals b (body.Cancel of)) ≡ 0 → Sound (does n time (body.Cancel of) b).book
+  unfolding does carried_out cancel both_settled settled
+  cancel_sound of accepted =
+      sides_sound (with_accepted n time b.held) opened in_time s.bid s.offer is_open false (both_sides_lem (body.Cancel of) accepted _)
 
-  quote-sound : (away : Away) → first_of (bodyRefusals b (body.Quote away)) ≡ 0 → Sound (does n time (body.Quote away) b).book
-  unfolding does carriedOut quote bothSettled settled
-  quote-sound away accepted =
-      let ranged = accepted-quote b away accepted in
-      let held = withAway away (withAccepted n time b.held) in
-      sides-sound held opened inTime (locking-ranged false away ranged) (locking-ranged true away ranged) isOpen false (both-sides (body.Quote away) accepted _)
+  quote_sound : (away : Away) → first_of (body_refusals b (body.Quote away)) ≡ 0 → Sound (does n time (body.Quote away) b).book
+  unfolding does carried_out quote both_settled settled
+  quote_sound away accepted =
+      let ranged = accepted_quote b away accepted in
+      let held = with_away away (with_accepted n time b.held) in
+      sides_sound held opened in_time (locking_ranged false away ranged) (locking_ranged true away ranged) is_open false (both_sides_lem (body.Quote away) accepted _)
 
-  close-sound : Sound (does n time body.Close b).book
-  close-sound = rw (close-does n time b).0 (buys-sound (shut (withAccepted n time b.held)) opened inTime s.bid s.offer refl (sides-none n))
+  close_sound : Sound (does n time body.Close b).book
+  close_sound = rw (close_does n time b).0 (buys_sound (shut (with_accepted n time b.held)) opened in_time s.bid s.offer refl (sides_none n))
 
-  body-sound : (c : Body) → first_of (bodyRefusals b c) ≡ 0 → Sound (does n time c b).book
-  body-sound (body.Order o) e = accept-sound o (accepted-order b o e)
-  body-sound (body.Cancel of) e = cancel-sound of e
-  body-sound (body.Quote away) e = quote-sound away e
-  body-sound body.Close e = close-sound
+  body_sound : (c : Body) → first_of (body_refusals b c) ≡ 0 → Sound (does n time c b).book
+  body_sound (body.Order o) e = accept_sound o (accepted_order b o e)
+  body_sound (body.Cancel of) e = cancel_sound of e
+  body_sound (body.Quote away) e = quote_sound away e
+  body_sound body.Close e = close_sound
 
-pub does-sound : (b : Book) (c : Command) → sound b ≡ true → first_of (lineRefusals b (reading.Is c)) ≡ 0 → sound (does c.number c.time c.body b).book ≡ true
-does-sound b c s e =
+pub does_sound : (b : Book) (c : Command) → sound b ≡ true → first_of (line_refusals b (reading.Is c)) ≡ 0 → sound (does c.number c.time c.body b).book ≡ true
+does_sound b c s e =
     let a = accepted b c e in
-    is-sound (does c.number c.time c.body b).book (body-sound b (sound-is b s) c.number c.time a.next a.isOpen a.opened a.inTime c.body a.byBody)
+    is_sound_lem (does c.number c.time c.body b).book (body_sound b (sound_is b s) c.number c.time a.next a.is_open a.opened a.in_time c.body a.by_body)
 
 -- ── Any line ──
 
-done-sound : (b : Book) (r : Reading) → sound b ≡ true → first_of (lineRefusals b r) ≡ 0 → sound (doneBy r b).book ≡ true
-unfolding doneBy
-done-sound b reading.Bad s e = s
-done-sound b (reading.Is c) s e = does-sound b c s e
+done_sound : (b : Book) (r : Reading) → sound b ≡ true → first_of (line_refusals b r) ≡ 0 → sound (done_by r b).book ≡ true
+unfolding done_by
+done_sound b reading.Bad s e = s
+done_sound b (reading.Is c) s e = does_sound b c s e
 
-answer-kept : (b : Book) (r : Reading) (refusal : ℕ) → sound b ≡ true → (refusal ≡ 0 → first_of (lineRefusals b r) ≡ 0) → sound (answer refusal r b).book ≡ true
+answer_kept : (b : Book) (r : Reading) (refusal : ℕ) → sound b ≡ true → (refusal ≡ 0 → first_of (line_refusals b r) ≡ 0) → sound (answer refusal r b).book ≡ true
 unfolding answer
-answer-kept b r refusal s f =
+answer_kept b r refusal s f =
     ⊎_elim
-    (λ (t : eqb refusal 0 ≡ true). rw t (done-sound b r s (f (eqb-true refusal 0 t))))
+    (λ (t : eqb refusal 0 ≡ true). rw t (done_sound b r s (f (eqb-true refusal 0 t))))
     (λ (t : eqb refusal 0 ≡ false). rw t s)
-    (holds-or-not (eqb refusal 0))
+    (holds_or_not (eqb refusal 0))
 
 -- what the whole table does not refuse, the line's own part of it does not
-line-accepted : (room : ℕ) (bookSound : Bool) (b : Book) (r : Reading) → first_of (refusals room bookSound b r) ≡ 0 → first_of (lineRefusals b r) ≡ 0
+line_accepted : (room : ℕ) (book_sound : Bool) (b : Book) (r : Reading) → first_of (refusals room book_sound b r) ≡ 0 → first_of (line_refusals b r) ≡ 0
 unfolding refusals
-line-accepted room bookSound b r e =
-    (fit-facts room bookSound (lineRefusals b r) e).2
+line_accepted room book_sound b r e =
+    (fit_facts room book_sound (line_refusals b r) e).2
 
-pub answer-sound : (b : Book) (line : List ℕ) → sound b ≡ true → sound (answerTo b line).book ≡ true
-unfolding answerTo
-answer-sound b line s =
-    answer-kept b (commandIn line) (first_of (refusals leastRoom true b (commandIn line))) s (line-accepted leastRoom true b (commandIn line))
+pub answer_sound : (b : Book) (line : List ℕ) → sound b ≡ true → sound (answer_to b line).book ≡ true
+unfolding answer_to
+answer_sound b line s =
+    answer_kept b (command_in line) (first_of (refusals least_room true b (command_in line))) s (line_accepted least_room true b (command_in line))
 
 -- ── A day ──
 
-pub fresh-sound : sound fresh ≡ true
-unfolding sound every distinct inRankOrder apart
-fresh-sound = refl
+pub fresh_sound : sound fresh ≡ true
+unfolding sound every distinct in_rank_order apart
+fresh_sound = refl
 
-pub after-sound : (b : Book) (lines : List (List ℕ)) → sound b ≡ true → sound (bookAfter b lines) ≡ true
-unfolding bookAfter
-after-sound b [] s = s
-after-sound b (line ∷ lines) s = after-sound (answerTo b line).book lines (answer-sound b line s)
+pub after_sound : (b : Book) (lines : List (List ℕ)) → sound b ≡ true → sound (book_after b lines) ≡ true
+unfolding book_after
+after_sound b [] s = s
+after_sound b (line ∷ lines) s = after_sound (answer_to b line).book lines (answer_sound b line s)
 
 -- ── The record that is lent and handed back ──
 
 -- the places of a side hold its orders, and no others
-orders-places : (s : List Resting) → ordersIn (places_of s) ≡ s
+orders_places : (s : List Resting) → orders_in (places_of s) ≡ s
 unfolding places_of
-orders-places s = take-append_seam s (replicate (placesASide - length s) unused)
+orders_places s = take-append_seam s (replicate (places_aSide - length s) unused)
 
-pub book-record : (b : Book) → bookIn (recordOf b) ≡ b
-unfolding bookIn recordOf
-book-record b = rw (orders-places b.buys, orders-places b.sells)
+pub book_record : (b : Book) → book_in (record_of b) ≡ b
+unfolding book_in record_of
+book_record b = rw (orders_places b.buys, orders_places b.sells)
 
-every-unused : (n : ℕ) → every isUnused (replicate n unused) ≡ true
+every_unused : (n : ℕ) → every is_unused (replicate n unused) ≡ true
 unfolding every
-every-unused zero = refl
-every-unused (suc n) = every-unused n
+every_unused zero = refl
+every_unused (suc n) = every_unused n
 
-places-sound : (s : List Resting) → length s ≤ placesASide → placesSound (places_of s) ≡ true
+places_sound_lem : (s : List Resting) → length s ≤ places_aSide → places_sound (places_of s) ≡ true
 unfolding places_of
-places-sound s l =
-    let unusedPlaces = replicate (placesASide - length s) unused in
-    let all : length (s ++ unusedPlaces) ≡ placesASide = simp (length-append, length-replicate) (omega arith) in
-    rw (le-leb (length s) placesASide l, eq-eqb (length (s ++ unusedPlaces)) placesASide all, drop-append_seam s unusedPlaces) (every-unused (placesASide - length s))
+places_sound_lem s l =
+    let unused_places = replicate (places_aSide - length s) unused in
+    let all : length (s ++ unused_places) ≡ places_aSide = simp (length-append, length-replicate) (omega arith) in
+    rw (le-leb (length s) places_aSide l, eq-eqb (length (s ++ unused_places)) places_aSide all, drop-append_seam s unused_places) (every_unused (places_aSide - length s))
 
-pub record-sound : (b : Book) → sound b ≡ true → recordSound (recordOf b) ≡ true
-unfolding recordSound recordOf
-record-sound b s =
-    let facts = sound-is b s in
-    rw (places-sound b.buys facts.buysFit, places-sound b.sells facts.sellsFit, book-record b) s
+pub record_sound_lem : (b : Book) → sound b ≡ true → record_sound (record_of b) ≡ true
+unfolding record_sound record_of
+record_sound_lem b s =
+    let facts = sound_is b s in
+    rw (places_sound_lem b.buys facts.buys_fit, places_sound_lem b.sells facts.sells_fit, book_record b) s
 
-step_kept : (r : BookRecord) (a : Reading) (refusal : ℕ) → recordSound r ≡ true → (refusal ≡ 0 → first_of (lineRefusals (bookIn r) a) ≡ 0)
-    → recordSound (if eqb refusal 0 then recordOf (answer refusal a (bookIn r)).book else r) ≡ true
-unfolding recordSound
+step_kept : (r : BookRecord) (a : Reading) (refusal : ℕ) → record_sound r ≡ true → (refusal ≡ 0 → first_of (line_refusals (book_in r) a) ≡ 0)
+    → record_sound (if eqb refusal 0 then record_of (answer refusal a (book_in r)).book else r) ≡ true
+unfolding record_sound
 step_kept r a refusal s f =
     ⊎_elim
     (λ (t : eqb refusal 0 ≡ true).
-    let held : sound (bookIn r) ≡ true = and_right (placesSound r.buys && placesSound r.sells) (sound (bookIn r)) s in
-    rw t (record-sound (answer refusal a (bookIn r)).book (answer-kept (bookIn r) a refusal held f)))
+    let held : sound (book_in r) ≡ true = and_right (places_sound r.buys && places_sound r.sells) (sound (book_in r)) s in
+    rw t (record_sound_lem (answer refusal a (book_in r)).book (answer_kept (book_in r) a refusal held f)))
     (λ (t : eqb refusal 0 ≡ false). rw t s)
-    (holds-or-not (eqb refusal 0))
+    (holds_or_not (eqb refusal 0))
 
-pub step-sound : (r : BookRecord) (line out : List ℕ) → recordSound r ≡ true → recordSound (step r line out).book ≡ true
-unfolding step stepOn
-step-sound r line out s =
-    step_kept r (commandIn line) (first_of (refusals (length out) (recordSound r) (bookIn r) (commandIn line))) s (line-accepted (length out) (recordSound r) (bookIn r) (commandIn line))
+pub step_sound : (r : BookRecord) (line out : List ℕ) → record_sound r ≡ true → record_sound (step r line out).book ≡ true
+unfolding step step_on
+step_sound r line out s =
+    step_kept r (command_in line) (first_of (refusals (length out) (record_sound r) (book_in r) (command_in line))) s (line_accepted (length out) (record_sound r) (book_in r) (command_in line))

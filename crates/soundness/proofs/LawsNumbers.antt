@@ -10,53 +10,53 @@ use native.Mathlib.Omega.{arith}
 use borrow.Author.Tests.{eq-eqb, eqb-true, not-true}
 use Rattle.basics.specs.Choice.{if◌then◌else◌}
 use Rattle.basics.specs.Lists.{any, distinct, sum_of}
-use Rattle.basics.proofs.LawsChoice.{holds-or-not, and_left, and_right, or-neither}
+use Rattle.basics.proofs.LawsChoice.{holds_or_not, and_left, and_right, or_neither}
 use Rattle.rules.specs.declared.Resting.{Resting}
 use Rattle.rules.specs.Book.{numbers}
 
 -- how often a number stands on orders
-abbrev pub oneIf : ℕ → Resting → ℕ
-oneIf n h = if eqb n h.number.0 then 1 else 0
+abbrev pub one_if : ℕ → Resting → ℕ
+one_if n h = if eqb n h.number.0 then 1 else 0
 
-abbrev pub timesIn : ℕ → List Resting → ℕ
-timesIn n s = sum_of (oneIf n) s
+abbrev pub times_in : ℕ → List Resting → ℕ
+times_in n s = sum_of (one_if n) s
 
-pub not-among-times : (n : ℕ) (s : List Resting) → any (eqb n) (numbers s) ≡ false → timesIn n s ≡ 0
+pub not_among_times : (n : ℕ) (s : List Resting) → any (eqb n) (numbers s) ≡ false → times_in n s ≡ 0
 unfolding any sum_of
-not-among-times n [] e = refl
-not-among-times n (h ∷ s) e =
-    let both = or-neither (eqb n h.number.0) (any (eqb n) (numbers s)) e in
-    rw both.0 (omega (arith, not-among-times n s both.1))
+not_among_times n [] e = refl
+not_among_times n (h ∷ s) e =
+    let both = or_neither (eqb n h.number.0) (any (eqb n) (numbers s)) e in
+    rw both.0 (omega (arith, not_among_times n s both.1))
 
-times-not-among : (n : ℕ) (s : List Resting) → timesIn n s ≡ 0 → any (eqb n) (numbers s) ≡ false
+times_not_among : (n : ℕ) (s : List Resting) → times_in n s ≡ 0 → any (eqb n) (numbers s) ≡ false
 unfolding any sum_of
-times-not-among n [] e = refl
-times-not-among n (h ∷ s) e =
+times_not_among n [] e = refl
+times_not_among n (h ∷ s) e =
     ⊎_elim
     (λ (t : eqb n h.number.0 ≡ true). let z : ⊥ = omega (arith, rw t at e) in absurd z)
-    (λ (t : eqb n h.number.0 ≡ false). rw t (times-not-among n s (omega (arith, rw t at e))))
-    (holds-or-not (eqb n h.number.0))
+    (λ (t : eqb n h.number.0 ≡ false). rw t (times_not_among n s (omega (arith, rw t at e))))
+    (holds_or_not (eqb n h.number.0))
 
-pub times-at-most : (s : List Resting) → distinct (numbers s) ≡ true → (n : ℕ) → timesIn n s ≤ 1
+pub times_at_most : (s : List Resting) → distinct (numbers s) ≡ true → (n : ℕ) → times_in n s ≤ 1
 unfolding distinct sum_of
-times-at-most [] d n = omega arith
-times-at-most (h ∷ s) d n =
+times_at_most [] d n = omega arith
+times_at_most (h ∷ s) d n =
     let others = not-true (any (eqb h.number.0) (numbers s)) (and_left (not (any (eqb h.number.0) (numbers s))) (distinct (numbers s)) d) in
     ⊎_elim
     (λ (t : eqb n h.number.0 ≡ true).
     let e : n ≡ h.number.0 = eqb-true n h.number.0 t in
-    rw t (omega (arith, not-among-times n s (rw e others))))
+    rw t (omega (arith, not_among_times n s (rw e others))))
     (λ (t : eqb n h.number.0 ≡ false).
-    rw t (omega (arith, times-at-most s (and_right (not (any (eqb h.number.0) (numbers s))) (distinct (numbers s)) d) n)))
-    (holds-or-not (eqb n h.number.0))
+    rw t (omega (arith, times_at_most s (and_right (not (any (eqb h.number.0) (numbers s))) (distinct (numbers s)) d) n)))
+    (holds_or_not (eqb n h.number.0))
 
-pub at-most-times : (s : List Resting) → ((n : ℕ) → timesIn n s ≤ 1) → distinct (numbers s) ≡ true
+pub at_most_times : (s : List Resting) → ((n : ℕ) → times_in n s ≤ 1) → distinct (numbers s) ≡ true
 unfolding distinct sum_of
-at-most-times [] once = refl
-at-most-times (h ∷ s) once =
+at_most_times [] once = refl
+at_most_times (h ∷ s) once =
     let itself = eq-eqb h.number.0 h.number.0 refl in
-    rw (times-not-among h.number.0 s (omega (arith, rw itself at (once h.number.0))))
-    (at-most-times s (λ n. omega (arith, once n)))
+    rw (times_not_among h.number.0 s (omega (arith, rw itself at (once h.number.0))))
+    (at_most_times s (λ n. omega (arith, once n)))
 
-pub fewer-distinct : (s r : List Resting) → ((n : ℕ) → timesIn n r ≤ timesIn n s) → distinct (numbers s) ≡ true → distinct (numbers r) ≡ true
-fewer-distinct s r fewer d = at-most-times r (λ n. omega (arith, fewer n, times-at-most s d n))
+pub fewer_distinct : (s r : List Resting) → ((n : ℕ) → times_in n r ≤ times_in n s) → distinct (numbers s) ≡ true → distinct (numbers r) ≡ true
+fewer_distinct s r fewer d = at_most_times r (λ n. omega (arith, fewer n, times_at_most s d n))

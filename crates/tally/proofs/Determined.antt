@@ -7,11 +7,11 @@ use Rattle.tally.proofs.begin.Reads as begin
 use Rattle.tally.proofs.take_line.Reads as take
 use Rattle.tally.proofs.feed.Reads as feed
 
-pub begin-determined : (κs : _) (a : _) (r r' : Tally) (s s' : _) → begin.Post κs a r s → begin.Post κs a r' s' → r ≡ r'
-begin-determined κs a r r' s s' p q = p ∙ sym q
+pub begin_determined : (κs : _) (a : _) (r r' : Tally) (s s' : _) → begin.Post κs a r s → begin.Post κs a r' s' → r ≡ r'
+begin_determined κs a r r' s s' p q = p ∙ sym q
 
-pub take-line-determined : (κs : _) (a : _) (r r' : Tally) (s s' : _) → take.Post κs a r s → take.Post κs a r' s' → r ≡ r'
-take-line-determined κs a r r' s s' p q = p ∙ sym q
+pub take_line_determined : (κs : _) (a : _) (r r' : Tally) (s s' : _) → take.Post κs a r s → take.Post κs a r' s' → r ≡ r'
+take_line_determined κs a r r' s s' p q = p ∙ sym q
 
-pub feed-determined : (κs : _) (a : _) (r r' : TalliedPiece) (s s' : _) → feed.Post κs a r s → feed.Post κs a r' s' → r ≡ r'
-feed-determined κs a r r' s s' p q = p ∙ sym q
+pub feed_determined : (κs : _) (a : _) (r r' : TalliedPiece) (s s' : _) → feed.Post κs a r s → feed.Post κs a r' s' → r ≡ r'
+feed_determined κs a r r' s s' p q = p ∙ sym q

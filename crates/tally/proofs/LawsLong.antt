@@ -13,58 +13,58 @@ use Rattle.digits.specs.declared.Value.{Value}
 use Rattle.digits.specs.declared.Value.TheVariants as value
 use Rattle.digits.specs.Digits.{number_in, number_at}
 use Rattle.kinds.specs.declared.Number.{Number}
-use Rattle.command_lines.specs.Pieces.{partKept, all_of}
-use Rattle.command_lines.proofs.lines.LawsPieces.{cut-alike}
+use Rattle.command_lines.specs.Pieces.{part_kept, all_of}
+use Rattle.command_lines.proofs.lines.LawsPieces.{cut_alike}
 use Rattle.rules.specs.declared.EventReading.{EventReading}
 use Rattle.rules.specs.declared.EventReading.TheVariants.{UnknownKind, TrailingBytes}
-use Rattle.rules.specs.CommandLines.{Making, digitsIn}
-use Rattle.rules.specs.EventLines.{executedKind, restedKind, cancelledKind, moved_kind, executedFields, restedFields, cancelledFields, movedFields, withKind}
-use Rattle.rules.specs.EventReading.{executedOf, restedOf, cancelledOf, movedOf, of_fields, ofKind, eventIn}
+use Rattle.rules.specs.CommandLines.{Making, digits_in}
+use Rattle.rules.specs.EventLines.{executed_kind, rested_kind, cancelled_kind, moved_kind, executed_fields, rested_fields, cancelled_fields, moved_fields, with_kind}
+use Rattle.rules.specs.EventReading.{executed_of, rested_of, cancelled_of, moved_of, of_fields, of_kind, event_in}
 use Rattle.tally.specs.declared.Tally.{Tally}
-use Rattle.tally.specs.Tally.{noneCounted, goingOn, turn, tally_of, tallyOfPieces}
+use Rattle.tally.specs.Tally.{none_counted, going_on, turn, tally_of, tally_of_pieces}
 
 -- what a line is read as that is longer than every event line
-readLong : Value → EventReading
-readLong (value.Is kind) =
-    if eqb kind executedKind then TrailingBytes
-    else if eqb kind restedKind then TrailingBytes
-    else if eqb kind cancelledKind then TrailingBytes
+read_long : Value → EventReading
+read_long (value.Is kind) =
+    if eqb kind executed_kind then TrailingBytes
+    else if eqb kind rested_kind then TrailingBytes
+    else if eqb kind cancelled_kind then TrailingBytes
     else if eqb kind moved_kind then TrailingBytes
     else UnknownKind
-readLong value.Bad = UnknownKind
+read_long value.Bad = UnknownKind
 
-fields-long : (fields : List ℕ) (make : Making fields EventReading) (s : List ℕ) → digitsIn (withKind fields) + 1 < length s → of_fields fields make s ≡ TrailingBytes
+fields_long : (fields : List ℕ) (make : Making fields EventReading) (s : List ℕ) → digits_in (with_kind fields) + 1 < length s → of_fields fields make s ≡ TrailingBytes
 unfolding of_fields
-fields-long fields make s l =
-    let n = digitsIn (withKind fields) + 1 in
+fields_long fields make s l =
+    let n = digits_in (with_kind fields) + 1 in
     rw (le-ltb (length s) n (omega (arith, l)), lt-ltb n (length s) l) refl
 
-kind-long : (v : Value) (s : List ℕ) → 36 ≤ length s → ofKind v s ≡ readLong v
-unfolding ofKind readLong
-kind-long (value.Is kind) s l =
+kind_long : (v : Value) (s : List ℕ) → 36 ≤ length s → of_kind v s ≡ read_long v
+unfolding of_kind read_long
+kind_long (value.Is kind) s l =
     rw (
-      fields-long executedFields executedOf s (omega (arith, l)),
-      fields-long restedFields restedOf s (omega (arith, l)),
-      fields-long cancelledFields cancelledOf s (omega (arith, l)),
-      fields-long movedFields movedOf s (omega (arith, l)),
+      fields_long executed_fields executed_of s (omega (arith, l)),
+      fields_long rested_fields rested_of s (omega (arith, l)),
+      fields_long cancelled_fields cancelled_of s (omega (arith, l)),
+      fields_long moved_fields moved_of s (omega (arith, l)),
     ) refl
-kind-long value.Bad s l = refl
+kind_long value.Bad s l = refl
 
-event-long : (s : List ℕ) → 36 ≤ length s → eventIn s ≡ readLong (number_at 1 0 s)
-unfolding eventIn
-event-long s l = rw (le-ltb (length s) 2 (omega (arith, l))) (kind-long (number_at 1 0 s) s l)
+event_long : (s : List ℕ) → 36 ≤ length s → event_in s ≡ read_long (number_at 1 0 s)
+unfolding event_in
+event_long s l = rw (le-ltb (length s) 2 (omega (arith, l))) (kind_long (number_at 1 0 s) s l)
 
 -- the first two bytes are those of the beginning
-kind-kept : (kept : ℕ) (s : List ℕ) → 36 ≤ kept → number_at 1 0 s ≡ number_in 1 (take 2 (take kept s))
-kind-kept kept s l = ap (number_in 1) (sym (take-take 2 kept s (omega (arith, l))))
+kind_kept : (kept : ℕ) (s : List ℕ) → 36 ≤ kept → number_at 1 0 s ≡ number_in 1 (take 2 (take kept s))
+kind_kept kept s l = ap (number_in 1) (sym (take-take 2 kept s (omega (arith, l))))
 
-pub long-alike : (kept : ℕ) → 36 ≤ kept → (n : Number) (t : Tally) (p q : List ℕ) → kept ≤ length p → kept ≤ length q → take kept p ≡ take kept q → turn n t p ≡ turn n t q
-unfolding turn goingOn
-long-alike kept least n t p q l m e =
-    let k : number_at 1 0 p ≡ number_at 1 0 q = kind-kept kept p least ∙ ap (λ (s : List ℕ). number_in 1 (take 2 s)) e ∙ sym (kind-kept kept q least) in
-    rw (event-long p (omega (arith, least, l)), event-long q (omega (arith, least, m)), k) refl
+pub long_alike : (kept : ℕ) → 36 ≤ kept → (n : Number) (t : Tally) (p q : List ℕ) → kept ≤ length p → kept ≤ length q → take kept p ≡ take kept q → turn n t p ≡ turn n t q
+unfolding turn going_on
+long_alike kept least n t p q l m e =
+    let k : number_at 1 0 p ≡ number_at 1 0 q = kind_kept kept p least ∙ ap (λ (s : List ℕ). number_in 1 (take 2 s)) e ∙ sym (kind_kept kept q least) in
+    rw (event_long p (omega (arith, least, l)), event_long q (omega (arith, least, m)), k) refl
 
 -- so the tally of an output is the same wherever it is cut
-pub tally-cut : (n : Number) (pieces : List (List ℕ)) → tallyOfPieces n pieces ≡ tally_of n (all_of pieces)
-unfolding tallyOfPieces tally_of
-tally-cut n pieces = cut-alike (turn n) partKept (omega arith) (long-alike partKept (omega arith) n) noneCounted pieces
+pub tally_cut : (n : Number) (pieces : List (List ℕ)) → tally_of_pieces n pieces ≡ tally_of n (all_of pieces)
+unfolding tally_of_pieces tally_of
+tally_cut n pieces = cut_alike (turn n) part_kept (omega arith) (long_alike part_kept (omega arith) n) none_counted pieces

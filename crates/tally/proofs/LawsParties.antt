@@ -9,7 +9,7 @@ use lib.Dec.{eqb}
 use native.Mathlib.Omega.{arith}
 use borrow.Author.Tests.{ne_eqb, eqb-true}
 use Rattle.basics.specs.Lists.{sum_of, All, none, also}
-use Rattle.basics.proofs.LawsChoice.{holds-or-not}
+use Rattle.basics.proofs.LawsChoice.{holds_or_not}
 use Rattle.basics.proofs.LawsLists.{all_alike, all_both, one_of_all}
 use Rattle.kinds.specs.declared.HalfCents.{HalfCents}
 use Rattle.kinds.specs.declared.Number.{Number}
@@ -22,22 +22,22 @@ use Rattle.rules.specs.declared.Reading.{Reading}
 use Rattle.rules.specs.declared.Reading.TheVariants as reading
 use Rattle.rules.specs.declared.Resting.{Resting}
 use Rattle.rules.specs.Book.{Book, sound}
-use Rattle.rules.specs.CommandLines.{commandIn}
+use Rattle.rules.specs.CommandLines.{command_in}
 use Rattle.rules.specs.Commands.{does}
 use Rattle.rules.specs.Holdings.{Holding, executions, after}
-use Rattle.rules.specs.Settling.{oppositeSide}
-use Rattle.rules.specs.Step.{doneBy, answer, answerTo}
-use Rattle.rules.specs.Working.{buying, metBy, executionPrice, takings, remainder, ending}
-use Rattle.rules.proofs.LawsCommands.{order-does, does-tells}
-use Rattle.rules.proofs.LawsWalkOrder.{holdings-there}
-use Rattle.soundness.proofs.LawsSides.{sides-of}
-use Rattle.soundness.proofs.LawsSound.{sound-is}
-use Rattle.demands.specs.Once.{commandNumber, acts}
-use Rattle.demands.specs.Told.{executedBy}
-use Rattle.demands.proofs.LawsFairly.{every-told, every-last}
-use Rattle.demands.proofs.LawsLinesTell.{every-refill}
-use Rattle.demands.proofs.LawsOnce.{next-acts}
-use Rattle.tally.specs.Tally.{executedShares}
+use Rattle.rules.specs.Settling.{opposite_side}
+use Rattle.rules.specs.Step.{done_by, answer, answer_to}
+use Rattle.rules.specs.Working.{buying, met_by, execution_price, takings, remainder, ending}
+use Rattle.rules.proofs.LawsCommands.{order_does, does_tells}
+use Rattle.rules.proofs.LawsWalkOrder.{holdings_there}
+use Rattle.soundness.proofs.LawsSides.{sides_of}
+use Rattle.soundness.proofs.LawsSound.{sound_is}
+use Rattle.demands.specs.Once.{command_number, acts}
+use Rattle.demands.specs.Told.{executed_by}
+use Rattle.demands.proofs.LawsFairly.{every_told, every_last}
+use Rattle.demands.proofs.LawsLinesTell.{every_refill}
+use Rattle.demands.proofs.LawsOnce.{next_acts}
+use Rattle.tally.specs.Tally.{executed_shares}
 
 abbrev pub TwoParties : Event → Type 0
 TwoParties (Executed incoming resting price shares) = incoming.0 ≢ resting.0
@@ -47,59 +47,59 @@ TwoParties (Moved number price shares) = Unit {0}
 
 -- ── Counted once, and once for each role ──
 
-same-shares : (n : Number) (e : Event) → TwoParties e → executedShares n e ≡ executedBy n e
-same-shares n (Executed incoming resting price shares) two =
+same_shares : (n : Number) (e : Event) → TwoParties e → executed_shares n e ≡ executed_by n e
+same_shares n (Executed incoming resting price shares) two =
     ⊎_elim
     (λ (t : eqb n.0 incoming.0 ≡ true).
     let e = eqb-true n.0 incoming.0 t in
     rw (t, ne_eqb n.0 resting.0 (λ z. two (sym e ∙ z))) (omega arith))
     (λ (t : eqb n.0 incoming.0 ≡ false). rw t (omega arith))
-    (holds-or-not (eqb n.0 incoming.0))
-same-shares n (Rested number price shares) two = refl
-same-shares n (Cancelled number shares reason) two = refl
-same-shares n (Moved number price shares) two = refl
+    (holds_or_not (eqb n.0 incoming.0))
+same_shares n (Rested number price shares) two = refl
+same_shares n (Cancelled number shares reason) two = refl
+same_shares n (Moved number price shares) two = refl
 
-pub same-sums : (n : Number) {es : List Event} → All TwoParties es → sum_of (executedShares n) es ≡ sum_of (executedBy n) es
+pub same_sums : (n : Number) {es : List Event} → All TwoParties es → sum_of (executed_shares n) es ≡ sum_of (executed_by n) es
 unfolding sum_of
-same-sums n none = refl
-same-sums n (also {x = e} two a) = rw (same-shares n e two, same-sums n a) refl
+same_sums n none = refl
+same_sums n (also {x = e} two a) = rw (same_shares n e two, same_sums n a) refl
 
 -- ── The events of a line ──
 
-executions-two : (m : Number) (price : Resting → HalfCents) {s : List Holding} (ts : List ℕ) → All (λ (h : Holding). m.0 ≢ h.of.number.0) s
+executions_two : (m : Number) (price : Resting → HalfCents) {s : List Holding} (ts : List ℕ) → All (λ (h : Holding). m.0 ≢ h.of.number.0) s
     → All TwoParties (executions m price s ts)
 unfolding executions
-executions-two m price ts none = none
-executions-two m price [] (also d a) = none
-executions-two m price (t ∷ ts) (also d a) =
+executions_two m price ts none = none
+executions_two m price [] (also d a) = none
+executions_two m price (t ∷ ts) (also d a) =
     ⊎_elim
-    (λ (z : eqb t 0 ≡ true). rw z (executions-two m price ts a))
-    (λ (z : eqb t 0 ≡ false). rw z (also d (executions-two m price ts a)))
-    (holds-or-not (eqb t 0))
+    (λ (z : eqb t 0 ≡ true). rw z (executions_two m price ts a))
+    (λ (z : eqb t 0 ≡ false). rw z (also d (executions_two m price ts a)))
+    (holds_or_not (eqb t 0))
 
 -- the number of an accepted command is above that of every resting order
-does-two : (b : Book) (n : Number) (time : ℕ) → sound b ≡ true → n.0 ≡ b.held.last.0 + 1 → (c : Body) → All TwoParties (does n time c b).events
-does-two b n time s next =
-    does-tells n time b (λ (c : Body) (es : List Event). All TwoParties es) order-two (λ c. every-told (λ m k reason. tt) (λ m price k. tt) c b)
+does_two : (b : Book) (n : Number) (time : ℕ) → sound b ≡ true → n.0 ≡ b.held.last.0 + 1 → (c : Body) → All TwoParties (does n time c b).events
+does_two b n time s next =
+    does_tells n time b (λ (c : Body) (es : List Event). All TwoParties es) order_two (λ c. every_told (λ m k reason. tt) (λ m price k. tt) c b)
   where
-    order-two : (o : Order) → All TwoParties (does n time (body.Order o) b).events
-    order-two o =
-        let opposite = oppositeSide (buying o) b in
-        let met = metBy o b in
-        let range = (sides-of (buying o) b (sound-is b s)).oppositeInRange in
+    order_two : (o : Order) → All TwoParties (does n time (body.Order o) b).events
+    order_two o =
+        let opposite = opposite_side (buying o) b in
+        let met = met_by o b in
+        let range = (sides_of (buying o) b (sound_is b s)).opposite_in_range in
         let new : All (λ (h : Resting). n.0 ≢ h.number.0) opposite =
-        all_alike (λ h r. λ (z : n.0 ≡ h.number.0). omega (arith, z, r.upToLast, next)) range in
-        rw (order-does n time b o).1
+        all_alike (λ h r. λ (z : n.0 ≡ h.number.0). omega (arith, z, r.up_to_last, next)) range in
+        rw (order_does n time b o).1
         (all_both
-        (all_both (executions-two n (executionPrice o met) (takings o met) (all_alike (λ h p. one_of_all new p) (holdings-there opposite)))
-        (every-last n (λ price k. tt) (λ k reason. tt) (remainder o met) (ending o met)))
-        (every-refill (λ m price k. tt) (after opposite (takings o met))))
+        (all_both (executions_two n (execution_price o met) (takings o met) (all_alike (λ h p. one_of_all new p) (holdings_there opposite)))
+        (every_last n (λ price k. tt) (λ k reason. tt) (remainder o met) (ending o met)))
+        (every_refill (λ m price k. tt) (after opposite (takings o met))))
 
-done-two : (b : Book) (r : Reading) → sound b ≡ true → commandNumber r ≡ b.held.last.0 + 1 → All TwoParties (doneBy r b).events
-unfolding doneBy
-done-two b reading.Bad s next = none
-done-two b (reading.Is c) s next = does-two b c.number c.time s next c.body
+done_two : (b : Book) (r : Reading) → sound b ≡ true → command_number r ≡ b.held.last.0 + 1 → All TwoParties (done_by r b).events
+unfolding done_by
+done_two b reading.Bad s next = none
+done_two b (reading.Is c) s next = does_two b c.number c.time s next c.body
 
-pub line-two : (b : Book) (line : List ℕ) → sound b ≡ true → acts b line ≡ true → All TwoParties (answerTo b line).events
-unfolding answerTo answer
-line-two b line s t = rw t (done-two b (commandIn line) s (next-acts b line t).0)
+pub line_two : (b : Book) (line : List ℕ) → sound b ≡ true → acts b line ≡ true → All TwoParties (answer_to b line).events
+unfolding answer_to answer
+line_two b line s t = rw t (done_two b (command_in line) s (next_acts b line t).0)

@@ -1,12 +1,12 @@
 // The tally of one order over a day's event lines (02, W1): the shares executed and cancelled of it, line by line, on pieces of bounded
 // size.
 ghost use Rattle.std.specs.Prelude.{◌≡◌};
-ghost use Rattle.demands.specs.Told.{cancelledBy};
+ghost use Rattle.demands.specs.Told.{cancelled_by};
 ghost use Rattle.digits.specs.Digits.{number_at};
-ghost use Rattle.rules.specs.EventLines.{refusalKind};
-ghost use Rattle.rules.specs.EventReading.{isKind};
-ghost use Rattle.tally.specs.Tally.{noneCounted, executedShares, oneMore, stoppedBy, passedOver, added, counted};
-ghost use Rattle.tally.specs.Tally.{isGoing, turn, fedOn};
+ghost use Rattle.rules.specs.EventLines.{refusal_kind};
+ghost use Rattle.rules.specs.EventReading.{is_kind};
+ghost use Rattle.tally.specs.Tally.{none_counted, executed_shares, one_more, stopped_by, passed_over, added, counted};
+ghost use Rattle.tally.specs.Tally.{is_going, turn, fed_on};
 
 use command_lines::lines;
 use event_lines::reader;
@@ -43,7 +43,7 @@ pub struct TalliedPiece {
 
 // Nothing was counted yet.
 pub fn begin() -> Tally
-    ensures { result ≡ noneCounted }
+    ensures { result ≡ none_counted }
 {
     Tally {
         lines: 0,
@@ -57,7 +57,7 @@ pub fn begin() -> Tally
 
 // The shares of an order that an event executes, in whichever role.
 fn executed_shares(number: Number, e: Event) -> u32
-    ensures { result ≡ executedShares number e }
+    ensures { result ≡ executed_shares number e }
 {
     match e {
         Event::Executed {
@@ -78,7 +78,7 @@ fn executed_shares(number: Number, e: Event) -> u32
 }
 
 fn cancelled_shares(number: Number, e: Event) -> u32
-    ensures { result ≡ cancelledBy number e }
+    ensures { result ≡ cancelled_by number e }
 {
     match e {
         Event::Executed { .. } => 0,
@@ -101,7 +101,7 @@ fn cancelled_shares(number: Number, e: Event) -> u32
 
 // One line more; the largest number of eight bytes stays.
 fn one_more(k: u64) -> u64
-    ensures { result ≡ oneMore k }
+    ensures { result ≡ one_more k }
 {
     if k < 18446744073709551615 {
         return k + 1;
@@ -110,13 +110,13 @@ fn one_more(k: u64) -> u64
 }
 
 fn stop_by(t: Tally, why: Stop) -> Tally
-    ensures { result ≡ stoppedBy why t }
+    ensures { result ≡ stopped_by why t }
 {
     Tally { stop: why, ..t }
 }
 
 fn pass_over(t: Tally) -> Tally
-    ensures { result ≡ passedOver t }
+    ensures { result ≡ passed_over t }
 {
     Tally {
         lines: one_more(t.lines),
@@ -143,7 +143,7 @@ fn add(t: Tally, executed: u32, cancelled: u32) -> Tally
 }
 
 fn is_going(stop: Stop) -> bool
-    ensures { result ≡ isGoing stop }
+    ensures { result ≡ is_going stop }
 {
     match stop {
         Stop::Going => true,
@@ -158,7 +158,7 @@ fn is_going(stop: Stop) -> bool
 
 // Whether a line begins with `1f`: it is passed over, whatever follows.
 fn tells_a_refusal(line: &[u8]) -> bool
-    ensures { result ≡ isKind refusalKind (number_at 1 0 line.now) }
+    ensures { result ≡ is_kind refusal_kind (number_at 1 0 line.now) }
 {
     let kind = digits::field_at(line, 0, 1);
     kind.good & (kind.number == 0x1f)
@@ -195,7 +195,7 @@ pub fn take_line(t: Tally, number: Number, line: &[u8]) -> Tally
 
 // The whole lines of a piece, of any bytes, one after the other.
 pub fn feed(t: Tally, number: Number, input: &[u8]) -> TalliedPiece
-    ensures { result ≡ fedOn number t input.now }
+    ensures { result ≡ fed_on number t input.now }
 {
     let mut tally = t;
     let mut at = 0;

@@ -9,17 +9,17 @@ use lib.ListN.{length, get_or, drop, drop_of_length-le}
 use lib.Seq.{drop-cons}
 use native.Mathlib.Omega.{arith}
 use borrow.Author.Tests.{le-leb, lt-leb}
-use Rattle.basics.proofs.LawsChoice.{holds-or-not}
+use Rattle.basics.proofs.LawsChoice.{holds_or_not}
 use Rattle.digits.specs.declared.Value.TheVariants.{Is, Bad}
 use Rattle.kinds.specs.Kinds.{largest}
-use Rattle.tally_day.specs.Decimal.{isDecimal, allDecimal, decimalAfter, decimalIn}
+use Rattle.tally_day.specs.Decimal.{is_decimal, all_decimal, decimal_after, decimal_in}
 
 -- more digits never make a number less
-after-least : (acc : ℕ) (s : List ℕ) → acc ≤ decimalAfter acc s
-unfolding decimalAfter
-after-least acc [] = omega arith
-after-least acc (c ∷ s) =
-    let more : acc * 10 + (c - 48) ≤ decimalAfter (acc * 10 + (c - 48)) s = after-least (acc * 10 + (c - 48)) s in
+after_least : (acc : ℕ) (s : List ℕ) → acc ≤ decimal_after acc s
+unfolding decimal_after
+after_least acc [] = omega arith
+after_least acc (c ∷ s) =
+    let more : acc * 10 + (c - 48) ≤ decimal_after (acc * 10 + (c - 48)) s = after_least (acc * 10 + (c - 48)) s in
     omega (arith, more)
 
 module _ (s : List ℕ) where
@@ -29,60 +29,60 @@ module _ (s : List ℕ) where
   -- the digits before the place `i` wrote the value
   pub record Reading (value i : ℕ) : Type 0 where
     pub within : i ≤ length s
-    pub ahead : allDecimal s ≡ allDecimal (drop i s)
-    pub goesOn : decimalAfter 0 s ≡ decimalAfter value (drop i s)
+    pub ahead : all_decimal s ≡ all_decimal (drop i s)
+    pub goes_on : decimal_after 0 s ≡ decimal_after value (drop i s)
     pub small : value ≤ largest
 
-  pub reading-start : Reading 0 0
-  reading-start = record { within = omega arith; ahead = refl; goesOn = refl; small = omega arith }
+  pub reading_start : Reading 0 0
+  reading_start = record { within = omega arith; ahead = refl; goes_on = refl; small = omega arith }
 
   -- no digits at all, or too many
-  pub reading-length : (eqb (length s) 0 || ltb 10 (length s)) ≡ true → Bad ≡ decimalIn s
-  unfolding decimalIn
-  reading-length t = rw t refl
+  pub reading_length : (eqb (length s) 0 || ltb 10 (length s)) ≡ true → Bad ≡ decimal_in s
+  unfolding decimal_in
+  reading_length t = rw t refl
 
-  module _ (ofLength : OfLength) (value i : ℕ) (r : Reading value i) where
+  module _ (of_length : OfLength) (value i : ℕ) (r : Reading value i) where
     -- the digits end
-    pub reading-end : length s ≤ i → Is value ≡ decimalIn s
-    unfolding decimalIn allDecimal decimalAfter
-    reading-end l =
+    pub reading_end : length s ≤ i → Is value ≡ decimal_in s
+    unfolding decimal_in all_decimal decimal_after
+    reading_end l =
         let none : drop i s ≡ [] = drop_of_length-le s l in
-        let all : allDecimal s ≡ true = r.ahead ∙ ap allDecimal none in
-        let number : decimalAfter 0 s ≡ value = r.goesOn ∙ ap (decimalAfter value) none in
-        rw (ofLength, all, number, le-leb value largest r.small) refl
+        let all : all_decimal s ≡ true = r.ahead ∙ ap all_decimal none in
+        let number : decimal_after 0 s ≡ value = r.goes_on ∙ ap (decimal_after value) none in
+        rw (of_length, all, number, le-leb value largest r.small) refl
 
     module _ (l : i < length s) where
       next : drop i s ≡ get_or s i 0 ∷ drop (suc i) s
       next = drop-cons s i 0 l
 
       -- a byte that is no digit
-      pub reading-other : isDecimal (get_or s i 0) ≡ false → Bad ≡ decimalIn s
-      unfolding decimalIn allDecimal
-      reading-other t =
-          let bad : allDecimal s ≡ false = r.ahead ∙ ap allDecimal next ∙ rw t refl in
-          rw (ofLength, bad) refl
+      pub reading_other : is_decimal (get_or s i 0) ≡ false → Bad ≡ decimal_in s
+      unfolding decimal_in all_decimal
+      reading_other t =
+          let bad : all_decimal s ≡ false = r.ahead ∙ ap all_decimal next ∙ rw t refl in
+          rw (of_length, bad) refl
 
-      module _ (digit : isDecimal (get_or s i 0) ≡ true) where
-        ahead-next : allDecimal s ≡ allDecimal (drop (suc i) s)
-        unfolding allDecimal
-        ahead-next = r.ahead ∙ ap allDecimal next ∙ rw digit refl
+      module _ (digit : is_decimal (get_or s i 0) ≡ true) where
+        ahead_next : all_decimal s ≡ all_decimal (drop (suc i) s)
+        unfolding all_decimal
+        ahead_next = r.ahead ∙ ap all_decimal next ∙ rw digit refl
 
-        goes-next : decimalAfter 0 s ≡ decimalAfter (value * 10 + (get_or s i 0 - 48)) (drop (suc i) s)
-        unfolding decimalAfter
-        goes-next = r.goesOn ∙ ap (decimalAfter value) next
+        goes_next : decimal_after 0 s ≡ decimal_after (value * 10 + (get_or s i 0 - 48)) (drop (suc i) s)
+        unfolding decimal_after
+        goes_next = r.goes_on ∙ ap (decimal_after value) next
 
-        pub reading-digit : value * 10 + (get_or s i 0 - 48) ≤ largest → Reading (value * 10 + (get_or s i 0 - 48)) (i + 1)
-        reading-digit m =
+        pub reading_digit : value * 10 + (get_or s i 0 - 48) ≤ largest → Reading (value * 10 + (get_or s i 0 - 48)) (i + 1)
+        reading_digit m =
             let one : suc i ≡ i + 1 = omega arith in
-            rw (← one) (record { within = omega (arith, l); ahead = ahead-next; goesOn = goes-next; small = m })
+            rw (← one) (record { within = omega (arith, l); ahead = ahead_next; goes_on = goes_next; small = m })
 
         -- a number that four bytes would not hold
-        pub reading-large : largest < value * 10 + (get_or s i 0 - 48) → Bad ≡ decimalIn s
-        unfolding decimalIn
-        reading-large m =
-            let most = after-least (value * 10 + (get_or s i 0 - 48)) (drop (suc i) s) in
-            let large : leb (decimalAfter 0 s) largest ≡ false = lt-leb (decimalAfter 0 s) largest (omega (arith, m, most, goes-next)) in
+        pub reading_large : largest < value * 10 + (get_or s i 0 - 48) → Bad ≡ decimal_in s
+        unfolding decimal_in
+        reading_large m =
+            let most = after_least (value * 10 + (get_or s i 0 - 48)) (drop (suc i) s) in
+            let large : leb (decimal_after 0 s) largest ≡ false = lt-leb (decimal_after 0 s) largest (omega (arith, m, most, goes_next)) in
             ⊎_elim
-            (λ (t : allDecimal s ≡ true). rw (ofLength, t, large) refl)
-            (λ (t : allDecimal s ≡ false). rw (ofLength, t) refl)
-            (holds-or-not (allDecimal s))
+            (λ (t : all_decimal s ≡ true). rw (of_length, t, large) refl)
+            (λ (t : all_decimal s ≡ false). rw (of_length, t) refl)
+            (holds_or_not (all_decimal s))

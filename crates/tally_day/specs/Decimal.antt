@@ -6,20 +6,20 @@ use Rattle.digits.specs.declared.Value.{Value}
 use Rattle.digits.specs.declared.Value.TheVariants.{Is, Bad}
 use Rattle.kinds.specs.Kinds.{largest}
 
-abbrev pub isDecimal : ℕ → Bool
-isDecimal c = leb 48 c && leb c 57
+abbrev pub is_decimal : ℕ → Bool
+is_decimal c = leb 48 c && leb c 57
 
-unfoldable pub allDecimal : List ℕ → Bool
-allDecimal [] = true
-allDecimal (c ∷ s) = isDecimal c && allDecimal s
+unfoldable pub all_decimal : List ℕ → Bool
+all_decimal [] = true
+all_decimal (c ∷ s) = is_decimal c && all_decimal s
 
 -- the number that digits write after those that wrote acc
-unfoldable pub decimalAfter : ℕ → List ℕ → ℕ
-decimalAfter acc [] = acc
-decimalAfter acc (c ∷ s) = decimalAfter (acc * 10 + (c - 48)) s
+unfoldable pub decimal_after : ℕ → List ℕ → ℕ
+decimal_after acc [] = acc
+decimal_after acc (c ∷ s) = decimal_after (acc * 10 + (c - 48)) s
 
-unfoldable pub decimalIn : List ℕ → Value
-decimalIn s =
+unfoldable pub decimal_in : List ℕ → Value
+decimal_in s =
     if eqb (length s) 0 || ltb 10 (length s) then Bad
-    else if allDecimal s && leb (decimalAfter 0 s) largest then Is (decimalAfter 0 s)
+    else if all_decimal s && leb (decimal_after 0 s) largest then Is (decimal_after 0 s)
     else Bad

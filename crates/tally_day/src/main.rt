@@ -1,10 +1,10 @@
 // Tallies one order over a day's event lines (02, W1), for a broker's clerk: the lines on standard input, the order's number as the
 // argument, one line out. What goes wrong is told on standard error alone.
 ghost use Rattle.std.specs.Prelude.{◌≡◌, ◌≤◌, ◌<◌, length, take};
-ghost use Rattle.command_lines.specs.Pieces.{partKept, afterLines, afterPart};
+ghost use Rattle.command_lines.specs.Pieces.{part_kept, after_lines, after_part};
 ghost use Rattle.rules.specs.Day.{cut};
 ghost use Rattle.tally.specs.Tally.{turn};
-ghost use Rattle.tally_day.specs.Decimal.{isDecimal, decimalIn};
+ghost use Rattle.tally_day.specs.Decimal.{is_decimal, decimal_in};
 
 use command_lines::lines;
 use command_lines::lines::Read;
@@ -16,14 +16,14 @@ use tally::{Stop, Tally};
 // ── The argument ──
 
 fn is_decimal(c: u8) -> bool
-    ensures { result ≡ isDecimal c }
+    ensures { result ≡ is_decimal c }
 {
     (48 <= c) & (c <= 57)
 }
 
 // The order number that one to ten decimal digits write.
 fn decimal_in(s: &[u8]) -> Value
-    ensures { result ≡ decimalIn s.now }
+    ensures { result ≡ decimal_in s.now }
 {
     if (s.len() == 0) | (10 < s.len()) {
         return Value::Bad;
@@ -55,9 +55,9 @@ struct Kept {
 // Tallies the whole lines of the bytes up to `end`, and moves the part of a line behind them to the front.
 fn take_piece(t: Tally, number: Number, input: &mut [u8], end: usize) -> Kept
     requires { end ≤ length input.old }
-    ensures tally_value { result.tally ≡ afterLines (turn number) t (cut (take end input.old)).whole }
-    ensures input_after { take result.have input.new ≡ take partKept (cut (take end input.old)).part }
-    ensures have_le_part_kept { result.have ≤ partKept }
+    ensures tally_value { result.tally ≡ after_lines (turn number) t (cut (take end input.old)).whole }
+    ensures input_after { take result.have input.new ≡ take part_kept (cut (take end input.old)).part }
+    ensures have_le_part_kept { result.have ≤ part_kept }
 {
     let fed = tally::feed(t, number, &input[..end]);
     let have = lines::carry(input, fed.at, end, rules::LONGEST_LINE + 1);
@@ -67,7 +67,7 @@ fn take_piece(t: Tally, number: Number, input: &mut [u8], end: usize) -> Kept
 
 // The end of the input: a part of a line that is left is a line with no line feed.
 fn finish(t: Tally, number: Number, part: &[u8]) -> Tally
-    ensures { result ≡ afterPart (turn number) t part.now }
+    ensures { result ≡ after_part (turn number) t part.now }
 {
     if part.len() == 0 {
         return t;
@@ -122,7 +122,7 @@ fn say(t: Tally) {
 // From the first piece to the end of the input. A proved loop has to end, and nothing says that an input does: so the turns are
 // counted down from a number that no day uses up.
 fn run(number: Number, input: &mut [u8])
-    requires { partKept < length input.old }
+    requires { part_kept < length input.old }
 {
     let mut tally = tally::begin();
     let mut have = 0;

@@ -9,14 +9,14 @@ use Rattle.command_lines.proofs.lines.first_line.Reads as first
 use Rattle.command_lines.proofs.lines.carry.Reads as carry
 use Rattle.command_lines.proofs.lines.after_read.Reads as read
 
-pub scan-line-determined : (κs : _) (a : _) (r r' : ℕ) (s s' : _) → scan.Post κs a r s → scan.Post κs a r' s' → r ≡ r'
-scan-line-determined κs a r r' s s' p q = p ∙ sym q
+pub scan_line_determined : (κs : _) (a : _) (r r' : ℕ) (s s' : _) → scan.Post κs a r s → scan.Post κs a r' s' → r ≡ r'
+scan_line_determined κs a r r' s s' p q = p ∙ sym q
 
-pub first-line-determined : (κs : _) (a : _) (r r' : Line) (s s' : _) → first.Post κs a r s → first.Post κs a r' s' → r ≡ r'
-first-line-determined κs a r r' s s' p q = p ∙ sym q
+pub first_line_determined : (κs : _) (a : _) (r r' : Line) (s s' : _) → first.Post κs a r s → first.Post κs a r' s' → r ≡ r'
+first_line_determined κs a r r' s s' p q = p ∙ sym q
 
-pub carry-determined : (κs : _) (a : _) (r r' : ℕ) (s s' : _) → carry.Post κs a r s → carry.Post κs a r' s' → (r ≡ r') × (s.0.now ≡ s'.0.now)
-carry-determined κs a r r' s s' p q = (p.0 ∙ sym q.0, p.1 ∙ sym q.1)
+pub carry_determined : (κs : _) (a : _) (r r' : ℕ) (s s' : _) → carry.Post κs a r s → carry.Post κs a r' s' → (r ≡ r') × (s.0.now ≡ s'.0.now)
+carry_determined κs a r r' s s' p q = (p.0 ∙ sym q.0, p.1 ∙ sym q.1)
 
-pub after-read-determined : (κs : _) (a : _) (r r' : Read) (s s' : _) → read.Post κs a r s → read.Post κs a r' s' → r ≡ r'
-after-read-determined κs a r r' s s' p q = p ∙ sym q
+pub after_read_determined : (κs : _) (a : _) (r r' : Read) (s s' : _) → read.Post κs a r s → read.Post κs a r' s' → r ≡ r'
+after_read_determined κs a r r' s s' p q = p ∙ sym q

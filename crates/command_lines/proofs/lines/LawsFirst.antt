@@ -8,9 +8,9 @@ use mathlib.Core.Path.{◌≡◌, refl, sym, ap, ◌∙◌}
 use lib.ListN.{length, get_or, take, drop, length-append, take-append-drop}
 use lib.Seq.{get_or-take, length-take-le, take_all}
 use native.Mathlib.Omega.{arith}
-use Rattle.basics.specs.Lists.{none, also, firstWhere}
+use Rattle.basics.specs.Lists.{none, also, first_where}
 use Rattle.basics.proofs.LawsLists.{all_both}
-use Rattle.basics.proofs.LawsChoice.{holds-or-not, lt-or-le}
+use Rattle.basics.proofs.LawsChoice.{holds_or_not, lt_or_le}
 use Rattle.digits.specs.Digits.{digits}
 use Rattle.rules.specs.declared.Body.{Body}
 use Rattle.rules.specs.declared.Body.TheVariants.{Order, Cancel, Quote, Close}
@@ -19,45 +19,45 @@ use Rattle.rules.specs.declared.Carried.TheVariants.{Nothing, MaxFloor, Minimum}
 use Rattle.rules.specs.declared.Command.{Command}
 use Rattle.rules.specs.declared.Reading.{Reading}
 use Rattle.rules.specs.declared.Reading.TheVariants as reading
-use Rattle.rules.specs.CommandLines.{kinds, lineFeed, headerForm, orderKindOf, orderFormOf, kind_of, form_of, numbersOf}
-use Rattle.rules.specs.CommandLines.{digitsWithHeader, written, line, line_of, commandIn}
-use Rattle.rules.proofs.LawsLines.{commandIn-is}
-use Rattle.rules.proofs.LawsUnended.{Unended, written-unended}
-use Rattle.rules.proofs.LawsWriting.{length-lineOf}
+use Rattle.rules.specs.CommandLines.{kinds, line_feed, header_form, order_kind_of, order_form_of, kind_of, form_of, numbers_of}
+use Rattle.rules.specs.CommandLines.{digits_with_header, written, line, line_of, command_in}
+use Rattle.rules.proofs.LawsLines.{command_in_is}
+use Rattle.rules.proofs.LawsUnended.{Unended, written_unended}
+use Rattle.rules.proofs.LawsWriting.{length_line_of}
 use Rattle.command_lines.specs.declared.lines.Line.{Line}
-use Rattle.command_lines.specs.Lines.{isLineFeed, toLineFeed, firstLine, otherLine, digitsFrom, digitsAfter}
-use Rattle.command_lines.proofs.lines.LawsScanned.{unended-bad}
+use Rattle.command_lines.specs.Lines.{is_line_feed, to_line_feed, first_line, other_line, digits_from, digits_after}
+use Rattle.command_lines.proofs.lines.LawsScanned.{unended_bad}
 
 -- ── The line feed of a command ──
 
 -- all bytes of a command's line but the last
 abbrev inside : Command → List ℕ
-inside c = written headerForm (kind_of c.body ∷ c.number.0 ∷ c.time ∷ []) ++ written (form_of c.body) (numbersOf c.body)
+inside c = written header_form (kind_of c.body ∷ c.number.0 ∷ c.time ∷ []) ++ written (form_of c.body) (numbers_of c.body)
 
-line-inside : (c : Command) → line_of c ≡ inside c ++ (lineFeed ∷ [])
+line_inside : (c : Command) → line_of c ≡ inside c ++ (line_feed ∷ [])
 unfolding line_of
-line-inside c = sym (append_assoc (written headerForm (kind_of c.body ∷ c.number.0 ∷ c.time ∷ [])) (written (form_of c.body) (numbersOf c.body)) (lineFeed ∷ []))
+line_inside c = sym (append_assoc (written header_form (kind_of c.body ∷ c.number.0 ∷ c.time ∷ [])) (written (form_of c.body) (numbers_of c.body)) (line_feed ∷ []))
 
-first-feed : (s rest : List ℕ) → Unended s → toLineFeed (s ++ (lineFeed ∷ rest)) ≡ length s
-unfolding firstWhere
-first-feed [] rest none = refl
-first-feed (c ∷ s) rest (also e a) = rw e (ap suc (first-feed s rest a))
+first_feed : (s rest : List ℕ) → Unended s → to_line_feed (s ++ (line_feed ∷ rest)) ≡ length s
+unfolding first_where
+first_feed [] rest none = refl
+first_feed (c ∷ s) rest (also e a) = rw e (ap suc (first_feed s rest a))
 
 -- bytes that read as a command end at the first line feed
-command-feed : (s : List ℕ) (n : ℕ) (c : Command) → n < length s → commandIn (take (suc n) s) ≡ reading.Is c → toLineFeed s ≡ n
-command-feed s n c l is =
-    let line : take (suc n) s ≡ inside c ++ (lineFeed ∷ []) = (commandIn-is (take (suc n) s) c is).line-is ∙ line-inside c in
-    let whole : s ≡ inside c ++ (lineFeed ∷ drop (suc n) s) =
-    sym (take-append-drop (suc n) s) ∙ ap (λ (x : List ℕ). x ++ drop (suc n) s) line ∙ append_assoc (inside c) (lineFeed ∷ []) (drop (suc n) s) in
+command_feed : (s : List ℕ) (n : ℕ) (c : Command) → n < length s → command_in (take (suc n) s) ≡ reading.Is c → to_line_feed s ≡ n
+command_feed s n c l is =
+    let line : take (suc n) s ≡ inside c ++ (line_feed ∷ []) = (command_in_is (take (suc n) s) c is).line_is_lem ∙ line_inside c in
+    let whole : s ≡ inside c ++ (line_feed ∷ drop (suc n) s) =
+    sym (take-append-drop (suc n) s) ∙ ap (λ (x : List ℕ). x ++ drop (suc n) s) line ∙ append_assoc (inside c) (line_feed ∷ []) (drop (suc n) s) in
     let long : suc n ≡ length (inside c) + 1 =
-    sym (length-take-le (suc n) s (omega arith)) ∙ ap length line ∙ length-append (inside c) (lineFeed ∷ []) in
+    sym (length-take-le (suc n) s (omega arith)) ∙ ap length line ∙ length-append (inside c) (line_feed ∷ []) in
     let unended : Unended (inside c) =
-    all_both (written-unended headerForm (kind_of c.body ∷ c.number.0 ∷ c.time ∷ [])) (written-unended (form_of c.body) (numbersOf c.body)) in
-    ap toLineFeed whole ∙ first-feed (inside c) (drop (suc n) s) unended ∙ omega (arith, long)
+    all_both (written_unended header_form (kind_of c.body ∷ c.number.0 ∷ c.time ∷ [])) (written_unended (form_of c.body) (numbers_of c.body)) in
+    ap to_line_feed whole ∙ first_feed (inside c) (drop (suc n) s) unended ∙ omega (arith, long)
 
-pub first-command : (s : List ℕ) (n : ℕ) (c : Command) → n < length s → commandIn (take (suc n) s) ≡ reading.Is c
-    → record { digits = n; reading = reading.Is c } ≡ firstLine s
-first-command s n c l is = rw (command-feed s n c l is) (ap (λ (r : Reading). at_place n r) (sym is))
+pub first_command : (s : List ℕ) (n : ℕ) (c : Command) → n < length s → command_in (take (suc n) s) ≡ reading.Is c
+    → record { digits = n; reading = reading.Is c } ≡ first_line s
+first_command s n c l is = rw (command_feed s n c l is) (ap (λ (r : Reading). at_place n r) (sym is))
   where
     at_place : ℕ → Reading → Line
     at_place n r = record { digits = n; reading = r }
@@ -65,60 +65,60 @@ first-command s n c l is = rw (command-feed s n c l is) (ap (λ (r : Reading). a
 -- ── The length of a command ──
 
 -- the second digit of a command tells how many it has
-second-tells : (c : Command) → digitsAfter (get_or (line_of c) 1 0) ≡ digitsWithHeader (form_of c.body)
-unfolding line_of written digits digitsAfter digitsFrom kinds
-second-tells c = by-body c.body
+second_tells : (c : Command) → digits_after (get_or (line_of c) 1 0) ≡ digits_with_header (form_of c.body)
+unfolding line_of written digits digits_after digits_from kinds
+second_tells c = by_body_lem c.body
   where
-    by-carried : (x : Carried) (rest : List ℕ)
-        → digitsAfter (get_or (written headerForm (orderKindOf x ∷ c.number.0 ∷ c.time ∷ []) ++ rest) 1 0) ≡ digitsWithHeader (orderFormOf x)
-    by-carried Nothing rest = refl
-    by-carried (MaxFloor floor) rest = refl
-    by-carried (Minimum least) rest = refl
+    by_carried : (x : Carried) (rest : List ℕ)
+        → digits_after (get_or (written header_form (order_kind_of x ∷ c.number.0 ∷ c.time ∷ []) ++ rest) 1 0) ≡ digits_with_header (order_form_of x)
+    by_carried Nothing rest = refl
+    by_carried (MaxFloor floor) rest = refl
+    by_carried (Minimum least) rest = refl
 
-    by-body : (b : Body) → digitsAfter (get_or (line_of (record { number = c.number; time = c.time; body = b })) 1 0) ≡ digitsWithHeader (form_of b)
-    by-body (Order o) = by-carried o.carried (line (form_of (Order o)) (numbersOf (Order o)))
-    by-body (Cancel n) = refl
-    by-body (Quote a) = refl
-    by-body Close = refl
+    by_body_lem : (b : Body) → digits_after (get_or (line_of (record { number = c.number; time = c.time; body = b })) 1 0) ≡ digits_with_header (form_of b)
+    by_body_lem (Order o) = by_carried o.carried (line (form_of (Order o)) (numbers_of (Order o)))
+    by_body_lem (Cancel n) = refl
+    by_body_lem (Quote a) = refl
+    by_body_lem Close = refl
 
 -- no line feed among the bytes
-feed-nowhere : (s : List ℕ) → length s ≤ toLineFeed s → Unended s
-unfolding firstWhere
-feed-nowhere [] l = none
-feed-nowhere (c ∷ s) l =
+feed_nowhere : (s : List ℕ) → length s ≤ to_line_feed s → Unended s
+unfolding first_where
+feed_nowhere [] l = none
+feed_nowhere (c ∷ s) l =
     ⊎_elim
-    (λ (t : isLineFeed c ≡ true). let l' : suc (length s) ≤ 0 = rw t at l in let z : ⊥ = omega arith in absurd z)
-    (λ (t : isLineFeed c ≡ false). let l' : suc (length s) ≤ suc (toLineFeed s) = rw t at l in also t (feed-nowhere s (omega arith)))
-    (holds-or-not (isLineFeed c))
+    (λ (t : is_line_feed c ≡ true). let l' : suc (length s) ≤ 0 = rw t at l in let z : ⊥ = omega arith in absurd z)
+    (λ (t : is_line_feed c ≡ false). let l' : suc (length s) ≤ suc (to_line_feed s) = rw t at l in also t (feed_nowhere s (omega arith)))
+    (holds_or_not (is_line_feed c))
 
 -- where the first line is a command, its second byte tells its length, and it is not the last of the bytes by itself
-told : (s : List ℕ) (c : Command) → commandIn (take (suc (toLineFeed s)) s) ≡ reading.Is c
-    → (toLineFeed s < length s) × (digitsAfter (get_or s 1 0) ≡ toLineFeed s) × (1 < length s)
+told : (s : List ℕ) (c : Command) → command_in (take (suc (to_line_feed s)) s) ≡ reading.Is c
+    → (to_line_feed s < length s) × (digits_after (get_or s 1 0) ≡ to_line_feed s) × (1 < length s)
 told s c is =
-    let e = toLineFeed s in
-    let line : take (suc e) s ≡ line_of c = (commandIn-is (take (suc e) s) c is).line-is in
+    let e = to_line_feed s in
+    let line : take (suc e) s ≡ line_of c = (command_in_is (take (suc e) s) c is).line_is_lem in
     ⊎_elim
     (λ (l : e < length s).
-    let long : suc e ≡ digitsWithHeader (form_of c.body) + 1 = sym (length-take-le (suc e) s (omega arith)) ∙ ap length line ∙ length-lineOf c in
+    let long : suc e ≡ digits_with_header (form_of c.body) + 1 = sym (length-take-le (suc e) s (omega arith)) ∙ ap length line ∙ length_line_of c in
     let second : get_or s 1 0 ≡ get_or (line_of c) 1 0 = sym (get_or-take (suc e) s 1 0 (omega (arith, long))) ∙ ap (λ (x : List ℕ). get_or x 1 0) line in
-    (l, ap digitsAfter second ∙ second-tells c ∙ omega (arith, long), omega (arith, long, l)))
+    (l, ap digits_after second ∙ second_tells c ∙ omega (arith, long), omega (arith, long, l)))
     (λ (l : length s ≤ e).
     let all : take (suc e) s ≡ s = take_all (suc e) s (omega arith) in
-    let bad : commandIn (take (suc e) s) ≡ reading.Bad = rw all (unended-bad s (feed-nowhere s l)) in
+    let bad : command_in (take (suc e) s) ≡ reading.Bad = rw all (unended_bad s (feed_nowhere s l)) in
     let z : reading.Bad ≡ reading.Is c = sym bad ∙ is in let y : true ≡ false = cc in absurd (true≢false y))
-    (lt-or-le e (length s))
+    (lt_or_le e (length s))
 
 -- so the first line is none where the bytes that its second digit tells are none
-pub first-other : (s : List ℕ) → (1 < length s → digitsAfter (get_or s 1 0) < length s → commandIn (take (suc (digitsAfter (get_or s 1 0))) s) ≡ reading.Bad)
-    → otherLine s ≡ firstLine s
-first-other s never = ap (λ (r : Reading). at_place r) (sym (by-reading (commandIn (take (suc (toLineFeed s)) s)) refl))
+pub first_other : (s : List ℕ) → (1 < length s → digits_after (get_or s 1 0) < length s → command_in (take (suc (digits_after (get_or s 1 0))) s) ≡ reading.Bad)
+    → other_line s ≡ first_line s
+first_other s never = ap (λ (r : Reading). at_place r) (sym (by_reading (command_in (take (suc (to_line_feed s)) s)) refl))
   where
     at_place : Reading → Line
-    at_place r = record { digits = toLineFeed s; reading = r }
+    at_place r = record { digits = to_line_feed s; reading = r }
 
-    by-reading : (r : Reading) → commandIn (take (suc (toLineFeed s)) s) ≡ r → commandIn (take (suc (toLineFeed s)) s) ≡ reading.Bad
-    by-reading reading.Bad e = e
-    by-reading (reading.Is c) e =
+    by_reading : (r : Reading) → command_in (take (suc (to_line_feed s)) s) ≡ r → command_in (take (suc (to_line_feed s)) s) ≡ reading.Bad
+    by_reading reading.Bad e = e
+    by_reading (reading.Is c) e =
         let t = told s c e in
-        let same : digitsAfter (get_or s 1 0) ≡ toLineFeed s = t.1 in
-        ap (λ (k : ℕ). commandIn (take (suc k) s)) (sym same) ∙ never t.2 (omega (arith, same, t.0))
+        let same : digits_after (get_or s 1 0) ≡ to_line_feed s = t.1 in
+        ap (λ (k : ℕ). command_in (take (suc k) s)) (sym same) ∙ never t.2 (omega (arith, same, t.0))

@@ -9,18 +9,18 @@ use lib.Seq.{take_all, take-take, take-append-le, length-take-le}
 use native.Mathlib.Omega.{arith}
 use Rattle.basics.specs.Lists.{none, also}
 use Rattle.basics.proofs.LawsLists.{all_both}
-use Rattle.basics.proofs.LawsChoice.{lt-or-le}
-use Rattle.rules.specs.Day.{Cut, inFront, cut, unendedLine, linesIn}
-use Rattle.rules.proofs.LawsDay.{part-unended, cut-behind, unended-line, lines-go-on}
+use Rattle.basics.proofs.LawsChoice.{lt_or_le}
+use Rattle.rules.specs.Day.{Cut, in_front, cut, unended_line, lines_in}
+use Rattle.rules.proofs.LawsDay.{part_unended, cut_behind, unended_line_lem, lines_go_on}
 use Rattle.rules.proofs.LawsUnended.{Unended}
-use Rattle.command_lines.specs.Pieces.{all_of, afterLines, afterPart, afterPieces}
+use Rattle.command_lines.specs.Pieces.{all_of, after_lines, after_part, after_pieces}
 
 -- ── Parts of a line ──
 
-pub unended-take : (k : ℕ) {s : List ℕ} → Unended s → Unended (take k s)
-unended-take zero a = none
-unended-take (suc k) none = none
-unended-take (suc k) (also e a) = also e (unended-take k a)
+pub unended_take : (k : ℕ) {s : List ℕ} → Unended s → Unended (take k s)
+unended_take zero a = none
+unended_take (suc k) none = none
+unended_take (suc k) (also e a) = also e (unended_take k a)
 
 -- ── Parts that no piece tells apart ──
 
@@ -40,8 +40,8 @@ module _ (kept : ℕ) where
   same_alike : {p : List ℕ} → Unended p → Alike p p
   same_alike a = record { first = a; second = a; either = inl refl }
 
-  alike-kept : {p q : List ℕ} → Alike p q → Alike p (take kept q)
-  alike-kept {p} {q} a = record { first = a.first; second = unended-take kept a.second; either = by_length (lt-or-le (length q) kept) }
+  alike_kept : {p q : List ℕ} → Alike p q → Alike p (take kept q)
+  alike_kept {p} {q} a = record { first = a.first; second = unended_take kept a.second; either = by_length (lt_or_le (length q) kept) }
     where
       long : kept ≤ length q → kept ≤ length (take kept q)
       long h = omega (arith, length-take-le kept q h)
@@ -49,17 +49,17 @@ module _ (kept : ℕ) where
       again : take kept (take kept q) ≡ take kept q
       again = take-take kept kept q (omega arith)
 
-      by-either : kept ≤ length q → SameOrKept p q → AsKept p (take kept q)
-      by-either h (inl e) = (rw e h, long h, ap (take kept) e ∙ sym again)
-      by-either h (inr o) = (o.0, long h, o.2 ∙ sym again)
+      by_either : kept ≤ length q → SameOrKept p q → AsKept p (take kept q)
+      by_either h (inl e) = (rw e h, long h, ap (take kept) e ∙ sym again)
+      by_either h (inr o) = (o.0, long h, o.2 ∙ sym again)
 
       by_length : (length q < kept) ⊎ (kept ≤ length q) → SameOrKept p (take kept q)
       by_length (inl h) = let k : take kept q ≡ q = take_all kept q (omega arith) in rw k a.either
-      by_length (inr h) = inr (by-either h a.either)
+      by_length (inr h) = inr (by_either h a.either)
 
   -- with the same bytes behind them they are so again
-  as-kept-behind : (p q l : List ℕ) → AsKept p q → AsKept (p ++ l) (q ++ l)
-  as-kept-behind p q l o = (
+  as_kept_behind : (p q l : List ℕ) → AsKept p q → AsKept (p ++ l) (q ++ l)
+  as_kept_behind p q l o = (
     omega (arith, length-append p l, o.0),
     omega (arith, length-append q l, o.1),
     take-append-le kept p l o.0 ∙ o.2 ∙ sym (take-append-le kept q l o.1),
@@ -72,62 +72,62 @@ module _ {S : Type 0} (turn : S → List ℕ → S) (kept : ℕ) (some : 0 < kep
     (same : (s : S) (p q : List ℕ) → kept ≤ length p → kept ≤ length q → take kept p ≡ take kept q → turn s p ≡ turn s q) where
   -- a piece behind parts that are alike leads on to the same, and parts are left that are alike again
   record Agreeing (c d : Cut) : Type 0 where
-    leads : (s : S) → afterLines turn s c.whole ≡ afterLines turn s d.whole
+    leads : (s : S) → after_lines turn s c.whole ≡ after_lines turn s d.whole
     parts : Alike kept c.part d.part
 
-  kept-agreeing : {p q : List ℕ} → Unended p → Unended q → AsKept kept p q
-      → (whole : List (List ℕ)) {part : List ℕ} → Unended part → Agreeing (inFront p whole part) (inFront q whole part)
-  unfolding inFront afterLines
-  kept-agreeing {p} {q} a c o [] {part} z = record {
+  kept_agreeing : {p q : List ℕ} → Unended p → Unended q → AsKept kept p q
+      → (whole : List (List ℕ)) {part : List ℕ} → Unended part → Agreeing (in_front p whole part) (in_front q whole part)
+  unfolding in_front after_lines
+  kept_agreeing {p} {q} a c o [] {part} z = record {
     leads = λ (s : S). refl;
-    parts = record { first = all_both a z; second = all_both c z; either = inr (as-kept-behind kept p q part o) };
+    parts = record { first = all_both a z; second = all_both c z; either = inr (as_kept_behind kept p q part o) };
   }
-  kept-agreeing {p} {q} a c o (l ∷ ls) z =
-      let k = as-kept-behind kept p q l o in
+  kept_agreeing {p} {q} a c o (l ∷ ls) z =
+      let k = as_kept_behind kept p q l o in
       record {
-        leads = λ (s : S). ap (λ (x : S). afterLines turn x ls) (same s (p ++ l) (q ++ l) k.0 k.1 k.2);
+        leads = λ (s : S). ap (λ (x : S). after_lines turn x ls) (same s (p ++ l) (q ++ l) k.0 k.1 k.2);
         parts = same_alike kept z;
       }
 
-  alike-agreeing : {p q : List ℕ} → Alike kept p q → (u : List ℕ) → Agreeing (cut (p ++ u)) (cut (q ++ u))
-  alike-agreeing {p} {q} a u = by-either a.either
+  alike_agreeing : {p q : List ℕ} → Alike kept p q → (u : List ℕ) → Agreeing (cut (p ++ u)) (cut (q ++ u))
+  alike_agreeing {p} {q} a u = by_either a.either
     where
-      by-either : SameOrKept kept p q → Agreeing (cut (p ++ u)) (cut (q ++ u))
-      by-either (inl e) = rw e (record { leads = λ (s : S). refl; parts = same_alike kept (part-unended (q ++ u)) })
-      by-either (inr o) =
-          rw (cut-behind a.first u, cut-behind a.second u) (kept-agreeing a.first a.second o (cut u).whole (part-unended u))
+      by_either : SameOrKept kept p q → Agreeing (cut (p ++ u)) (cut (q ++ u))
+      by_either (inl e) = rw e (record { leads = λ (s : S). refl; parts = same_alike kept (part_unended (q ++ u)) })
+      by_either (inr o) =
+          rw (cut_behind a.first u, cut_behind a.second u) (kept_agreeing a.first a.second o (cut u).whole (part_unended u))
 
   -- the end of the input
-  kept-at-end : (s : S) (p q : List ℕ) → AsKept kept p q → afterPart turn s q ≡ afterPart turn s p
-  unfolding unendedLine afterLines
-  kept-at-end s [] q o = absurd (omega (arith, some, o.0))
-  kept-at-end s (c ∷ p) [] o = absurd (omega (arith, some, o.1))
-  kept-at-end s (c ∷ p) (d ∷ q) o = sym (same s (c ∷ p) (d ∷ q) o.0 o.1 o.2)
+  kept_at_end : (s : S) (p q : List ℕ) → AsKept kept p q → after_part turn s q ≡ after_part turn s p
+  unfolding unended_line after_lines
+  kept_at_end s [] q o = absurd (omega (arith, some, o.0))
+  kept_at_end s (c ∷ p) [] o = absurd (omega (arith, some, o.1))
+  kept_at_end s (c ∷ p) (d ∷ q) o = sym (same s (c ∷ p) (d ∷ q) o.0 o.1 o.2)
 
-  alike-at-end : (s : S) {p q : List ℕ} → Alike kept p q → afterPart turn s q ≡ afterPart turn s p
-  alike-at-end s {p} {q} a = by-either a.either
+  alike_at_end : (s : S) {p q : List ℕ} → Alike kept p q → after_part turn s q ≡ after_part turn s p
+  alike_at_end s {p} {q} a = by_either a.either
     where
-      by-either : SameOrKept kept p q → afterPart turn s q ≡ afterPart turn s p
-      by-either (inl e) = ap (afterPart turn s) (sym e)
-      by-either (inr o) = kept-at-end s p q o
+      by_either : SameOrKept kept p q → after_part turn s q ≡ after_part turn s p
+      by_either (inl e) = ap (after_part turn s) (sym e)
+      by_either (inr o) = kept_at_end s p q o
 
-  afterLines-append : (s : S) (ls ms : List (List ℕ)) → afterLines turn s (ls ++ ms) ≡ afterLines turn (afterLines turn s ls) ms
-  unfolding afterLines
-  afterLines-append s [] ms = refl
-  afterLines-append s (l ∷ ls) ms = afterLines-append (turn s l) ls ms
+  after_lines_append : (s : S) (ls ms : List (List ℕ)) → after_lines turn s (ls ++ ms) ≡ after_lines turn (after_lines turn s ls) ms
+  unfolding after_lines
+  after_lines_append s [] ms = refl
+  after_lines_append s (l ∷ ls) ms = after_lines_append (turn s l) ls ms
 
   -- p is the whole of the part that q was kept of
-  pieces-lead : (s : S) {p q : List ℕ} → Alike kept p q → (pieces : List (List ℕ))
-      → afterPieces turn kept s q pieces ≡ afterLines turn s (linesIn (p ++ all_of pieces))
-  unfolding afterPieces all_of
-  pieces-lead s {p} {q} a [] = alike-at-end s a ∙ ap (afterLines turn s) (sym (unended-line a.first) ∙ ap linesIn (sym (append-nil p)))
-  pieces-lead s {p} {q} a (piece ∷ pieces) =
+  pieces_lead : (s : S) {p q : List ℕ} → Alike kept p q → (pieces : List (List ℕ))
+      → after_pieces turn kept s q pieces ≡ after_lines turn s (lines_in (p ++ all_of pieces))
+  unfolding after_pieces all_of
+  pieces_lead s {p} {q} a [] = alike_at_end s a ∙ ap (after_lines turn s) (sym (unended_line_lem a.first) ∙ ap lines_in (sym (append-nil p)))
+  pieces_lead s {p} {q} a (piece ∷ pieces) =
       let u = all_of pieces in
       let c = cut (p ++ piece) in
-      let g = alike-agreeing a piece in
-      let rest = pieces-lead (afterLines turn s c.whole) (alike-kept kept g.parts) pieces in
-      let lines : linesIn (p ++ (piece ++ u)) ≡ c.whole ++ linesIn (c.part ++ u) = ap linesIn (sym (append_assoc p piece u)) ∙ lines-go-on u (p ++ piece) in
-      rw (← g.leads s, rest, lines) (sym (afterLines-append s c.whole (linesIn (c.part ++ u))))
+      let g = alike_agreeing a piece in
+      let rest = pieces_lead (after_lines turn s c.whole) (alike_kept kept g.parts) pieces in
+      let lines : lines_in (p ++ (piece ++ u)) ≡ c.whole ++ lines_in (c.part ++ u) = ap lines_in (sym (append_assoc p piece u)) ∙ lines_go_on u (p ++ piece) in
+      rw (← g.leads s, rest, lines) (sym (after_lines_append s c.whole (lines_in (c.part ++ u))))
 
-  pub cut-alike : (s : S) (pieces : List (List ℕ)) → afterPieces turn kept s [] pieces ≡ afterLines turn s (linesIn (all_of pieces))
-  cut-alike s pieces = pieces-lead s (same_alike kept none) pieces
+  pub cut_alike : (s : S) (pieces : List (List ℕ)) → after_pieces turn kept s [] pieces ≡ after_lines turn s (lines_in (all_of pieces))
+  cut_alike s pieces = pieces_lead s (same_alike kept none) pieces

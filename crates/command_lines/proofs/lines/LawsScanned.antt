@@ -7,35 +7,35 @@ use Rattle.basics.specs.Lists.{also}
 use Rattle.rules.specs.declared.Command.{Command}
 use Rattle.rules.specs.declared.Reading.{Reading}
 use Rattle.rules.specs.declared.Reading.TheVariants as reading
-use Rattle.rules.specs.CommandLines.{commandIn, headerForm, kind_of, form_of, numbersOf, written, lineFeed, line_of}
-use Rattle.rules.proofs.LawsLines.{commandIn-is}
+use Rattle.rules.specs.CommandLines.{command_in, header_form, kind_of, form_of, numbers_of, written, line_feed, line_of}
+use Rattle.rules.proofs.LawsLines.{command_in_is}
 use Rattle.rules.proofs.LawsUnended.{Unended}
 
 -- every command has a line of its own
-pub no-command : (l : List ℕ) → ((c : Command) → l ≡ line_of c → ⊥) → commandIn l ≡ reading.Bad
-no-command l never = by-reading (commandIn l) refl
+pub no_command : (l : List ℕ) → ((c : Command) → l ≡ line_of c → ⊥) → command_in l ≡ reading.Bad
+no_command l never = by_reading (command_in l) refl
   where
-    by-reading : (r : Reading) → commandIn l ≡ r → commandIn l ≡ reading.Bad
-    by-reading reading.Bad e = e
-    by-reading (reading.Is c) e = absurd (never c (commandIn-is l c e).line-is)
+    by_reading : (r : Reading) → command_in l ≡ r → command_in l ≡ reading.Bad
+    by_reading reading.Bad e = e
+    by_reading (reading.Is c) e = absurd (never c (command_in_is l c e).line_is_lem)
 
-unended-behind : (s u : List ℕ) → Unended (s ++ u) → Unended u
-unended-behind [] u a = a
-unended-behind (c ∷ s) u (also e a) = unended-behind s u a
+unended_behind : (s u : List ℕ) → Unended (s ++ u) → Unended u
+unended_behind [] u a = a
+unended_behind (c ∷ s) u (also e a) = unended_behind s u a
 
 -- which ends with a line feed
-lineOf-ended : (c : Command) → Unended (line_of c) → ⊥
+line_of_ended : (c : Command) → Unended (line_of c) → ⊥
 unfolding line_of
-lineOf-ended c a =
-    let body = written (form_of c.body) (numbersOf c.body) in
-    let header = written headerForm (kind_of c.body ∷ c.number.0 ∷ c.time ∷ []) in
-    ended (unended-behind body (lineFeed ∷ []) (unended-behind header (body ++ (lineFeed ∷ [])) a))
+line_of_ended c a =
+    let body = written (form_of c.body) (numbers_of c.body) in
+    let header = written header_form (kind_of c.body ∷ c.number.0 ∷ c.time ∷ []) in
+    ended (unended_behind body (line_feed ∷ []) (unended_behind header (body ++ (line_feed ∷ [])) a))
   where
-    ended : Unended (lineFeed ∷ []) → ⊥
+    ended : Unended (line_feed ∷ []) → ⊥
     ended (also e a) = true≢false e
 
-pub unended-bad : (l : List ℕ) → Unended l → commandIn l ≡ reading.Bad
-unended-bad l a = no-command l never
+pub unended_bad : (l : List ℕ) → Unended l → command_in l ≡ reading.Bad
+unended_bad l a = no_command l never
   where
     never : (c : Command) → l ≡ line_of c → ⊥
-    never c e = lineOf-ended c (rw e at a)
+    never c e = line_of_ended c (rw e at a)

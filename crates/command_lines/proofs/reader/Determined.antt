@@ -4,5 +4,5 @@ use mathlib.Core.Path.{◌≡◌, sym, ◌∙◌}
 use Rattle.rules.specs.declared.Reading.{Reading}
 use Rattle.command_lines.proofs.reader.read_command.Reads as read-command
 
-pub read-command-determined : (κs : _) (a : _) (r r' : Reading) (s s' : _) → read-command.Post κs a r s → read-command.Post κs a r' s' → r ≡ r'
-read-command-determined κs a r r' s s' p q = p ∙ sym q
+pub read_command_determined : (κs : _) (a : _) (r r' : Reading) (s s' : _) → read-command.Post κs a r s → read-command.Post κs a r' s' → r ≡ r'
+read_command_determined κs a r r' s s' p q = p ∙ sym q

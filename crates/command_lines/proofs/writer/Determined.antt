@@ -4,5 +4,5 @@ use mathlib.Core.Path.{◌≡◌, sym, ◌∙◌}
 use Rattle.command_lines.specs.declared.writer.Written.{Written}
 use Rattle.command_lines.proofs.writer.write_command.Reads as write-command
 
-pub write-command-determined : (κs : _) (a : _) (r r' : Written) (s s' : _) → write-command.Post κs a r s → write-command.Post κs a r' s' → (r ≡ r') × (s.1.0.now ≡ s'.1.0.now)
-write-command-determined κs a r r' s s' p q = (p.0 ∙ sym q.0, p.1.0 ∙ sym q.1.0)
+pub write_command_determined : (κs : _) (a : _) (r r' : Written) (s s' : _) → write-command.Post κs a r s → write-command.Post κs a r' s' → (r ≡ r') × (s.1.0.now ≡ s'.1.0.now)
+write_command_determined κs a r r' s s' p q = (p.0 ∙ sym q.0, p.1.0 ∙ sym q.1.0)

@@ -4,14 +4,14 @@ use mathlib.Core.Path.{◌∙◌}
 use native.Mathlib.Omega.{arith}
 use borrow.Author.Rules.{rules}
 use Rattle.rules.specs.Book.{Book}
-use Rattle.side.specs.Tables.{bookOn}
-use Rattle.side.proofs.tables.LawsAnswers.{left-refused}
-use Rattle.commands.proofs.LawsCommand.{header_refused, left_passed, header-next}
+use Rattle.side.specs.Tables.{book_on}
+use Rattle.side.proofs.tables.LawsAnswers.{left_refused}
+use Rattle.commands.proofs.LawsCommand.{header_refused, left_passed, header_next}
 use Rattle.commands.proofs.apply.Statement.{statement}
 use Rattle.commands.proofs.apply.Tie as tie
 
 abbrev book : tie.Start → Book
-book s = let a = s.args in bookOn a.h a.x.now a.buys.now a.y.now a.sells.now
+book s = let a = s.args in book_on a.h a.x.now a.buys.now a.y.now a.sells.now
 
 header-refusal-requires : tie.Need-header-refusal-requires
 header-refusal-requires c κs = search rules
@@ -25,13 +25,13 @@ returns c =
     let a = start.args in
     let k = c.before.before.header-refusal in
     let left =
-    left-refused a.h a.x.now a.buys.now a.y.now a.sells.now start.requires.0 k.result a.out.now _
+    left_refused a.h a.x.now a.buys.now a.y.now a.sells.now start.requires.0 k.result a.out.now _
     (header_refused a.c (book start) k.result k.ensures (omega (arith, c.before.if1.true))) in
     (c.refuse.ensures ∙ left.0, left.1)
 
 -- a command that passes is the next one
 above : (c : tie.Else1) → c.before.before.before.before.before.args.h.held.last.0 < c.before.before.before.before.before.args.c.number.0
-above c = let start = c.before.before.before.before.before in header-next start.args.c (book start) c.before.header-refusal.result c.before.header-refusal.ensures c.if1.false
+above c = let start = c.before.before.before.before.before in header_next start.args.c (book start) c.before.header-refusal.result c.before.header-refusal.ensures c.if1.false
 
 enum-known-body : tie.Need-enum-known-body
 enum-known-body c = search rules

@@ -3,13 +3,13 @@
 use mathlib.Core.Path.{◌≡◌}
 use Rattle.side.specs.Table.{side}
 use Rattle.side.specs.declared.tables.Step.{Step}
-use Rattle.side.proofs.tables.LawsAnswers.{left-determined}
+use Rattle.side.proofs.tables.LawsAnswers.{left_determined}
 use Rattle.commands.proofs.cancels.cancel.Reads as cancel
 
-pub cancel-determined : (κs : _) (a : _) (r r' : Step) (s s' : _) → cancel.Post κs a r s → cancel.Post κs a r' s'
+pub cancel_determined : (κs : _) (a : _) (r r' : Step) (s s' : _) → cancel.Post κs a r s → cancel.Post κs a r' s'
     → (r ≡ r')
     × (side r.head.buys s.1.1.1.1.0.now a.1.1.1.1.1.0.now ≡ side r.head.buys s'.1.1.1.1.0.now a.1.1.1.1.1.0.now)
     × (side r.head.sells s.1.1.1.1.1.1.0.now a.1.1.1.1.1.1.1.0.now
     ≡ side r.head.sells s'.1.1.1.1.1.1.0.now a.1.1.1.1.1.1.1.0.now)
     × (s.1.1.1.1.1.1.1.1.0.now ≡ s'.1.1.1.1.1.1.1.1.0.now)
-cancel-determined κs a r r' s s' p q = left-determined _ _ p q
+cancel_determined κs a r r' s s' p q = left_determined _ _ p q

@@ -5,59 +5,59 @@ use mathlib.Core.List.{[], ◌∷◌}
 use mathlib.Core.Path.{◌≡◌, ◌∙◌}
 use lib.ListN.{length}
 use native.Mathlib.Omega.{arith}
-use Rattle.basics.specs.Lists.{any, firstWhere, removeAt}
+use Rattle.basics.specs.Lists.{any, first_where, remove_at}
 use Rattle.kinds.specs.declared.Number.{Number}
 use Rattle.rules.specs.declared.Body.TheVariants as body
 use Rattle.rules.specs.Book.{Book}
-use Rattle.rules.specs.Commands.{withAccepted, is_number}
-use Rattle.rules.specs.Refusals.{first_of, bodyRefusals}
+use Rattle.rules.specs.Commands.{with_accepted, is_number}
+use Rattle.rules.specs.Refusals.{first_of, body_refusals}
 use Rattle.rules.specs.Settling.{Done}
-use Rattle.rules.proofs.LawsCommands.{cancel-does}
+use Rattle.rules.proofs.LawsCommands.{cancel_does}
 use Rattle.soundness.proofs.LawsSound.{Sound}
-use Rattle.side.specs.Answers.{bodyAnswer}
-use Rattle.side.proofs.tables.LawsAnswers.{body-done, body_refused, doneWith, refusedWith}
-use Rattle.commands.specs.Cancels.{offLine}
-use Rattle.commands.proofs.cancels.LawsCancelled.{staying-none, told_none, staying-one, told-one, on-first-side, on-second-side, first-once, second-once, stopped}
+use Rattle.side.specs.Answers.{body_answer}
+use Rattle.side.proofs.tables.LawsAnswers.{body_done, body_refused, done_with, refused_with}
+use Rattle.commands.specs.Cancels.{off_line}
+use Rattle.commands.proofs.cancels.LawsCancelled.{staying_none, told_none, staying_one, told_one, on_first_side, on_second_side, first_once, second_once, stopped}
 
 module _ (n : Number) (time : ℕ) (of : Number) (b : Book) where
   -- what is done where the number is of the buy, or of the sell, at a rank
-  abbrev pub withoutBuy : ℕ → Done
-  withoutBuy at = record {
-    book = record { held = withAccepted n time b.held; buys = removeAt at b.buys; sells = b.sells };
-    events = offLine at b.buys ∷ [];
+  abbrev pub without_buy : ℕ → Done
+  without_buy at = record {
+    book = record { held = with_accepted n time b.held; buys = remove_at at b.buys; sells = b.sells };
+    events = off_line at b.buys ∷ [];
     moves = 0;
   }
 
-  abbrev pub withoutSell : ℕ → Done
-  withoutSell at = record {
-    book = record { held = withAccepted n time b.held; buys = b.buys; sells = removeAt at b.sells };
-    events = offLine at b.sells ∷ [];
+  abbrev pub without_sell : ℕ → Done
+  without_sell at = record {
+    book = record { held = with_accepted n time b.held; buys = b.buys; sells = remove_at at b.sells };
+    events = off_line at b.sells ∷ [];
     moves = 0;
   }
 
-  pub cancelled-buy : Sound b → firstWhere (is_number of) b.buys < length b.buys
-      → bodyAnswer n time (body.Cancel of) b ≡ doneWith (withoutBuy (firstWhere (is_number of) b.buys))
-  unfolding first_of bodyRefusals
-  cancelled-buy s l =
+  pub cancelled_buy : Sound b → first_where (is_number of) b.buys < length b.buys
+      → body_answer n time (body.Cancel of) b ≡ done_with (without_buy (first_where (is_number of) b.buys))
+  unfolding first_of body_refusals
+  cancelled_buy s l =
       let e = stopped (is_number of) b.buys l in
-      let none = on-first-side of b.buys b.sells s.once e in
-      let once = first-once b.buys b.sells s.once in
-      let does = cancel-does n time b of in
-      body-done n time (body.Cancel of) b (rw e)
-      ∙ rw (does.0, does.1, staying-one of b.buys once e, told-one of b.buys once e, staying-none of b.sells none, told_none of b.sells none)
+      let none = on_first_side of b.buys b.sells s.once e in
+      let once = first_once b.buys b.sells s.once in
+      let does = cancel_does n time b of in
+      body_done n time (body.Cancel of) b (rw e)
+      ∙ rw (does.0, does.1, staying_one of b.buys once e, told_one of b.buys once e, staying_none of b.sells none, told_none of b.sells none)
 
-  pub cancelled-sell : Sound b → firstWhere (is_number of) b.sells < length b.sells
-      → bodyAnswer n time (body.Cancel of) b ≡ doneWith (withoutSell (firstWhere (is_number of) b.sells))
-  unfolding first_of bodyRefusals
-  cancelled-sell s l =
+  pub cancelled_sell : Sound b → first_where (is_number of) b.sells < length b.sells
+      → body_answer n time (body.Cancel of) b ≡ done_with (without_sell (first_where (is_number of) b.sells))
+  unfolding first_of body_refusals
+  cancelled_sell s l =
       let e = stopped (is_number of) b.sells l in
-      let none = on-second-side of b.buys b.sells s.once e in
-      let once = second-once b.buys b.sells s.once in
-      let does = cancel-does n time b of in
-      body-done n time (body.Cancel of) b (rw (none, e))
-      ∙ rw (does.0, does.1, staying-one of b.sells once e, told-one of b.sells once e, staying-none of b.buys none, told_none of b.buys none)
+      let none = on_second_side of b.buys b.sells s.once e in
+      let once = second_once b.buys b.sells s.once in
+      let does = cancel_does n time b of in
+      body_done n time (body.Cancel of) b (rw (none, e))
+      ∙ rw (does.0, does.1, staying_one of b.sells once e, told_one of b.sells once e, staying_none of b.buys none, told_none of b.buys none)
 
-  pub cancel-refused : any (is_number of) b.buys ≡ false → any (is_number of) b.sells ≡ false
-      → bodyAnswer n time (body.Cancel of) b ≡ refusedWith 10 b
-  unfolding first_of bodyRefusals
-  cancel-refused none none' = body_refused n time (body.Cancel of) b 10 (omega arith) (rw (none, none'))
+  pub cancel_refused : any (is_number of) b.buys ≡ false → any (is_number of) b.sells ≡ false
+      → body_answer n time (body.Cancel of) b ≡ refused_with 10 b
+  unfolding first_of body_refusals
+  cancel_refused none none' = body_refused n time (body.Cancel of) b 10 (omega arith) (rw (none, none'))

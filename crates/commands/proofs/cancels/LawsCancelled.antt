@@ -9,193 +9,193 @@ use lib.Dec.{eqb}
 use lib.ListN.{length}
 use native.Mathlib.Omega.{arith}
 use borrow.Author.Tests.{eqb-true, eqb-false, ne_eqb, not-true, lt-ltb, le-ltb}
-use Rattle.basics.specs.Lists.{any, distinct, firstWhere, removeAt, gathered}
-use Rattle.basics.proofs.LawsChoice.{holds-or-not, lt-or-le, and_left, and_right, or-neither}
+use Rattle.basics.specs.Lists.{any, distinct, first_where, remove_at, gathered}
+use Rattle.basics.proofs.LawsChoice.{holds_or_not, lt_or_le, and_left, and_right, or_neither}
 use Rattle.kinds.specs.declared.Number.{Number}
 use Rattle.rules.specs.declared.Event.{Event}
 use Rattle.rules.specs.declared.Resting.{Resting}
 use Rattle.rules.specs.Book.{numbers}
-use Rattle.rules.specs.Commands.{is_number, cancelFate}
+use Rattle.rules.specs.Commands.{is_number, cancel_fate}
 use Rattle.rules.specs.Settling.{staying, told}
 use Rattle.commands.specs.declared.cancels.Found.{Found}
 use Rattle.commands.specs.declared.cancels.Found.TheVariants.{AmongBuys, AmongSells, Nowhere}
-use Rattle.commands.specs.Cancels.{whereIs, offLine}
+use Rattle.commands.specs.Cancels.{where_is, off_line}
 
 -- ── A search ──
 
 module _ (test : Resting → Bool) where
   -- it passes every order where it finds none, and stops where it finds one
-  pub passed-all : (s : List Resting) → length s ≤ firstWhere test s → any test s ≡ false
-  unfolding any firstWhere
-  passed-all [] l = refl
-  passed-all (h ∷ s) l =
+  pub passed_all : (s : List Resting) → length s ≤ first_where test s → any test s ≡ false
+  unfolding any first_where
+  passed_all [] l = refl
+  passed_all (h ∷ s) l =
       ⊎_elim
       (λ (t : test h ≡ true). let m : suc (length s) ≤ 0 = rw t at l in let z : ⊥ = omega (arith, m) in absurd z)
       (λ (t : test h ≡ false).
-      let m : suc (length s) ≤ suc (firstWhere test s) = rw t at l in
-      rw t (passed-all s (omega (arith, m))))
-      (holds-or-not (test h))
+      let m : suc (length s) ≤ suc (first_where test s) = rw t at l in
+      rw t (passed_all s (omega (arith, m))))
+      (holds_or_not (test h))
 
-  pub passes-all : (s : List Resting) → any test s ≡ false → length s ≤ firstWhere test s
-  unfolding any firstWhere
-  passes-all [] e = omega arith
-  passes-all (h ∷ s) e = let both = or-neither (test h) (any test s) e in rw both.0 (omega (arith, passes-all s both.1))
+  pub passes_all : (s : List Resting) → any test s ≡ false → length s ≤ first_where test s
+  unfolding any first_where
+  passes_all [] e = omega arith
+  passes_all (h ∷ s) e = let both = or_neither (test h) (any test s) e in rw both.0 (omega (arith, passes_all s both.1))
 
-  pub stopped : (s : List Resting) → firstWhere test s < length s → any test s ≡ true
+  pub stopped : (s : List Resting) → first_where test s < length s → any test s ≡ true
   stopped s l =
       ⊎_elim
       (λ (t : any test s ≡ true). t)
-      (λ (t : any test s ≡ false). let z : ⊥ = omega (arith, passes-all s t) in absurd z)
-      (holds-or-not (any test s))
+      (λ (t : any test s ≡ false). let z : ⊥ = omega (arith, passes_all s t) in absurd z)
+      (holds_or_not (any test s))
 
 -- ── By a number ──
 
 module _ (of : Number) where
   -- no order has it
-  pub staying-none : (s : List Resting) → any (is_number of) s ≡ false → staying (cancelFate of) s ≡ s
+  pub staying_none : (s : List Resting) → any (is_number of) s ≡ false → staying (cancel_fate of) s ≡ s
   unfolding any staying gathered
-  staying-none [] e = refl
-  staying-none (h ∷ s) e =
-      let both = or-neither (is_number of h) (any (is_number of) s) e in
-      rw both.0 (ap (λ (r : List Resting). h ∷ r) (staying-none s both.1))
+  staying_none [] e = refl
+  staying_none (h ∷ s) e =
+      let both = or_neither (is_number of h) (any (is_number of) s) e in
+      rw both.0 (ap (λ (r : List Resting). h ∷ r) (staying_none s both.1))
 
-  pub told_none : (s : List Resting) → any (is_number of) s ≡ false → told (cancelFate of) s ≡ []
+  pub told_none : (s : List Resting) → any (is_number of) s ≡ false → told (cancel_fate of) s ≡ []
   unfolding any told gathered
   told_none [] e = refl
-  told_none (h ∷ s) e = let both = or-neither (is_number of h) (any (is_number of) s) e in rw both.0 (told_none s both.1)
+  told_none (h ∷ s) e = let both = or_neither (is_number of h) (any (is_number of) s) e in rw both.0 (told_none s both.1)
 
   -- an order has it, and no other
   others : (n : ℕ) (s : List Resting) → n ≡ of.0 → any (eqb n) (numbers s) ≡ false → any (is_number of) s ≡ false
   unfolding any
   others n [] e d = refl
   others n (h ∷ s) e d =
-      let both = or-neither (eqb n h.number.0) (any (eqb n) (numbers s)) d in
+      let both = or_neither (eqb n h.number.0) (any (eqb n) (numbers s)) d in
       let apart = eqb-false n h.number.0 both.0 in
       rw (ne_eqb h.number.0 of.0 (λ (z : h.number.0 ≡ of.0). apart (e ∙ sym z))) (others n s e both.1)
 
-  none-behind : (h : Resting) (s : List Resting) → distinct (numbers (h ∷ s)) ≡ true → is_number of h ≡ true → any (is_number of) s ≡ false
+  none_behind : (h : Resting) (s : List Resting) → distinct (numbers (h ∷ s)) ≡ true → is_number of h ≡ true → any (is_number of) s ≡ false
   unfolding distinct
-  none-behind h s d t =
+  none_behind h s d t =
       let first = and_left (not (any (eqb h.number.0) (numbers s))) (distinct (numbers s)) d in
       others h.number.0 s (eqb-true h.number.0 of.0 t) (not-true (any (eqb h.number.0) (numbers s)) first)
 
-  distinct-rest : (h : Resting) (s : List Resting) → distinct (numbers (h ∷ s)) ≡ true → distinct (numbers s) ≡ true
+  distinct_rest : (h : Resting) (s : List Resting) → distinct (numbers (h ∷ s)) ≡ true → distinct (numbers s) ≡ true
   unfolding distinct
-  distinct-rest h s d = and_right (not (any (eqb h.number.0) (numbers s))) (distinct (numbers s)) d
+  distinct_rest h s d = and_right (not (any (eqb h.number.0) (numbers s))) (distinct (numbers s)) d
 
-  pub staying-one : (s : List Resting) → distinct (numbers s) ≡ true → any (is_number of) s ≡ true
-      → staying (cancelFate of) s ≡ removeAt (firstWhere (is_number of) s) s
-  unfolding any staying gathered firstWhere
-  staying-one [] d e = absurd (true≢false (sym e))
-  staying-one (h ∷ s) d e =
+  pub staying_one : (s : List Resting) → distinct (numbers s) ≡ true → any (is_number of) s ≡ true
+      → staying (cancel_fate of) s ≡ remove_at (first_where (is_number of) s) s
+  unfolding any staying gathered first_where
+  staying_one [] d e = absurd (true≢false (sym e))
+  staying_one (h ∷ s) d e =
       ⊎_elim
-      (λ (t : is_number of h ≡ true). rw t (staying-none s (none-behind h s d t)))
+      (λ (t : is_number of h ≡ true). rw t (staying_none s (none_behind h s d t)))
       (λ (t : is_number of h ≡ false).
       let m : any (is_number of) s ≡ true = rw t at e in
-      let k = firstWhere (is_number of) s in
+      let k = first_where (is_number of) s in
       let more : suc k + 1 ≡ suc (k + 1) = omega arith in
-      rw (t, more) (ap (λ (r : List Resting). h ∷ r) (staying-one s (distinct-rest h s d) m)))
-      (holds-or-not (is_number of h))
+      rw (t, more) (ap (λ (r : List Resting). h ∷ r) (staying_one s (distinct_rest h s d) m)))
+      (holds_or_not (is_number of h))
 
-  pub told-one : (s : List Resting) → distinct (numbers s) ≡ true → any (is_number of) s ≡ true
-      → told (cancelFate of) s ≡ offLine (firstWhere (is_number of) s) s ∷ []
-  unfolding any told gathered firstWhere
-  told-one [] d e = absurd (true≢false (sym e))
-  told-one (h ∷ s) d e =
+  pub told_one : (s : List Resting) → distinct (numbers s) ≡ true → any (is_number of) s ≡ true
+      → told (cancel_fate of) s ≡ off_line (first_where (is_number of) s) s ∷ []
+  unfolding any told gathered first_where
+  told_one [] d e = absurd (true≢false (sym e))
+  told_one (h ∷ s) d e =
       ⊎_elim
-      (λ (t : is_number of h ≡ true). rw t (ap (λ (es : List Event). offLine 0 (h ∷ s) ∷ es) (told_none s (none-behind h s d t))))
-      (λ (t : is_number of h ≡ false). let m : any (is_number of) s ≡ true = rw t at e in rw t (told-one s (distinct-rest h s d) m))
-      (holds-or-not (is_number of h))
+      (λ (t : is_number of h ≡ true). rw t (ap (λ (es : List Event). off_line 0 (h ∷ s) ∷ es) (told_none s (none_behind h s d t))))
+      (λ (t : is_number of h ≡ false). let m : any (is_number of) s ≡ true = rw t at e in rw t (told_one s (distinct_rest h s d) m))
+      (holds_or_not (is_number of h))
 
   -- a number on one of two sides is not on the other
-  any-second : (s u : List Resting) → any (is_number of) (s ++ u) ≡ false → any (is_number of) u ≡ false
+  any_second : (s u : List Resting) → any (is_number of) (s ++ u) ≡ false → any (is_number of) u ≡ false
   unfolding any
-  any-second [] u e = e
-  any-second (h ∷ s) u e = any-second s u (or-neither (is_number of h) (any (is_number of) (s ++ u)) e).1
+  any_second [] u e = e
+  any_second (h ∷ s) u e = any_second s u (or_neither (is_number of h) (any (is_number of) (s ++ u)) e).1
 
-  pub on-first-side : (s u : List Resting) → distinct (numbers (s ++ u)) ≡ true → any (is_number of) s ≡ true → any (is_number of) u ≡ false
+  pub on_first_side : (s u : List Resting) → distinct (numbers (s ++ u)) ≡ true → any (is_number of) s ≡ true → any (is_number of) u ≡ false
   unfolding any
-  on-first-side [] u d e = absurd (true≢false (sym e))
-  on-first-side (h ∷ s) u d e =
+  on_first_side [] u d e = absurd (true≢false (sym e))
+  on_first_side (h ∷ s) u d e =
       ⊎_elim
-      (λ (t : is_number of h ≡ true). any-second s u (none-behind h (s ++ u) d t))
-      (λ (t : is_number of h ≡ false). let m : any (is_number of) s ≡ true = rw t at e in on-first-side s u (distinct-rest h (s ++ u) d) m)
-      (holds-or-not (is_number of h))
+      (λ (t : is_number of h ≡ true). any_second s u (none_behind h (s ++ u) d t))
+      (λ (t : is_number of h ≡ false). let m : any (is_number of) s ≡ true = rw t at e in on_first_side s u (distinct_rest h (s ++ u) d) m)
+      (holds_or_not (is_number of h))
 
-  pub on-second-side : (s u : List Resting) → distinct (numbers (s ++ u)) ≡ true → any (is_number of) u ≡ true → any (is_number of) s ≡ false
-  on-second-side s u d e =
+  pub on_second_side : (s u : List Resting) → distinct (numbers (s ++ u)) ≡ true → any (is_number of) u ≡ true → any (is_number of) s ≡ false
+  on_second_side s u d e =
       ⊎_elim
-      (λ (t : any (is_number of) s ≡ true). absurd (true≢false (sym e ∙ on-first-side s u d t)))
+      (λ (t : any (is_number of) s ≡ true). absurd (true≢false (sym e ∙ on_first_side s u d t)))
       (λ (t : any (is_number of) s ≡ false). t)
-      (holds-or-not (any (is_number of) s))
+      (holds_or_not (any (is_number of) s))
 
 -- ── The numbers of each side stand once ──
 
-any-front : (n : ℕ) (s u : List Resting) → any (eqb n) (numbers (s ++ u)) ≡ false → any (eqb n) (numbers s) ≡ false
+any_front : (n : ℕ) (s u : List Resting) → any (eqb n) (numbers (s ++ u)) ≡ false → any (eqb n) (numbers s) ≡ false
 unfolding any
-any-front n [] u e = refl
-any-front n (h ∷ s) u e =
-    let both = or-neither (eqb n h.number.0) (any (eqb n) (numbers (s ++ u))) e in
-    rw both.0 (any-front n s u both.1)
+any_front n [] u e = refl
+any_front n (h ∷ s) u e =
+    let both = or_neither (eqb n h.number.0) (any (eqb n) (numbers (s ++ u))) e in
+    rw both.0 (any_front n s u both.1)
 
-pub first-once : (s u : List Resting) → distinct (numbers (s ++ u)) ≡ true → distinct (numbers s) ≡ true
+pub first_once : (s u : List Resting) → distinct (numbers (s ++ u)) ≡ true → distinct (numbers s) ≡ true
 unfolding distinct
-first-once [] u d = refl
-first-once (h ∷ s) u d =
+first_once [] u d = refl
+first_once (h ∷ s) u d =
     let other = not-true (any (eqb h.number.0) (numbers (s ++ u))) (and_left (not (any (eqb h.number.0) (numbers (s ++ u)))) (distinct (numbers (s ++ u))) d) in
-    rw (any-front h.number.0 s u other)
-    (first-once s u (and_right (not (any (eqb h.number.0) (numbers (s ++ u)))) (distinct (numbers (s ++ u))) d))
+    rw (any_front h.number.0 s u other)
+    (first_once s u (and_right (not (any (eqb h.number.0) (numbers (s ++ u)))) (distinct (numbers (s ++ u))) d))
 
-pub second-once : (s u : List Resting) → distinct (numbers (s ++ u)) ≡ true → distinct (numbers u) ≡ true
+pub second_once : (s u : List Resting) → distinct (numbers (s ++ u)) ≡ true → distinct (numbers u) ≡ true
 unfolding distinct
-second-once [] u d = d
-second-once (h ∷ s) u d = second-once s u (and_right (not (any (eqb h.number.0) (numbers (s ++ u)))) (distinct (numbers (s ++ u))) d)
+second_once [] u d = d
+second_once (h ∷ s) u d = second_once s u (and_right (not (any (eqb h.number.0) (numbers (s ++ u)))) (distinct (numbers (s ++ u))) d)
 
 -- ── Where the order of a number rests ──
 
 module _ (of : Number) (buys sells : List Resting) where
-  pub where-buy : (at : ℕ) → at ≡ firstWhere (is_number of) buys → at < length buys → AmongBuys at ≡ whereIs of buys sells
-  where-buy at e l = rw e (sym (rw (lt-ltb (firstWhere (is_number of) buys) (length buys) (omega (arith, e, l))) refl))
+  pub where_buy : (at : ℕ) → at ≡ first_where (is_number of) buys → at < length buys → AmongBuys at ≡ where_is of buys sells
+  where_buy at e l = rw e (sym (rw (lt-ltb (first_where (is_number of) buys) (length buys) (omega (arith, e, l))) refl))
 
-  pub where-sell : length buys ≤ firstWhere (is_number of) buys → (at : ℕ) → at ≡ firstWhere (is_number of) sells → at < length sells
-      → AmongSells at ≡ whereIs of buys sells
-  where-sell bare at e l =
+  pub where_sell : length buys ≤ first_where (is_number of) buys → (at : ℕ) → at ≡ first_where (is_number of) sells → at < length sells
+      → AmongSells at ≡ where_is of buys sells
+  where_sell bare at e l =
       rw e
-      (sym (rw (le-ltb (firstWhere (is_number of) buys) (length buys) bare, lt-ltb (firstWhere (is_number of) sells) (length sells) (omega (arith, e, l))) refl))
+      (sym (rw (le-ltb (first_where (is_number of) buys) (length buys) bare, lt-ltb (first_where (is_number of) sells) (length sells) (omega (arith, e, l))) refl))
 
-  pub where-none : length buys ≤ firstWhere (is_number of) buys → length sells ≤ firstWhere (is_number of) sells → Nowhere ≡ whereIs of buys sells
-  where-none bare none =
-      sym (rw (le-ltb (firstWhere (is_number of) buys) (length buys) bare, le-ltb (firstWhere (is_number of) sells) (length sells) none) refl)
+  pub where_none : length buys ≤ first_where (is_number of) buys → length sells ≤ first_where (is_number of) sells → Nowhere ≡ where_is of buys sells
+  where_none bare none =
+      sym (rw (le-ltb (first_where (is_number of) buys) (length buys) bare, le-ltb (first_where (is_number of) sells) (length sells) none) refl)
 
   -- what was found is so
   Is : Found → Type 0
-  Is (AmongBuys at) = (at ≡ firstWhere (is_number of) buys) × (at < length buys)
-  Is (AmongSells at) = (at ≡ firstWhere (is_number of) sells) × (at < length sells)
+  Is (AmongBuys at) = (at ≡ first_where (is_number of) buys) × (at < length buys)
+  Is (AmongSells at) = (at ≡ first_where (is_number of) sells) × (at < length sells)
   Is Nowhere = (any (is_number of) buys ≡ false) × (any (is_number of) sells ≡ false)
 
-  where-is : Is (whereIs of buys sells)
+  where_is_lem : Is (where_is of buys sells)
   unfolding Is
-  where-is =
+  where_is_lem =
       ⊎_elim
-      (λ (l : firstWhere (is_number of) buys < length buys). rw (lt-ltb (firstWhere (is_number of) buys) (length buys) l) (refl, l))
-      (λ (l : length buys ≤ firstWhere (is_number of) buys).
-      rw (le-ltb (firstWhere (is_number of) buys) (length buys) l)
+      (λ (l : first_where (is_number of) buys < length buys). rw (lt-ltb (first_where (is_number of) buys) (length buys) l) (refl, l))
+      (λ (l : length buys ≤ first_where (is_number of) buys).
+      rw (le-ltb (first_where (is_number of) buys) (length buys) l)
       (⊎_elim
-      (λ (m : firstWhere (is_number of) sells < length sells). rw (lt-ltb (firstWhere (is_number of) sells) (length sells) m) (refl, m))
-      (λ (m : length sells ≤ firstWhere (is_number of) sells).
-      rw (le-ltb (firstWhere (is_number of) sells) (length sells) m) (passed-all (is_number of) buys l, passed-all (is_number of) sells m))
-      (lt-or-le (firstWhere (is_number of) sells) (length sells))))
-      (lt-or-le (firstWhere (is_number of) buys) (length buys))
+      (λ (m : first_where (is_number of) sells < length sells). rw (lt-ltb (first_where (is_number of) sells) (length sells) m) (refl, m))
+      (λ (m : length sells ≤ first_where (is_number of) sells).
+      rw (le-ltb (first_where (is_number of) sells) (length sells) m) (passed_all (is_number of) buys l, passed_all (is_number of) sells m))
+      (lt_or_le (first_where (is_number of) sells) (length sells))))
+      (lt_or_le (first_where (is_number of) buys) (length buys))
 
-  module _ (found : Found) (is : found ≡ whereIs of buys sells) where
-    pub found-buy : (at : ℕ) → found ≡ AmongBuys at → (at ≡ firstWhere (is_number of) buys) × (at < length buys)
+  module _ (found : Found) (is : found ≡ where_is of buys sells) where
+    pub found_buy : (at : ℕ) → found ≡ AmongBuys at → (at ≡ first_where (is_number of) buys) × (at < length buys)
     unfolding Is
-    found-buy at e = subst Is (sym is ∙ e) where-is
+    found_buy at e = subst Is (sym is ∙ e) where_is_lem
 
-    pub found-sell : (at : ℕ) → found ≡ AmongSells at → (at ≡ firstWhere (is_number of) sells) × (at < length sells)
+    pub found_sell : (at : ℕ) → found ≡ AmongSells at → (at ≡ first_where (is_number of) sells) × (at < length sells)
     unfolding Is
-    found-sell at e = subst Is (sym is ∙ e) where-is
+    found_sell at e = subst Is (sym is ∙ e) where_is_lem
 
     pub found_none : found ≡ Nowhere → (any (is_number of) buys ≡ false) × (any (is_number of) sells ≡ false)
     unfolding Is
-    found_none e = subst Is (sym is ∙ e) where-is
+    found_none e = subst Is (sym is ∙ e) where_is_lem

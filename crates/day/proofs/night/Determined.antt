@@ -5,25 +5,25 @@ use Prim.Native.Nat.{ℕ}
 use mathlib.Core.Path.{◌≡◌, sym, ◌∙◌}
 use Rattle.day.specs.declared.night.Turn.{Turn}
 use Rattle.side.specs.Table.{side}
-use Rattle.side.proofs.rows.LawsShown.{shown-same}
+use Rattle.side.proofs.rows.LawsShown.{shown_same}
 use Rattle.day.proofs.night.take_turn.Reads as turn
 use Rattle.day.proofs.night.finish.Reads as finish
 
-pub take-turn-determined : (κs : _) (a : _) (r r' : Turn) (s s' : _) → turn.Post κs a r s → turn.Post κs a r' s'
+pub take_turn_determined : (κs : _) (a : _) (r r' : Turn) (s s' : _) → turn.Post κs a r s → turn.Post κs a r' s'
     → (r ≡ r')
     × (side r.head.buys s.1.1.1.0.now s.1.1.1.1.0.now ≡ side r.head.buys s'.1.1.1.0.now s'.1.1.1.1.0.now)
     × (side r.head.sells s.1.1.1.1.1.0.now s.1.1.1.1.1.1.0.now
     ≡ side r.head.sells s'.1.1.1.1.1.0.now s'.1.1.1.1.1.1.0.now)
     × (s.1.0.now ≡ s'.1.0.now)
     × (s.1.1.1.1.1.1.1.1.0.now ≡ s'.1.1.1.1.1.1.1.1.0.now)
-take-turn-determined κs a r r' s s' p q = (
+take_turn_determined κs a r r' s s' p q = (
   p.0 ∙ sym q.0,
-  rw p.0 (shown-same p.1.0 q.1.0),
-  rw p.0 (shown-same p.1.1.0 q.1.1.0),
+  rw p.0 (shown_same p.1.0 q.1.0),
+  rw p.0 (shown_same p.1.1.0 q.1.1.0),
   p.1.1.1.0 ∙ sym q.1.1.1.0,
   p.1.1.1.1.0 ∙ sym q.1.1.1.1.0,
 )
 
-pub finish-determined : (κs : _) (a : _) (r r' : ℕ) (s s' : _) → finish.Post κs a r s → finish.Post κs a r' s'
+pub finish_determined : (κs : _) (a : _) (r r' : ℕ) (s s' : _) → finish.Post κs a r s → finish.Post κs a r' s'
     → (r ≡ r') × (s.1.0.now ≡ s'.1.0.now)
-finish-determined κs a r r' s s' p q = (p.0 ∙ sym q.0, p.1 ∙ sym q.1)
+finish_determined κs a r r' s s' p q = (p.0 ∙ sym q.0, p.1 ∙ sym q.1)

@@ -9,42 +9,42 @@ use lib.Seq.{take_all}
 use native.Mathlib.Omega.{arith}
 use Rattle.basics.specs.Bytes.{onto}
 use Rattle.basics.specs.Choice.{if◌then◌else◌}
-use Rattle.command_lines.specs.Pieces.{carried, partKept}
+use Rattle.command_lines.specs.Pieces.{carried, part_kept}
 use Rattle.rules.specs.Day.{cut}
 use Rattle.day.specs.declared.replay.Fed.{Fed}
-use Rattle.day.specs.Feed.{worked, fedBy}
-use Rattle.day.specs.Pieces.{printedAtEnd}
+use Rattle.day.specs.Feed.{worked, fed_by}
+use Rattle.day.specs.Pieces.{printed_at_end}
 use Rattle.rules.specs.Book.{Book}
-use Rattle.rules.specs.Refusals.{leastRoom}
-use Rattle.rules.proofs.LawsEvents.{refusal-length}
+use Rattle.rules.specs.Refusals.{least_room}
+use Rattle.rules.proofs.LawsEvents.{refusal_length}
 use Rattle.day.specs.Turns.{turned, turn_of}
 
 -- to keep as many bytes as there were keeps all that is left of them
-kept-is : (isShort : Bool) (input : List ℕ) (at have : ℕ) → carried input at have (if isShort then have else partKept)
-    ≡ (if isShort then drop at (take have input) else take partKept (drop at (take have input)))
-kept-is true input at have = take_all have (drop at (take have input)) (simp (length-drop, length-take) (omega arith))
-kept-is false input at have = refl
+kept_is : (is_short : Bool) (input : List ℕ) (at have : ℕ) → carried input at have (if is_short then have else part_kept)
+    ≡ (if is_short then drop at (take have input) else take part_kept (drop at (take have input)))
+kept_is true input at have = take_all have (drop at (take have input)) (simp (length-drop, length-take) (omega arith))
+kept_is false input at have = refl
 
 -- what was fed, and that so many bytes were carried to the front of the input, are together a turn
-module _ (room : ℕ) (b : Book) (input : List ℕ) (have : ℕ) (fed : Fed) (fedIs : fed ≡ fedBy (worked room b (cut (take have input)).whole))
-    (most : ℕ) (mostIs : most ≡ (if ltb (room - fed.length) leastRoom then have else partKept)) where
-  waits-are : carried input fed.at have most ≡ (turned room b (take have input)).waits
+module _ (room : ℕ) (b : Book) (input : List ℕ) (have : ℕ) (fed : Fed) (fed_is : fed ≡ fed_by (worked room b (cut (take have input)).whole))
+    (most : ℕ) (most_is : most ≡ (if ltb (room - fed.length) least_room then have else part_kept)) where
+  waits_are : carried input fed.at have most ≡ (turned room b (take have input)).waits
   unfolding turned
-  waits-are = rw mostIs (kept-is (ltb (room - fed.length) leastRoom) input fed.at have ∙ rw fedIs)
+  waits_are = rw most_is (kept_is (ltb (room - fed.length) least_room) input fed.at have ∙ rw fed_is)
 
   pub turn_is : (left : ℕ) (input' : List ℕ)
       → left ≡ length (carried input fed.at have most)
       → input' ≡ onto (carried input fed.at have most) input
-      → (record { head = fed.head; have = left; length = fed.length; reads = not (ltb (room - fed.length) leastRoom) }
+      → (record { head = fed.head; have = left; length = fed.length; reads = not (ltb (room - fed.length) least_room) }
       ≡ turn_of (turned room b (take have input)))
       × (input' ≡ onto (turned room b (take have input)).waits input)
       × (left ≤ have)
   unfolding turned
   turn_is left input' e d =
-      (rw (e, waits-are, fedIs), d ∙ ap (λ (waits : List ℕ). onto waits input) waits-are, rw e (simp (length-take, length-drop) (omega arith)))
+      (rw (e, waits_are, fed_is), d ∙ ap (λ (waits : List ℕ). onto waits input) waits_are, rw e (simp (length-take, length-drop) (omega arith)))
 
 -- what is printed at the end has room wherever a refusal has
-pub end_fits : (part : List ℕ) → length (printedAtEnd part) ≤ 5
-unfolding printedAtEnd
+pub end_fits : (part : List ℕ) → length (printed_at_end part) ≤ 5
+unfolding printed_at_end
 end_fits [] = omega arith
-end_fits (b ∷ part) = omega (arith, refusal-length 3)
+end_fits (b ∷ part) = omega (arith, refusal_length 3)

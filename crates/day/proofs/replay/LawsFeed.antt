@@ -8,25 +8,25 @@ use lib.Seq.{take_at, take_all, drop-drop, length-take-le}
 use native.Mathlib.Omega.{arith}
 use borrow.Author.Tests.{lt-ltb, le-ltb}
 use Rattle.basics.specs.Bytes.{onto}
-use Rattle.basics.specs.Lists.{firstWhere}
-use Rattle.basics.proofs.LawsBytes.{onto-none, onto-after, onto-part}
+use Rattle.basics.specs.Lists.{first_where}
+use Rattle.basics.proofs.LawsBytes.{onto_none, onto_after, onto_part}
 use Rattle.command_lines.specs.declared.lines.Line.{Line}
-use Rattle.command_lines.specs.Lines.{isLineFeed, firstLine}
-use Rattle.command_lines.proofs.lines.LawsCut.{cut_line, cut-none}
+use Rattle.command_lines.specs.Lines.{is_line_feed, first_line}
+use Rattle.command_lines.proofs.lines.LawsCut.{cut_line, cut_none}
 use Rattle.side.specs.Table.{Shows}
-use Rattle.side.proofs.rows.LawsShown.{length-side, holds-shows}
+use Rattle.side.proofs.rows.LawsShown.{length_side, holds_shows}
 use Rattle.rules.specs.Book.{Book}
-use Rattle.rules.specs.CommandLines.{commandIn}
+use Rattle.rules.specs.CommandLines.{command_in}
 use Rattle.rules.specs.Day.{Cut, cut, printed}
-use Rattle.rules.specs.Refusals.{leastRoom}
-use Rattle.rules.specs.Step.{Answer, answerTo}
-use Rattle.soundness.proofs.LawsKept.{answer-sound}
+use Rattle.rules.specs.Refusals.{least_room}
+use Rattle.rules.specs.Step.{Answer, answer_to}
+use Rattle.soundness.proofs.LawsKept.{answer_sound}
 use Rattle.side.specs.declared.tables.Head.{Head}
 use Rattle.side.specs.Answers.{Stands}
-use Rattle.side.specs.Tables.{bookOn, head_of}
-use Rattle.side.proofs.tables.LawsAnswers.{book-back, stands-back}
+use Rattle.side.specs.Tables.{book_on, head_of}
+use Rattle.side.proofs.tables.LawsAnswers.{book_back, stands_back}
 use Rattle.day.specs.declared.replay.Fed.{Fed}
-use Rattle.day.specs.Feed.{answerFor, Worked, nothingOf, behind, worked, fedBy}
+use Rattle.day.specs.Feed.{answer_for, Worked, nothing_of, behind, worked, fed_by}
 
 -- ── The lines worked so far ──
 
@@ -43,18 +43,18 @@ pub record Feeding (input out₀ : List ℕ) (b₀ : Book) (x : List ℕ) (t : L
   pub fits : len ≤ length out₀
   pub long : length out ≡ length out₀
   pub written : out ≡ onto (take len out) out₀
-  pub goesOn : worked (length out₀) b₀ (cut input).whole ≡ ahead (take len out) at (worked (length out₀ - len) (bookOn h x t y u) (cut (drop at input)).whole)
+  pub goes_on : worked (length out₀) b₀ (cut input).whole ≡ ahead (take len out) at (worked (length out₀ - len) (book_on h x t y u) (cut (drop at input)).whole)
 
-pub feeding-start : (input out : List ℕ) (h : Head) (x : List ℕ) (t : List (List ℕ)) (y : List ℕ) (u : List (List ℕ)) → Stands h x t y u → Feeding input out (bookOn h x t y u) x t y u out h 0 0
-feeding-start input out h x t y u s = record {
+pub feeding_start : (input out : List ℕ) (h : Head) (x : List ℕ) (t : List (List ℕ)) (y : List ℕ) (u : List (List ℕ)) → Stands h x t y u → Feeding input out (book_on h x t y u) x t y u out h 0 0
+feeding_start input out h x t y u s = record {
   stands = s;
   within = omega arith;
   fits = omega arith;
   long = refl;
-  written = onto-none out;
-  goesOn =
+  written = onto_none out;
+  goes_on =
       let all : length out - 0 ≡ length out = omega arith in
-      let none : 0 + (worked (length out) (bookOn h x t y u) (cut input).whole).length ≡ (worked (length out) (bookOn h x t y u) (cut input).whole).length = omega arith in
+      let none : 0 + (worked (length out) (book_on h x t y u) (cut input).whole).length ≡ (worked (length out) (book_on h x t y u) (cut input).whole).length = omega arith in
       rw (all, none);
 }
 
@@ -63,85 +63,85 @@ feeding-start input out h x t y u s = record {
 module _ (input out₀ : List ℕ) (b₀ : Book) (x : List ℕ) (t : List (List ℕ)) (y : List ℕ) (u : List (List ℕ)) (out : List ℕ) (h : Head) (at len : ℕ) (f : Feeding input out₀ b₀ x t y u out h at len) where
   -- nothing more is worked
   abbrev pub Ends : Type 0
-  Ends = worked (length out₀) b₀ (cut input).whole ≡ record { book = bookOn h x t y u; length = at; printed = take len out }
+  Ends = worked (length out₀) b₀ (cut input).whole ≡ record { book = book_on h x t y u; length = at; printed = take len out }
 
-  ends : worked (length out₀ - len) (bookOn h x t y u) (cut (drop at input)).whole ≡ nothingOf (bookOn h x t y u) → Ends
+  ends : worked (length out₀ - len) (book_on h x t y u) (cut (drop at input)).whole ≡ nothing_of (book_on h x t y u) → Ends
   ends e =
       let z : at + 0 ≡ at = omega arith in
-      f.goesOn ∙ ap (ahead (take len out) at) e ∙ rw (z, append-nil (take len out))
+      f.goes_on ∙ ap (ahead (take len out) at) e ∙ rw (z, append-nil (take len out))
 
-  no_room : (s : List (List ℕ)) (room : ℕ) (b : Book) → room < leastRoom → worked room b s ≡ nothingOf b
+  no_room : (s : List (List ℕ)) (room : ℕ) (b : Book) → room < least_room → worked room b s ≡ nothing_of b
   unfolding worked
   no_room [] room b l = refl
-  no_room (x ∷ s) room b l = rw (lt-ltb room leastRoom l)
+  no_room (x ∷ s) room b l = rw (lt-ltb room least_room l)
 
-  pub ends-full : length out - len < leastRoom → Ends
-  ends-full l = ends (no_room (cut (drop at input)).whole (length out₀ - len) (bookOn h x t y u) (omega (arith, f.long)))
+  pub ends_full : length out - len < least_room → Ends
+  ends_full l = ends (no_room (cut (drop at input)).whole (length out₀ - len) (book_on h x t y u) (omega (arith, f.long)))
 
-  ends-empty : length input ≤ at + firstWhere isLineFeed (drop at input) → Ends
+  ends_empty : length input ≤ at + first_where is_line_feed (drop at input) → Ends
   unfolding worked
-  ends-empty l =
+  ends_empty l =
       let short : length (drop at input) ≡ length input - at = length-drop at input in
-      let m : length (drop at input) ≤ firstWhere isLineFeed (drop at input) = omega (arith, short) in
-      ends (rw (cut-none (drop at input) m))
+      let m : length (drop at input) ≤ first_where is_line_feed (drop at input) = omega (arith, short) in
+      ends (rw (cut_none (drop at input) m))
 
-  rest-is : take (length input - at) (drop at input) ≡ drop at input
-  rest-is = take_all (length input - at) (drop at input) (omega (arith, length-drop at input))
+  rest_is : take (length input - at) (drop at input) ≡ drop at input
+  rest_is = take_all (length input - at) (drop at input) (omega (arith, length-drop at input))
 
-  pub ends_found : (l : Line) → l ≡ firstLine (take (length input - at) (drop at input)) → length input - at ≤ l.digits → Ends
+  pub ends_found : (l : Line) → l ≡ first_line (take (length input - at) (drop at input)) → length input - at ≤ l.digits → Ends
   ends_found l found none =
-      let d : l.digits ≡ firstWhere isLineFeed (drop at input) = ap (λ (x : Line). x.digits) found ∙ rw rest-is in
-      ends-empty (omega (arith, d, none, f.within))
+      let d : l.digits ≡ first_where is_line_feed (drop at input) = ap (λ (x : Line). x.digits) found ∙ rw rest_is in
+      ends_empty (omega (arith, d, none, f.within))
 
   -- so the header, the sides and the output are those of all that is worked
   pub left_end : Ends
-      → (record { head = h; at = at; length = len } ≡ fedBy (worked (length out₀) b₀ (cut input).whole))
+      → (record { head = h; at = at; length = len } ≡ fed_by (worked (length out₀) b₀ (cut input).whole))
       × (Shows (worked (length out₀) b₀ (cut input).whole).book.buys x t
       × (Shows (worked (length out₀) b₀ (cut input).whole).book.sells y u
       × (out ≡ onto (worked (length out₀) b₀ (cut input).whole).printed out₀)))
   left_end e =
       let s = f.stands in
-      let head : head_of (bookOn h x t y u) ≡ h = rw (length-side h.buys x t, length-side h.sells y u) in
+      let head : head_of (book_on h x t y u) ≡ h = rw (length_side h.buys x t, length_side h.sells y u) in
       let long : length (take len out) ≡ len = length-take-le len out (omega (arith, f.fits, f.long)) in
-      rw e (fed-is (sym head) (sym long), (holds-shows h.buys x t s.buys, (holds-shows h.sells y u s.sells, f.written)))
+      rw e (fed_is_lem (sym head) (sym long), (holds_shows h.buys x t s.buys, (holds_shows h.sells y u s.sells, f.written)))
     where
-      fed-is : {h h' : Head} {len len' : ℕ} → h ≡ h' → len ≡ len' → fed h at len ≡ fed h' at len'
-      fed-is p q = rw (p, q)
+      fed_is_lem : {h h' : Head} {len len' : ℕ} → h ≡ h' → len ≡ len' → fed h at len ≡ fed h' at len'
+      fed_is_lem p q = rw (p, q)
 
   -- ── A turn ──
 
-  module _ (room : leastRoom ≤ length out - len) (e : ℕ) (found : e ≡ at + firstWhere isLineFeed (drop at input)) (is_line : e < length input)
-      (line : List ℕ) (lineIs : line ≡ take (e + 1 - at) (drop at input)) where
+  module _ (room : least_room ≤ length out - len) (e : ℕ) (found : e ≡ at + first_where is_line_feed (drop at input)) (is_line : e < length input)
+      (line : List ℕ) (line_is : line ≡ take (e + 1 - at) (drop at input)) where
     abbrev pub it : Answer
-    it = answerTo (bookOn h x t y u) line
+    it = answer_to (book_on h x t y u) line
 
     -- the line, and what is cut behind it
-    first-line : (cut (drop at input)).whole ≡ line ∷ (cut (drop (e + 1) input)).whole
-    first-line =
+    first_line_lem : (cut (drop at input)).whole ≡ line ∷ (cut (drop (e + 1) input)).whole
+    first_line_lem =
         let s = drop at input in
         let long : length s ≡ length input - at = length-drop at input in
-        let k : suc (firstWhere isLineFeed s) ≡ e + 1 - at = omega (arith, found) in
+        let k : suc (first_where is_line_feed s) ≡ e + 1 - at = omega (arith, found) in
         let j : at + (e + 1 - at) ≡ e + 1 = omega (arith, found) in
         let c = ap (λ (x : Cut). x.whole) (cut_line s (omega (arith, found, long, f.within))) in
-        c ∙ rw (k, ← lineIs, drop-drop (e + 1 - at) at input, j)
+        c ∙ rw (k, ← line_is, drop-drop (e + 1 - at) at input, j)
 
-    line-long : at + length line ≡ e + 1
-    line-long =
+    line_long : at + length line ≡ e + 1
+    line_long =
         let long : length (drop at input) ≡ length input - at = length-drop at input in
         let m : length (take (e + 1 - at) (drop at input)) ≡ e + 1 - at = length-take-le (e + 1 - at) (drop at input) (omega (arith, found, long)) in
-        let n : length line ≡ e + 1 - at = ap length lineIs ∙ m in
+        let n : length line ≡ e + 1 - at = ap length line_is ∙ m in
         omega (arith, found, n)
 
-    worked-line : worked (length out₀ - len) (bookOn h x t y u) (cut (drop at input)).whole
+    worked_line : worked (length out₀ - len) (book_on h x t y u) (cut (drop at input)).whole
         ≡ behind line (printed it) (worked (length out₀ - len - length (printed it)) it.book (cut (drop (e + 1) input)).whole)
     unfolding worked
-    worked-line = rw (first-line, le-ltb (length out₀ - len) leastRoom (omega (arith, room, f.long)))
+    worked_line = rw (first_line_lem, le-ltb (length out₀ - len) least_room (omega (arith, room, f.long)))
 
     -- what printing the line leaves: the header, both sides, and the part of the output that was lent
     module _ (h' : Head) (x' : List ℕ) (t' : List (List ℕ)) (y' : List ℕ) (u' : List (List ℕ)) (n : ℕ) (part : List ℕ)
-        (headIs : h' ≡ head_of it.book) (lengthIs : n ≡ length (printed it))
-        (buysIs : Shows it.book.buys x' t') (sellsIs : Shows it.book.sells y' u')
-        (partIs : part ≡ onto (printed it) (take (length out - len) (drop len out))) where
+        (head_is : h' ≡ head_of it.book) (length_is : n ≡ length (printed it))
+        (buys_is : Shows it.book.buys x' t') (sells_is : Shows it.book.sells y' u')
+        (part_is : part ≡ onto (printed it) (take (length out - len) (drop len out))) where
       abbrev pub next : List ℕ
       next = take len out ++ (part ++ drop (length out - len) (drop len out))
 
@@ -149,47 +149,47 @@ module _ (input out₀ : List ℕ) (b₀ : Book) (x : List ℕ) (t : List (List 
         front_long : length (take len out) ≡ len
         front_long = length-take-le len out (omega (arith, f.fits, f.long))
 
-        next-is : next ≡ onto (take len out ++ printed it) out₀
-        next-is = onto-after (take len out) (printed it) out₀ out next len front_long f.written (onto-part len (printed it) out part partIs)
+        next_is : next ≡ onto (take len out ++ printed it) out₀
+        next_is = onto_after (take len out) (printed it) out₀ out next len front_long f.written (onto_part len (printed it) out part part_is)
 
         lines_long : length (take len out ++ printed it) ≡ len + n
-        lines_long = length-append (take len out) (printed it) ∙ omega (arith, front_long, lengthIs)
+        lines_long = length-append (take len out) (printed it) ∙ omega (arith, front_long, length_is)
 
         lines_fit : len + n ≤ length out₀
         unfolding onto
         lines_fit =
             let l : length next ≡ length (take len out ++ printed it) + (length out₀ - length (take len out ++ printed it)) =
-            ap length next-is ∙ simp (length-append, length-drop) in
+            ap length next_is ∙ simp (length-append, length-drop) in
             omega (arith, l, lines_long, same, f.long)
 
         taken : take (len + n) next ≡ take len out ++ printed it
         unfolding onto
         taken =
-            ap (take (len + n)) next-is
+            ap (take (len + n)) next_is
             ∙ take_at (take len out ++ printed it) (drop (length (take len out ++ printed it)) out₀) (len + n) lines_long
 
-        book-next : bookOn h' x' t' y' u' ≡ it.book
-        book-next = rw headIs (book-back it.book x' t' y' u' buysIs sellsIs)
+        book_next : book_on h' x' t' y' u' ≡ it.book
+        book_next = rw head_is (book_back it.book x' t' y' u' buys_is sells_is)
 
-        rest-same : worked (length out₀ - len - length (printed it)) it.book (cut (drop (e + 1) input)).whole
-            ≡ worked (length out₀ - (len + n)) (bookOn h' x' t' y' u') (cut (drop (e + 1) input)).whole
-        rest-same =
-            let k : length out₀ - len - length (printed it) ≡ length out₀ - (len + n) = omega (arith, lengthIs) in
-            rw (k, book-next)
+        rest_same : worked (length out₀ - len - length (printed it)) it.book (cut (drop (e + 1) input)).whole
+            ≡ worked (length out₀ - (len + n)) (book_on h' x' t' y' u') (cut (drop (e + 1) input)).whole
+        rest_same =
+            let k : length out₀ - len - length (printed it) ≡ length out₀ - (len + n) = omega (arith, length_is) in
+            rw (k, book_next)
 
-        pub feeding-turn : Feeding input out₀ b₀ x' t' y' u' next h' (e + 1) (len + n)
-        feeding-turn =
-            let w = worked (length out₀ - (len + n)) (bookOn h' x' t' y' u') (cut (drop (e + 1) input)).whole in
-            let lengths : at + (length line + w.length) ≡ e + 1 + w.length = omega (arith, line-long) in
+        pub feeding_turn : Feeding input out₀ b₀ x' t' y' u' next h' (e + 1) (len + n)
+        feeding_turn =
+            let w = worked (length out₀ - (len + n)) (book_on h' x' t' y' u') (cut (drop (e + 1) input)).whole in
+            let lengths : at + (length line + w.length) ≡ e + 1 + w.length = omega (arith, line_long) in
             record {
-              stands = rw headIs (stands-back it.book x' t' y' u' buysIs sellsIs (answer-sound (bookOn h x t y u) line f.stands.isSound));
+              stands = rw head_is (stands_back it.book x' t' y' u' buys_is sells_is (answer_sound (book_on h x t y u) line f.stands.is_sound));
               within = omega (arith, is_line);
               fits = lines_fit;
               long = same ∙ f.long;
-              written = next-is ∙ ap (λ (p : List ℕ). onto p out₀) (sym taken);
-              goesOn =
-                  f.goesOn
-                  ∙ ap (ahead (take len out) at) (worked-line ∙ ap (behind line (printed it)) rest-same)
+              written = next_is ∙ ap (λ (p : List ℕ). onto p out₀) (sym taken);
+              goes_on =
+                  f.goes_on
+                  ∙ ap (ahead (take len out) at) (worked_line ∙ ap (behind line (printed it)) rest_same)
                   ∙ rw (taken, ← lengths) (ap (λ (p : List ℕ). joined p w.book (at + (length line + w.length))) (sym (append_assoc (take len out) (printed it) w.printed)));
             }
           where
@@ -197,28 +197,28 @@ module _ (input out₀ : List ℕ) (b₀ : Book) (x : List ℕ) (t : List (List 
             joined p b k = record { book = b; length = k; printed = p }
 
   -- the same of a line that was found together with what it reads as
-  module _ (room : leastRoom ≤ length out - len) (l : Line) (found : l ≡ firstLine (take (length input - at) (drop at input)))
+  module _ (room : least_room ≤ length out - len) (l : Line) (found : l ≡ first_line (take (length input - at) (drop at input)))
       (is_line : l.digits < length input - at) where
-    place_is : at + l.digits ≡ at + firstWhere isLineFeed (drop at input)
-    place_is = ap (λ (x : Line). at + x.digits) found ∙ rw rest-is
+    place_is : at + l.digits ≡ at + first_where is_line_feed (drop at input)
+    place_is = ap (λ (x : Line). at + x.digits) found ∙ rw rest_is
 
-    line_read : answerFor (bookOn h x t y u) l.reading ≡ answerTo (bookOn h x t y u) (take (at + l.digits + 1 - at) (drop at input))
-    unfolding answerTo
+    line_read : answer_for (book_on h x t y u) l.reading ≡ answer_to (book_on h x t y u) (take (at + l.digits + 1 - at) (drop at input))
+    unfolding answer_to
     line_read =
         let k : at + l.digits + 1 - at ≡ suc l.digits = omega arith in
-        let d : l.digits ≡ firstWhere isLineFeed (drop at input) = ap (λ (x : Line). x.digits) found ∙ rw rest-is in
-        let r : l.reading ≡ commandIn (take (suc (firstWhere isLineFeed (drop at input))) (drop at input)) =
-        ap (λ (x : Line). x.reading) found ∙ rw rest-is in
+        let d : l.digits ≡ first_where is_line_feed (drop at input) = ap (λ (x : Line). x.digits) found ∙ rw rest_is in
+        let r : l.reading ≡ command_in (take (suc (first_where is_line_feed (drop at input))) (drop at input)) =
+        ap (λ (x : Line). x.reading) found ∙ rw rest_is in
         rw (k, r, d)
 
-    pub feeding-line : (h' : Head) (x' : List ℕ) (t' : List (List ℕ)) (y' : List ℕ) (u' : List (List ℕ)) (n : ℕ) (part : List ℕ)
-        → h' ≡ head_of (answerFor (bookOn h x t y u) l.reading).book → n ≡ length (printed (answerFor (bookOn h x t y u) l.reading))
-        → Shows (answerFor (bookOn h x t y u) l.reading).book.buys x' t' → Shows (answerFor (bookOn h x t y u) l.reading).book.sells y' u'
-        → part ≡ onto (printed (answerFor (bookOn h x t y u) l.reading)) (take (length out - len) (drop len out))
+    pub feeding_line : (h' : Head) (x' : List ℕ) (t' : List (List ℕ)) (y' : List ℕ) (u' : List (List ℕ)) (n : ℕ) (part : List ℕ)
+        → h' ≡ head_of (answer_for (book_on h x t y u) l.reading).book → n ≡ length (printed (answer_for (book_on h x t y u) l.reading))
+        → Shows (answer_for (book_on h x t y u) l.reading).book.buys x' t' → Shows (answer_for (book_on h x t y u) l.reading).book.sells y' u'
+        → part ≡ onto (printed (answer_for (book_on h x t y u) l.reading)) (take (length out - len) (drop len out))
         → length (take len out ++ (part ++ drop (length out - len) (drop len out))) ≡ length out
         → Feeding input out₀ b₀ x' t' y' u' (take len out ++ (part ++ drop (length out - len) (drop len out))) h' (at + (l.digits + 1)) (len + n)
-    feeding-line h' x' t' y' u' n part headIs lengthIs buysIs sellsIs partIs same =
-        let next-at : at + (l.digits + 1) ≡ at + l.digits + 1 = omega arith in
-        rw next-at
-        (feeding-turn room (at + l.digits) place_is (omega (arith, is_line)) (take (at + l.digits + 1 - at) (drop at input)) refl h' x' t' y' u' n part
-        (rw line_read at headIs) (rw line_read at lengthIs) (rw line_read at buysIs) (rw line_read at sellsIs) (rw line_read at partIs) same)
+    feeding_line h' x' t' y' u' n part head_is length_is buys_is sells_is part_is same =
+        let next_at : at + (l.digits + 1) ≡ at + l.digits + 1 = omega arith in
+        rw next_at
+        (feeding_turn room (at + l.digits) place_is (omega (arith, is_line)) (take (at + l.digits + 1 - at) (drop at input)) refl h' x' t' y' u' n part
+        (rw line_read at head_is) (rw line_read at length_is) (rw line_read at buys_is) (rw line_read at sells_is) (rw line_read at part_is) same)

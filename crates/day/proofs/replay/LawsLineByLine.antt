@@ -5,33 +5,33 @@ use mathlib.Core.List.{List, []}
 use mathlib.Core.Path.{◌≡◌, ap}
 use lib.ListN.{length}
 use native.Mathlib.Omega.{arith}
-use Rattle.command_lines.proofs.lines.LawsScanned.{no-command}
+use Rattle.command_lines.proofs.lines.LawsScanned.{no_command}
 use Rattle.rules.specs.declared.Command.{Command}
 use Rattle.rules.specs.declared.Reading.TheVariants as reading
 use Rattle.rules.specs.Book.{Book}
-use Rattle.rules.specs.CommandLines.{longestLine, commandIn, line_of}
+use Rattle.rules.specs.CommandLines.{longest_line, command_in, line_of}
 use Rattle.rules.specs.Day.{printed}
-use Rattle.rules.specs.EventLines.{refusalLine}
-use Rattle.rules.specs.Refusals.{first_of, lineRefusals, refusals}
-use Rattle.rules.specs.Step.{answer, answerTo}
-use Rattle.rules.proofs.LawsWriting.{length-lineOf, formOf-short}
+use Rattle.rules.specs.EventLines.{refusal_line}
+use Rattle.rules.specs.Refusals.{first_of, line_refusals, refusals}
+use Rattle.rules.specs.Step.{answer, answer_to}
+use Rattle.rules.proofs.LawsWriting.{length_line_of, form_of_short}
 
 -- ── A line over the longest ──
 
-pub long-bad : (l : List ℕ) → longestLine < length l → commandIn l ≡ reading.Bad
-long-bad l h = no-command l never
+pub long_bad : (l : List ℕ) → longest_line < length l → command_in l ≡ reading.Bad
+long_bad l h = no_command l never
   where
     never : (c : Command) → l ≡ line_of c → ⊥
     never c e =
         let n : length l ≡ length (line_of c) = ap length e in
-        omega (arith, length-lineOf c, formOf-short c.body)
+        omega (arith, length_line_of c, form_of_short c.body)
 
 -- ── What is printed of a line that is no command, and the book after it ──
 
-pub answerTo-bad : (b : Book) (l : List ℕ) → commandIn l ≡ reading.Bad → answerTo b l ≡ record { refusal = 3; book = b; events = [] }
-unfolding answerTo answer refusals lineRefusals first_of
-answerTo-bad b l bad = rw bad
+pub answer_to_bad : (b : Book) (l : List ℕ) → command_in l ≡ reading.Bad → answer_to b l ≡ record { refusal = 3; book = b; events = [] }
+unfolding answer_to answer refusals line_refusals first_of
+answer_to_bad b l bad = rw bad
 
-pub printed-bad : (b : Book) (l : List ℕ) → commandIn l ≡ reading.Bad → printed (answerTo b l) ≡ refusalLine 3
+pub printed_bad : (b : Book) (l : List ℕ) → command_in l ≡ reading.Bad → printed (answer_to b l) ≡ refusal_line 3
 unfolding printed
-printed-bad b l bad = rw (answerTo-bad b l bad)
+printed_bad b l bad = rw (answer_to_bad b l bad)

@@ -3,7 +3,7 @@ use mathlib.Core.Path.{sym, ap, ◌∙◌}
 use native.Mathlib.Omega.{arith}
 use borrow.Author.Rules.{rules}
 use Rattle.digits.specs.Digits.{field_of}
-use Rattle.digits.proofs.LawsDigits.{numberAt-short, numberAt-whole}
+use Rattle.digits.proofs.LawsDigits.{number_at_short, number_at_whole}
 use Rattle.digits.proofs.field_at.Statement.{statement}
 use Rattle.digits.proofs.field_at.Tie as tie
 
@@ -17,7 +17,7 @@ no-number-requires : tie.Need-no-number-requires
 no-number-requires c κs = search rules
 
 returns : tie.Need-returns
-returns c = c.no_number.ensures ∙ ap field_of (sym (numberAt-short _ _ _ (omega arith) c.before.if1.true))
+returns c = c.no_number.ensures ∙ ap field_of (sym (number_at_short _ _ _ (omega arith) c.before.if1.true))
 
 sub-get : tie.Need-overflow-sub-get
 sub-get c = search rules
@@ -34,7 +34,7 @@ get-requires c κs = search rules
 returns-2 : tie.Need-returns-2
 returns-2 c =
     let a = c.before.before.before.before.args in
-    c.get.ensures ∙ ap field_of (sym (numberAt-whole a.w a.at a.s.now (omega arith)))
+    c.get.ensures ∙ ap field_of (sym (number_at_whole a.w a.at a.s.now (omega arith)))
 
 pub field-at-spec : {M : Type 1} → statement M
 field-at-spec =

@@ -3,14 +3,14 @@ use Prim.Native.Nat.{◌≤◌}
 use mathlib.Core.Path.{◌≡◌, ap, ◌∙◌}
 use native.Mathlib.Omega.{arith}
 use borrow.Author.Rules.{rules}
-use Rattle.digits.specs.Digits.{digitOf}
-use Rattle.digits.specs.Words.{eachByte, spread_of}
-use Rattle.digits.proofs.LawsSpread.{spread-low, word-rest}
+use Rattle.digits.specs.Digits.{digit_of}
+use Rattle.digits.specs.Words.{each_byte, spread_of}
+use Rattle.digits.proofs.LawsSpread.{spread_low, word_rest}
 use Rattle.digits.proofs.word.Statement.{statement}
 use Rattle.digits.proofs.word.Tie as tie
 
 abbrev invariant-loop : tie.invariant-loop
-invariant-loop k x y₀ j₀ y j = (k ≤ j) × (j ≤ 8) × (y ≡ eachByte digitOf j (spread_of j x))
+invariant-loop k x y₀ j₀ y j = (k ≤ j) × (j ≤ 8) × (y ≡ each_byte digit_of j (spread_of j x))
 
 abbrev decreases-loop : tie.decreases-loop
 decreases-loop k x y₀ j₀ y j = j
@@ -19,10 +19,10 @@ spread-requires : tie.Need-spread-requires invariant-loop decreases-loop
 spread-requires c κs = search rules
 
 spell-requires : tie.Need-spell-requires invariant-loop decreases-loop
-spell-requires c κs = rw c.spread.ensures (spread-low 8 c.before.args.x)
+spell-requires c κs = rw c.spread.ensures (spread_low 8 c.before.args.x)
 
 loop-holds : tie.Need-loop-init invariant-loop decreases-loop
-loop-holds c = (search rules, search rules, c.spell.ensures ∙ ap (eachByte digitOf 8) c.before.spread.ensures)
+loop-holds c = (search rules, search rules, c.spell.ensures ∙ ap (each_byte digit_of 8) c.before.spread.ensures)
 
 sub-j : tie.Need-overflow-sub-j invariant-loop decreases-loop
 sub-j c = search rules
@@ -34,7 +34,7 @@ loop-again : tie.Need-loop-preserved invariant-loop decreases-loop
 loop-again c =
     let l = c.before.loop in
     let a = c.before.before.before.before.args in
-    (omega arith, omega arith, rw l.invariant.2 (word-rest l.j a.x (omega arith)))
+    (omega arith, omega arith, rw l.invariant.2 (word_rest l.j a.x (omega arith)))
 
 returns : tie.Need-returns invariant-loop decreases-loop
 returns c =

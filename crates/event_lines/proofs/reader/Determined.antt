@@ -4,5 +4,5 @@ use mathlib.Core.Path.{◌≡◌, sym, ◌∙◌}
 use Rattle.rules.specs.declared.EventReading.{EventReading}
 use Rattle.event_lines.proofs.reader.read_event.Reads as read-event
 
-pub read-event-determined : (κs : _) (a : _) (r r' : EventReading) (s s' : _) → read-event.Post κs a r s → read-event.Post κs a r' s' → r ≡ r'
-read-event-determined κs a r r' s s' p q = p ∙ sym q
+pub read_event_determined : (κs : _) (a : _) (r r' : EventReading) (s s' : _) → read-event.Post κs a r s → read-event.Post κs a r' s' → r ≡ r'
+read_event_determined κs a r r' s s' p q = p ∙ sym q

@@ -8,17 +8,17 @@ use Rattle.event_lines.proofs.writer.write_cancelled.Reads as write-cancelled
 use Rattle.event_lines.proofs.writer.write_moved.Reads as write-moved
 use Rattle.event_lines.proofs.writer.write_refusal.Reads as write-refusal
 
-pub write-executed-determined : (κs : _) (a : _) (r r' : ℕ) (s s' : _) → write-executed.Post κs a r s → write-executed.Post κs a r' s' → (r ≡ r') × (s.0.now ≡ s'.0.now)
-write-executed-determined κs a r r' s s' p q = (p.0 ∙ sym q.0, p.1 ∙ sym q.1)
+pub write_executed_determined : (κs : _) (a : _) (r r' : ℕ) (s s' : _) → write-executed.Post κs a r s → write-executed.Post κs a r' s' → (r ≡ r') × (s.0.now ≡ s'.0.now)
+write_executed_determined κs a r r' s s' p q = (p.0 ∙ sym q.0, p.1 ∙ sym q.1)
 
-pub write-rested-determined : (κs : _) (a : _) (r r' : ℕ) (s s' : _) → write-rested.Post κs a r s → write-rested.Post κs a r' s' → (r ≡ r') × (s.0.now ≡ s'.0.now)
-write-rested-determined κs a r r' s s' p q = (p.0 ∙ sym q.0, p.1 ∙ sym q.1)
+pub write_rested_determined : (κs : _) (a : _) (r r' : ℕ) (s s' : _) → write-rested.Post κs a r s → write-rested.Post κs a r' s' → (r ≡ r') × (s.0.now ≡ s'.0.now)
+write_rested_determined κs a r r' s s' p q = (p.0 ∙ sym q.0, p.1 ∙ sym q.1)
 
-pub write-cancelled-determined : (κs : _) (a : _) (r r' : ℕ) (s s' : _) → write-cancelled.Post κs a r s → write-cancelled.Post κs a r' s' → (r ≡ r') × (s.0.now ≡ s'.0.now)
-write-cancelled-determined κs a r r' s s' p q = (p.0 ∙ sym q.0, p.1 ∙ sym q.1)
+pub write_cancelled_determined : (κs : _) (a : _) (r r' : ℕ) (s s' : _) → write-cancelled.Post κs a r s → write-cancelled.Post κs a r' s' → (r ≡ r') × (s.0.now ≡ s'.0.now)
+write_cancelled_determined κs a r r' s s' p q = (p.0 ∙ sym q.0, p.1 ∙ sym q.1)
 
-pub write-moved-determined : (κs : _) (a : _) (r r' : ℕ) (s s' : _) → write-moved.Post κs a r s → write-moved.Post κs a r' s' → (r ≡ r') × (s.0.now ≡ s'.0.now)
-write-moved-determined κs a r r' s s' p q = (p.0 ∙ sym q.0, p.1 ∙ sym q.1)
+pub write_moved_determined : (κs : _) (a : _) (r r' : ℕ) (s s' : _) → write-moved.Post κs a r s → write-moved.Post κs a r' s' → (r ≡ r') × (s.0.now ≡ s'.0.now)
+write_moved_determined κs a r r' s s' p q = (p.0 ∙ sym q.0, p.1 ∙ sym q.1)
 
-pub write-refusal-determined : (κs : _) (a : _) (r r' : ℕ) (s s' : _) → write-refusal.Post κs a r s → write-refusal.Post κs a r' s' → (r ≡ r') × (s.0.now ≡ s'.0.now)
-write-refusal-determined κs a r r' s s' p q = (p.0 ∙ sym q.0, p.1 ∙ sym q.1)
+pub write_refusal_determined : (κs : _) (a : _) (r r' : ℕ) (s s' : _) → write-refusal.Post κs a r s → write-refusal.Post κs a r' s' → (r ≡ r') × (s.0.now ≡ s'.0.now)
+write_refusal_determined κs a r r' s s' p q = (p.0 ∙ sym q.0, p.1 ∙ sym q.1)

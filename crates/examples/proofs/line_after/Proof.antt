@@ -3,7 +3,7 @@ use Prim.Native.Nat.{◌+◌, ◌-◌, ◌≤◌}
 use lib.ListN.{length, take, drop, length-take, length-drop}
 use native.Mathlib.Omega.{arith}
 use borrow.Author.Rules.{rules}
-use Rattle.command_lines.proofs.lines.LawsCut.{line-within}
+use Rattle.command_lines.proofs.lines.LawsCut.{line_within}
 use Rattle.examples.proofs.line_after.Statement.{statement}
 use Rattle.examples.proofs.line_after.Tie as tie
 
@@ -25,7 +25,7 @@ within c =
     let s = c.before.before.before in
     let rest = take (length s.args.days.now - s.args.from) (drop s.args.from s.args.days.now) in
     let long : length rest ≤ length s.args.days.now - s.args.from = simp (length-take, length-drop) (omega arith) in
-    omega (arith, c.scan-line.ensures, line-within rest, long, s.requires)
+    omega (arith, c.scan-line.ensures, line_within rest, long, s.requires)
 
 add-end : tie.Need-overflow-add-end
 add-end c = omega (arith, within c)

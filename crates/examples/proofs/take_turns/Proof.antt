@@ -6,9 +6,9 @@ use lib.Seq.{length-take-le}
 use native.Mathlib.Omega.{arith}
 use borrow.Author.Rules.{rules}
 use Rattle.rules.specs.Book.{fresh}
-use Rattle.rules.specs.Refusals.{leastRoom}
-use Rattle.soundness.proofs.LawsKept.{fresh-sound}
-use Rattle.side.proofs.tables.LawsAnswers.{stands-back}
+use Rattle.rules.specs.Refusals.{least_room}
+use Rattle.soundness.proofs.LawsKept.{fresh_sound}
+use Rattle.side.proofs.tables.LawsAnswers.{stands_back}
 use Rattle.side.specs.Answers.{Stands}
 use Rattle.examples.proofs.take_turns.Statement.{statement}
 use Rattle.examples.proofs.take_turns.Tie as tie
@@ -35,7 +35,7 @@ loop-holds c =
     let sells = c.clear2 in
     let s = c.before.before.before.before.before.before.before.before.before.before in
     let begun : Stands c.before.before.before.before.before.before.begin.result buys.new.0 s.args.buys.now sells.new.0 s.args.sells.now =
-    rw c.before.before.before.before.before.before.begin.ensures (stands-back fresh buys.new.0 s.args.buys.now sells.new.0 s.args.sells.now buys.ensures.0 sells.ensures.0 fresh-sound) in
+    rw c.before.before.before.before.before.before.begin.ensures (stands_back fresh buys.new.0 s.args.buys.now sells.new.0 s.args.sells.now buys.ensures.0 sells.ensures.0 fresh_sound) in
     (begun, omega arith, omega arith, refl, refl)
 
 take-turn-requires : tie.Need-take-turn-requires invariant-loop decreases-loop
@@ -57,7 +57,7 @@ module _ (c : tie.After-take-turn invariant-loop decreases-loop) where
   input-short : length c.take-turn.new.1.0 < 18446744073709551616
   input-short = omega (arith, long-input, c.before.before.before.before.before.before.before.before.before.before.before.before.before.before.before.before.before.before.before.before.well-formed.1.0.0)
 
-  room-stays : leastRoom ≤ length c.take-turn.new.1.1.1.1.1.1.1.1.0
+  room-stays : least_room ≤ length c.take-turn.new.1.1.1.1.1.1.1.1.0
   room-stays = omega (arith, long-out, c.before.before.before.before.before.before.before.before.before.before.before.before.before.before.before.before.before.before.before.before.requires)
 
   waits-fit : c.take-turn.result.have ≤ length c.take-turn.new.1.0

@@ -3,7 +3,7 @@ use mathlib.Core.Path.{sym, ◌∙◌}
 use borrow.Author.Rules.{rules}
 use Rattle.rules.specs.Book.{numbers}
 use Rattle.side.specs.Table.{loaded}
-use Rattle.inspection.proofs.LawsInspected.{place-unused, place-used}
+use Rattle.inspection.proofs.LawsInspected.{place_unused, place_used}
 use Rattle.inspection.proofs.place_sound.Statement.{statement}
 use Rattle.inspection.proofs.place_sound.Tie as tie
 
@@ -19,7 +19,7 @@ returns c =
     let others = numbers (loaded a.m a.other.now) in
     rw (← c.before.before.row.ensures)
     (c.is-unused.ensures
-    ∙ sym (place-unused a.buying a.last others a.n a.t.now a.i c.before.if1.true c.before.before.row.result))
+    ∙ sym (place_unused a.buying a.last others a.n a.t.now a.i c.before.if1.true c.before.before.row.result))
 
 in-range-requires : tie.Need-in-range-requires
 in-range-requires c κs = search rules
@@ -46,7 +46,7 @@ returns-2 c =
     let others = numbers (loaded a.m a.other.now) in
     rw (
       ← used.before.row.ensures,
-      place-used a.buying a.last others a.n a.t.now a.i used.if1.false used.before.row.result,
+      place_used a.buying a.last others a.n a.t.now a.i used.if1.false used.before.row.result,
       c.has-number2.ensures,
       c.before.has-number.ensures,
       c.before.before.ranks-before-next.ensures,

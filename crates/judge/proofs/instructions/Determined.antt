@@ -4,5 +4,5 @@ use mathlib.Core.Path.{◌≡◌, sym, ◌∙◌}
 use mathlib.Core.Bool.{Bool}
 use Rattle.judge.proofs.instructions.has.Reads as has
 
-pub has-determined : (κs : _) (a : _) (r r' : Bool) (s s' : _) → has.Post κs a r s → has.Post κs a r' s' → r ≡ r'
-has-determined κs a r r' s s' p q = p ∙ sym q
+pub has_determined : (κs : _) (a : _) (r r' : Bool) (s s' : _) → has.Post κs a r s → has.Post κs a r' s' → r ≡ r'
+has_determined κs a r r' s s' p q = p ∙ sym q

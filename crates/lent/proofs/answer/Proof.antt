@@ -4,7 +4,7 @@
 --     `work(…)`            all but the table is given to it, with the lifetimes' tokens, which come back. out is given up for good: what is had at exit is its last list
 --     `places_of(worked)`, `reply_of(worked)`      what `work` returned is plain, so what it owns is made anew for each
 --     `give(table, …)`     the table is given up for good, likewise
--- Of each callee there are its arguments (`to-…`), that what is had gives what it asks (`asked-…`), and what it says (`said-…`). What the facts come to is `answered-short` and `answered` of `LawsLentStep`.
+-- Of each callee there are its arguments (`to-…`), that what is had gives what it asks (`asked-…`), and what it says (`said-…`). What the facts come to is `answered_short` and `answered` of `LawsLentStep`.
 -- Assumes nothing.
 use mathlib.Core.Path.{◌≡◌, refl, sym, ap, subst}
 use Prim.Native.Nat.{ℕ}
@@ -52,22 +52,22 @@ use denote.Triple.Spec.{Meets, triple_of}
 use denote.Triple.Statement.{Contract, Triple}
 use denote.Triple.Table.{entered, cited}
 use denote.Triple.Walked.{says, Stays, gave_slice, stay_dropped, walk_of, Walks, ends_at, walked, Goes-gave_slice, Goes-dropped, walk_Meets}
-use Rattle.rules.specs.Book.{placesASide}
+use Rattle.rules.specs.Book.{places_aSide}
 use Rattle.rules.specs.declared.Resting.{Resting}
 use Rattle.rules.specs.contracts.Resting as T
 use Rattle.book.specs.declared.Book.{Book}
 use Rattle.book.specs.declared.Reply.{Reply}
-use Rattle.book.specs.Record.{recordIn}
+use Rattle.book.specs.Record.{record_in}
 use Rattle.book.specs.contracts.Book as B
 use Rattle.book.proofs.Book.TheLaws as B'
 use Rattle.book.specs.contracts.Reply as P
 use Rattle.book.proofs.Reply.TheLaws as P'
 use Rattle.lent.specs.declared.GivenBack.{GivenBack}
-use Rattle.lent.specs.Lent.{Lent, lentStep, replyLent, workedOf}
+use Rattle.lent.specs.Lent.{Lent, lent_step, reply_lent, worked_of}
 use Rattle.lent.specs.contracts.GivenBack as K
 use Rattle.lent.proofs.GivenBack.TheLaws as K'
 use Rattle.lent.proofs.LawsLent.{Records, array_typed}
-use Rattle.lent.proofs.LawsLentStep.{refused, answered-short, answered}
+use Rattle.lent.proofs.LawsLentStep.{refused, answered_short, answered}
 use Rattle.lent.specs.contracts.refuse as refuse
 use Rattle.lent.proofs.refuse.Symbol as refuse-def
 use Rattle.lent.proofs.refuse.Symbol.{name as #lent·refuse}
@@ -112,15 +112,15 @@ placed (local τ h ∷ ls) [] = []
 placed (local τ h ∷ ls) (b ∷ bs) = (τ, b) ∷ placed ls bs
 
 -- the outcome of the test
-alike : (n : ℕ) → Holds (not (not (eqb n placesASide))) → n ≡ placesASide
-alike n h = eqb→eq n placesASide (at (eqb n placesASide) h)
+alike : (n : ℕ) → Holds (not (not (eqb n places_aSide))) → n ≡ places_aSide
+alike n h = eqb→eq n places_aSide (at (eqb n places_aSide) h)
   where
     at : (z : Bool) → Holds (not (not z)) → Holds z
     at true h = tt
     at false h = absurd h
 
-unlike : (n : ℕ) → Holds (not (eqb n placesASide)) → n ≢ placesASide
-unlike n h e = absurd (subst (λ (z : Bool). Holds (not z)) (eq-eqb n placesASide e) h)
+unlike : (n : ℕ) → Holds (not (eqb n places_aSide)) → n ≢ places_aSide
+unlike n h e = absurd (subst (λ (z : Bool). Holds (not z)) (eq-eqb n places_aSide e) h)
 
 module _ {M : Type 1} {𝓤 : Ura M} (𝓛 : Logic 𝓤) (mem : Memory → SProp 𝓤) (run : Routine → Fun 𝓤) where
   -- the contracts that the proof cites
@@ -164,11 +164,11 @@ module _ {M : Type 1} {𝓤 : Ura M} (𝓛 : Logic 𝓤) (mem : Memory → SProp
   -- the table at a list, and under a name
   open 𝓛 use {H}
 
-  abbrev named-at : GName → List Resting → MutBor (List Resting)
-  named-at δ zs = record { ref_ptr = (b, o); ghost_name = δ; now = zs }
+  abbrev named_at : GName → List Resting → MutBor (List Resting)
+  named_at δ zs = record { ref_ptr = (b, o); ghost_name = δ; now = zs }
 
   abbrev x : Book × (Bool × (Bor (List Resting) × (Bor (List ℕ) × (Bor (List ℕ) × Unit {0}))))
-  x = (book, (buys, (named-at γ ys, (line, (out, tt)))))
+  x = (book, (buys, (named_at γ ys, (line, (out, tt)))))
 
   -- the machine values: of book, of the table, of line and of out
   abbrev bv : Val
@@ -200,16 +200,16 @@ module _ {M : Type 1} {𝓤 : Ura M} (𝓛 : Logic 𝓤) (mem : Memory → SProp
   Of-buys = bool.own_val buys (vbool buys ∷ [])
 
   abbrev Of-table : Fml
-  Of-table = (MutSlice (named 0) κ₀ T.the_row).own_val (named-at γ ys) (sv ∷ [])
+  Of-table = (MutSlice (named 0) κ₀ T.the_row).own_val (named_at γ ys) (sv ∷ [])
 
   abbrev Of-texts : Fml
   Of-texts = fsep ((ShrSlice (named 1) κ₁ u8).own_val line (tv ∷ [])) (fsep ((MutSlice (named 2) κ₂ u8).own_val out (ov ∷ [])) ftrue)
 
   -- what the specification says of a table
   abbrev lent : List Resting → Lent
-  lent zs = lentStep buys (recordIn book) zs line.now out.now
+  lent zs = lent_step buys (record_in book) zs line.now out.now
 
-  exits : (r : Reply) (v : Val) (zs : List Resting) (ws : List ℕ) → length zs ≡ length ys → length ws ≡ length out.now → (r ≡ replyLent (lent ys)) × (zs ≡ (lent ys).table) × (ws ≡ (lent ys).out)
+  exits : (r : Reply) (v : Val) (zs : List Resting) (ws : List ℕ) → length zs ≡ length ys → length ws ≡ length out.now → (r ≡ reply_lent (lent ys)) × (zs ≡ (lent ys).table) × (ws ≡ (lent ys).out)
       → ent 𝓤 (⋆ 𝓛 ((‵ (flft κ₀ q₀) ⊛ Tokens) ∷ ‵ (finally T.the_row γ zs) ∷ ‵ (finally u8 out.name ws) ∷ ‵ ((P.the_row).own_val r (v ∷ [])) ∷ [])) (Post v)
   exits r v zs ws l m e =
       qed 𝓛 ((‵ (flft κ₀ q₀) ⊛ Tokens) ∷ ‵ (finally T.the_row γ zs) ∷ ‵ (finally u8 out.name ws) ∷ ‵ ((P.the_row).own_val r (v ∷ [])) ∷ []) ∵
@@ -218,14 +218,14 @@ module _ {M : Type 1} {𝓤 : Ura M} (𝓛 : Logic 𝓤) (mem : Memory → SProp
       nothing ! $ move ! (2 ∷ 0 ∷ []) $ fjoin ! $ nothing ! $ fjoin ! $ move ! (1 ∷ 0 ∷ []) $ fjoin ! $ nothing ! $ fjoin ! $ nothing ! $ fjoin ! $ frame ! $ done !
 
   -- the table has not a record for each place: all is as it was
-  early : (r : Reply) (v : Val) → length ys ≢ placesASide → r ≡ refused book (length out.now)
+  early : (r : Reply) (v : Val) → length ys ≢ places_aSide → r ≡ refused book (length out.now)
       → ent 𝓤 (⋆ 𝓛 (‵ ((P.the_row).own_val r (v ∷ [])) ∷ (‵ (flft κ₀ q₀) ⊛ Tokens) ∷ ‵ (fsep Of-book (fsep Of-buys (fsep Of-table Of-texts))) ∷ [])) (Post v)
   early r v n e =
       qed 𝓛 (‵ ((P.the_row).own_val r (v ∷ [])) ∷ (‵ (flft κ₀ q₀) ⊛ Tokens) ∷ ‵ (fsep Of-book (fsep Of-buys (fsep Of-table Of-texts))) ∷ []) ∵ move ! (2 ∷ []) $ fsplit ! $ drop ! $ fsplit ! $ drop ! $ fsplit ! $
-      use1 𝓛 (‵ (finally T.the_row γ ys)) (lets_go 𝓛 0 κ₀ T.the_row (named-at γ ys) (sv ∷ [])) $ move ! (1 ∷ []) $ fsplit ! $ drop ! $ fsplit ! $
+      use1 𝓛 (‵ (finally T.the_row γ ys)) (lets_go 𝓛 0 κ₀ T.the_row (named_at γ ys) (sv ∷ [])) $ move ! (1 ∷ []) $ fsplit ! $ drop ! $ fsplit ! $
       use1 𝓛 (‵ (finally u8 out.ghost_name out.now)) (lets_go 𝓛 2 κ₂ u8 out (ov ∷ [])) $
       -- [out's last list; true; the table's last list; what the result owns; the tokens]
-      keep ! (4 ∷ 2 ∷ 0 ∷ 3 ∷ []) $ by ! (exits r v ys out.now refl refl (answered-short buys book ys line.now out.now n r e))
+      keep ! (4 ∷ 2 ∷ 0 ∷ 3 ∷ []) $ by ! (exits r v ys out.now refl refl (answered_short buys book ys line.now out.now n r e))
 
   -- ---- the calls
   abbrev to-refuse : (Refuse 𝓛 mem run).Ghost
@@ -240,16 +240,16 @@ module _ {M : Type 1} {𝓤 : Ura M} (𝓛 : Logic 𝓤) (mem : Memory → SProp
   said-refuse r = ex_e 𝓤 _ (λ ws. snd∗ 𝓤 (sem 𝓛 (lasts refuse.ended tt (book, (length out.now, tt)) ws)) (fact 𝓤 (r ≡ refused book (length out.now))))
 
   abbrev to_take : ℕ → GName → (Take 𝓛 mem run).Ghost
-  to_take α δ = (((α ∷ [], tt), (full_share, tt), tt, (named-at δ ys, tt), (sv ∷ [], tt)), tt)
+  to_take α δ = (((α ∷ [], tt), (full_share, tt), tt, (named_at δ ys, tt), (sv ∷ [], tt)), tt)
 
-  asked-take : (α : ℕ) (δ : GName) → length ys ≡ placesASide
-      → ent 𝓤 (⋆ 𝓛 (‵ (flft (α ∷ []) full_share) ∷ ‵ ((ShrSlice (named 0) (α ∷ []) T.the_row).own_val (named-at δ ys) (sv ∷ [])) ∷ [])) ((Take 𝓛 mem run).pre (to_take α δ))
+  asked-take : (α : ℕ) (δ : GName) → length ys ≡ places_aSide
+      → ent 𝓤 (⋆ 𝓛 (‵ (flft (α ∷ []) full_share) ∷ ‵ ((ShrSlice (named 0) (α ∷ []) T.the_row).own_val (named_at δ ys) (sv ∷ [])) ∷ [])) ((Take 𝓛 mem run).pre (to_take α δ))
   asked-take α δ long =
-      qed 𝓛 (‵ (flft (α ∷ []) full_share) ∷ ‵ ((ShrSlice (named 0) (α ∷ []) T.the_row).own_val (named-at δ ys) (sv ∷ [])) ∷ []) ∵ says ! long $
+      qed 𝓛 (‵ (flft (α ∷ []) full_share) ∷ ‵ ((ShrSlice (named 0) (α ∷ []) T.the_row).own_val (named_at δ ys) (sv ∷ [])) ∷ []) ∵ says ! long $
       nothing ! $ move ! (1 ∷ 0 ∷ []) $ join ! $ frame ! $ nothing ! $ move ! (1 ∷ 0 ∷ []) $ fjoin ! $ done !
 
-  said-take : (α : ℕ) (δ : GName) (xs : List Resting) → ent 𝓤 (ensured 𝓛 take.ended (take.clauses 𝓛 mem run) (α ∷ [], tt) (named-at δ ys, tt) tt xs) (fact 𝓤 (xs ≡ ys))
-  said-take α δ xs = ex_e 𝓤 _ (λ ws. snd∗ 𝓤 (sem 𝓛 (lasts take.ended (α ∷ [], tt) (named-at δ ys, tt) ws)) (fact 𝓤 (xs ≡ ys)))
+  said-take : (α : ℕ) (δ : GName) (xs : List Resting) → ent 𝓤 (ensured 𝓛 take.ended (take.clauses 𝓛 mem run) (α ∷ [], tt) (named_at δ ys, tt) tt xs) (fact 𝓤 (xs ≡ ys))
+  said-take α δ xs = ex_e 𝓤 _ (λ ws. snd∗ 𝓤 (sem 𝓛 (lasts take.ended (α ∷ [], tt) (named_at δ ys, tt) ws)) (fact 𝓤 (xs ≡ ys)))
 
   module _ (xs : List Resting) (v : Val) where
     abbrev to-work : (Work 𝓛 mem run).Ghost
@@ -263,7 +263,7 @@ module _ {M : Type 1} {𝓤 : Ura M} (𝓛 : Logic 𝓤) (mem : Memory → SProp
 
     -- what `work` says: its clause, and out's last list
     abbrev Clause : GivenBack → List ℕ → Type 0
-    Clause w ws = (w ≡ workedOf (lent xs)) × (ws ≡ (lent xs).out)
+    Clause w ws = (w ≡ worked_of (lent xs)) × (ws ≡ (lent xs).out)
 
     abbrev Said-work : GivenBack → Item 𝓤
     Said-work w = some (λ (ws : List ℕ). given ((length ws ≡ length out.now) × Clause w ws) (‵ (finally u8 out.ghost_name ws)))
@@ -300,9 +300,9 @@ module _ {M : Type 1} {𝓤 : Ura M} (𝓛 : Logic 𝓤) (mem : Memory → SProp
 
   module _ (bs : List Resting) (w : Val) where
     abbrev to-give : (Give 𝓛 mem run).Ghost
-    to-give = (((κ₀, tt), (q₀, tt), tt, (named-at γ ys, (bs, tt)), (sv ∷ [], (w ∷ [], tt))), tt)
+    to-give = (((κ₀, tt), (q₀, tt), tt, (named_at γ ys, (bs, tt)), (sv ∷ [], (w ∷ [], tt))), tt)
 
-    asked-give : length ys ≡ placesASide → ent 𝓤 (⋆ 𝓛 (‵ (flft κ₀ q₀) ∷ ‵ Of-table ∷ ‵ (Records.own bs (w ∷ [])) ∷ [])) ((Give 𝓛 mem run).pre to-give)
+    asked-give : length ys ≡ places_aSide → ent 𝓤 (⋆ 𝓛 (‵ (flft κ₀ q₀) ∷ ‵ Of-table ∷ ‵ (Records.own bs (w ∷ [])) ∷ [])) ((Give 𝓛 mem run).pre to-give)
     asked-give long =
         qed 𝓛 (‵ (flft κ₀ q₀) ∷ ‵ Of-table ∷ ‵ (Records.own bs (w ∷ [])) ∷ []) ∵ says ! long $
         nothing ! $ move ! (1 ∷ 0 ∷ []) $ join ! $ frame ! $ nothing ! $ move ! (2 ∷ 0 ∷ []) $ fjoin ! $ move ! (1 ∷ 0 ∷ []) $ fjoin ! $ done !
@@ -311,9 +311,9 @@ module _ {M : Type 1} {𝓤 : Ura M} (𝓛 : Logic 𝓤) (mem : Memory → SProp
     abbrev Said-give : Item 𝓤
     Said-give = some (λ (zs : List Resting). given ((length zs ≡ length ys) × (zs ≡ bs)) (‵ (finally T.the_row γ zs)))
 
-    said-give : ent 𝓤 (ensured 𝓛 give.ended (give.clauses 𝓛 mem run) (κ₀, tt) (named-at γ ys, (bs, tt)) tt tt) (mean 𝓛 Said-give)
+    said-give : ent 𝓤 (ensured 𝓛 give.ended (give.clauses 𝓛 mem run) (κ₀, tt) (named_at γ ys, (bs, tt)) tt tt) (mean 𝓛 Said-give)
     said-give =
-        qed 𝓛 (some (λ (ws : Lasts give.ended (κ₀, tt) (named-at γ ys, (bs, tt))). ‵ (lasts give.ended (κ₀, tt) (named-at γ ys, (bs, tt)) ws) ⊛ raw (fact 𝓤 (ws.0 ≡ bs))) ∷ []) ∵
+        qed 𝓛 (some (λ (ws : Lasts give.ended (κ₀, tt) (named_at γ ys, (bs, tt))). ‵ (lasts give.ended (κ₀, tt) (named_at γ ys, (bs, tt)) ws) ⊛ raw (fact 𝓤 (ws.0 ≡ bs))) ∷ []) ∵
         pick ! (λ ws. split ! $ move ! (1 ∷ []) $ heard ! (ws.0 ≡ bs) (λ e. fsplit ! $ fsplit ! $ move ! (1 ∷ []) $ feq_l ! (λ l.
         show ! (λ (zs : List Resting). mean 𝓛 (given ((length zs ≡ length ys) × (zs ≡ bs)) (‵ (finally T.the_row γ zs)))) ws.0 $ check ! (l, e) $ keep ! (0 ∷ []) $ done !)))
 
@@ -348,11 +348,11 @@ module _ {M : Type 1} {𝓤 : Ura M} (𝓛 : Logic 𝓤) (mem : Memory → SProp
         move ! (39 ∷ []) $ fsplit ! $ move ! (1 ∷ []) $ fsplit ! $ move ! (1 ∷ []) $ fsplit ! $ fsplit ! $ move ! (1 ∷ []) $ fsplit ! $ move ! (44 ∷ []) $ split ! $ move ! (2 ∷ 3 ∷ 0 ∷ []) $ opens_slice ! tt T.the_row ys b o $
         -- and its row is lent, shared, for a new lifetime
         feq_i ! ℕ (length ys) (length ys) refl $ fjoin ! $ lft_new ! tt (λ α. move ! (1 ∷ []) $
-        use1 𝓛 (later (some (λ (δ : GName). ‵ ((ShrSlice (named 0) (α ∷ []) T.the_row).own_val (named-at δ ys) (sv ∷ [])) ⊛ ‵ (flent (α ∷ []) ((arr_parts (shares T.the_row) (length ys)).part full_share ys b o)))))
+        use1 𝓛 (later (some (λ (δ : GName). ‵ ((ShrSlice (named 0) (α ∷ []) T.the_row).own_val (named_at δ ys) (sv ∷ [])) ⊛ ‵ (flent (α ∷ []) ((arr_parts (shares T.the_row) (length ys)).part full_share ys b o)))))
         (lends_shr_slice 𝓛 T.the_row (named 0) (α ∷ []) full_share ys b o gn) $ await ! tt $ pick ! (λ δ. split ! $
         move ! (2 ∷ 0 ∷ []) $ use2 𝓛 (raw ((Take 𝓛 mem run).pre (to_take α δ))) (asked-take α δ (alike (length ys) same)) $
         calls_at ! fm (Take 𝓛 mem run) known.take-met (to_take α δ) (and_then ! (load ! (from ! (stop !)) (look ! 22 refl)) (no_more !)) (λ v.
-        use1 𝓛 (later (some (λ (xs : List Resting). ((‵ (flft (α ∷ []) full_share) ⊛ ‵ ftrue) ⊛ ‵ (Records.own xs (v ∷ []))) ⊛ raw (ensured 𝓛 take.ended (take.clauses 𝓛 mem run) (α ∷ [], tt) (named-at δ ys, tt) tt xs)))) (id⊢ 𝓤 _) $ await ! tt $ pick ! (λ xs.
+        use1 𝓛 (later (some (λ (xs : List Resting). ((‵ (flft (α ∷ []) full_share) ⊛ ‵ ftrue) ⊛ ‵ (Records.own xs (v ∷ []))) ⊛ raw (ensured 𝓛 take.ended (take.clauses 𝓛 mem run) (α ∷ [], tt) (named_at δ ys, tt) tt xs)))) (id⊢ 𝓤 _) $ await ! tt $ pick ! (λ xs.
         split ! $ move ! (1 ∷ []) $ use1 𝓛 (raw (fact 𝓤 (xs ≡ ys))) (said-take α δ xs) $ heard ! (xs ≡ ys) (λ is-xs. split ! $ split ! $
         -- the lifetime is ended, the row comes back, and the table is closed: [the lifetime's token; true; what the array owns; the lender's part; the open borrow; obs; auth; the other tokens; the table's fact; line and out; the bool; book; the locals]
         lft_end ! tt $ move ! (0 ∷ 3 ∷ []) $ lent_back ! tt $ fsplit ! $ drop ! $ move ! (0 ∷ 3 ∷ 4 ∷ 5 ∷ []) $ closes_slice ! tt T.the_row ys ys refl b o $ move ! (4 ∷ []) $
@@ -380,7 +380,7 @@ module _ {M : Type 1} {𝓤 : Ura M} (𝓛 : Logic 𝓤) (mem : Memory → SProp
         -- `give(table, …)`, from [what the array owns; the other tokens; out's last list; obs; the borrow; the table's token; true; the table's fact; the locals]
         move ! (3 ∷ 4 ∷ []) $ fjoin ! $ move ! (6 ∷ 0 ∷ []) $ fjoin ! $ move ! (4 ∷ 0 ∷ 1 ∷ []) $ use3 𝓛 (raw ((Give 𝓛 mem run).pre (to-give bs f))) (asked-give bs f (alike (length ys) same)) $
         calls_at ! fm (Give 𝓛 mem run) known.give-met (to-give bs f) (and_then ! (load ! (from ! (stop !)) (look ! 6 refl)) (and_then ! (load ! (from ! (stop !)) (look ! 4 refl)) (no_more !))) (λ n.
-        use1 𝓛 (later (some (λ (z : Unit {0}). ((‵ (flft κ₀ q₀) ⊛ ‵ ftrue) ⊛ ‵ (unit.own_val z (n ∷ []))) ⊛ raw (ensured 𝓛 give.ended (give.clauses 𝓛 mem run) (κ₀, tt) (named-at γ ys, (bs, tt)) tt z)))) (id⊢ 𝓤 _) $ await ! tt $ pick ! (λ z.
+        use1 𝓛 (later (some (λ (z : Unit {0}). ((‵ (flft κ₀ q₀) ⊛ ‵ ftrue) ⊛ ‵ (unit.own_val z (n ∷ []))) ⊛ raw (ensured 𝓛 give.ended (give.clauses 𝓛 mem run) (κ₀, tt) (named_at γ ys, (bs, tt)) tt z)))) (id⊢ 𝓤 _) $ await ! tt $ pick ! (λ z.
         split ! $ move ! (1 ∷ []) $ use1 𝓛 (Said-give bs f) (said-give bs f) $ pick ! (λ zs. learn ! (λ given-zs. move ! (1 ∷ []) $ split ! $ move ! (1 ∷ []) $ facts ! unit (Is unit) (shows 𝓛 unit) z (n ∷ []) (λ is-n.
         -- [the table's token with true; the table's last list; the other tokens; out's last list; true; the locals]
         land ! (from ! (stop !)) (init ! 11 refl (subst (λ (t : Val). Holds (has_ty ty_unit t) × WT t) (sym (ap only is-n)) (tt, tt))) $

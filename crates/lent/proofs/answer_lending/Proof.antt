@@ -2,7 +2,7 @@
 use mathlib.Core.Path.{sym, ◌∙◌}
 use borrow.Author.Rules.{rules}
 use borrow.Author.Tests.{not-true, not-false}
-use Rattle.lent.proofs.LawsLentStep.{lending-uncounted}
+use Rattle.lent.proofs.LawsLentStep.{lending_uncounted}
 use Rattle.lent.proofs.answer_lending.Statement.{statement}
 use Rattle.lent.proofs.answer_lending.Tie as tie
 
@@ -17,7 +17,7 @@ returns : tie.Need-returns
 returns c =
     let a = c.before.before.before.before.before.args in
     let uncounted = sym c.before.before.is-counted.ensures ∙ not-true _ c.before.if1.true in
-    lending-uncounted a.buys a.book a.line.now a.out.now uncounted c.refuse.result c.refuse.ensures
+    lending_uncounted a.buys a.book a.line.now a.out.now uncounted c.refuse.result c.refuse.ensures
 
 lend-requires : tie.Need-lend-requires
 lend-requires c κs = sym c.before.before.is-counted.ensures ∙ not-false _ c.before.if1.false

@@ -42,7 +42,7 @@ use Rattle.rules.specs.Book.{unused}
 use Rattle.rules.specs.declared.Resting.{Resting}
 use Rattle.rules.specs.contracts.Resting as T
 use Rattle.rules.proofs.Resting.TheLaws as T'
-use Rattle.lent.proofs.LawsLent.{record-typed}
+use Rattle.lent.proofs.LawsLent.{record_typed}
 use Rattle.lent.specs.contracts.get.Key.{name as #lent·get}
 use Rattle.lent.specs.contracts.get as get
 use Rattle.lent.proofs.get.Statement as stated
@@ -91,8 +91,8 @@ module _ {M : Type 1} {𝓤 : Ura M} (𝓛 : Logic 𝓤) (mem : Memory → SProp
         looks_slice ! tt T.the_row (Is T.the_row) (shows 𝓛 T.the_row) (LL.vals T.the_type T'.the_laws) (LL.tells T.the_type T'.the_laws) (LL.copy T.the_type T'.the_copy 𝓛) ys b o (λ q'.
         elem_out ! T.the_row (Is T.the_row) (shows 𝓛 T.the_row) (LL.vals T.the_type T'.the_laws) (LL.tells T.the_type T'.the_laws) q' ys i unused b o l (λ g.
         -- [s[i]; what it owns; the others; what shuts; the fractured borrow; true; res; s's fact; i's; _5; …; _4; …; _3; …; _2; …; _1; …; _0; …]
-        assigns ! (of_opd ! (load ! (from ! (hop ! (look ! 11 refl) (stop !))) (look_raw ! 0 refl))) (from ! (stop !)) (init ! 9 refl (record-typed 𝓛 elem mach g)) $
-        assigns ! (of_opd ! (load ! (from ! (stop !)) (look ! 9 refl))) (from ! (stop !)) (init ! 19 refl (record-typed 𝓛 elem mach g)) $
+        assigns ! (of_opd ! (load ! (from ! (hop ! (look ! 11 refl) (stop !))) (look_raw ! 0 refl))) (from ! (stop !)) (init ! 9 refl (record_typed 𝓛 elem mach g)) $
+        assigns ! (of_opd ! (load ! (from ! (stop !)) (look ! 9 refl))) (from ! (stop !)) (init ! 19 refl (record_typed 𝓛 elem mach g)) $
         elem_back ! T.the_row q' ys i unused (mach ∷ []) b o l $ shuts_slice ! tt T.the_row q' ys b o $
         returns ! (look ! 16 refl) $ forget ! 6 refl $ forget ! 8 refl $ forget ! 10 refl $ forget ! 12 refl $ forget ! 14 refl $ forget ! 16 refl $
         move ! (16 ∷ 17 ∷ []) $ free1 ! $ move ! (14 ∷ 15 ∷ []) $ free1 ! $ move ! (12 ∷ 13 ∷ []) $ free1 ! $ move ! (10 ∷ 11 ∷ []) $ free1 ! $ move ! (8 ∷ 9 ∷ []) $ free1 ! $ move ! (6 ∷ 7 ∷ []) $ free1 ! $ free0 ! $

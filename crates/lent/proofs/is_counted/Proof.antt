@@ -3,17 +3,17 @@ use Prim.Native.Nat.{ℕ}
 use mathlib.Core.Path.{◌≡◌}
 use lib.Dec.{eqb}
 use borrow.Author.Rules.{rules}
-use Rattle.basics.specs.Lists.{firstWhere}
-use Rattle.rules.specs.Book.{Places, isUnused}
+use Rattle.basics.specs.Lists.{first_where}
+use Rattle.rules.specs.Book.{Places, is_unused}
 use Rattle.book.specs.declared.Side.{Side}
-use Rattle.book.specs.Record.{sideWith}
-use Rattle.lent.specs.Lent.{isCounted}
+use Rattle.book.specs.Record.{side_with}
+use Rattle.lent.specs.Lent.{is_counted}
 use Rattle.lent.proofs.is_counted.Statement.{statement}
 use Rattle.lent.proofs.is_counted.Tie as tie
 
-counted-found : (p : Places) (side : Side) → side ≡ sideWith p → (used : ℕ) → used ≡ firstWhere isUnused side.places
-    → eqb side.used used ≡ isCounted p
-counted-found p side sideIs used usedIs = rw (usedIs, sideIs)
+counted-found : (p : Places) (side : Side) → side ≡ side_with p → (used : ℕ) → used ≡ first_where is_unused side.places
+    → eqb side.used used ≡ is_counted p
+counted-found p side side_is used used_is = rw (used_is, side_is)
 
 side-of-requires : tie.Need-side-of-requires
 side-of-requires c κs = search rules

@@ -10,23 +10,23 @@ use borrow.Author.Tests.{eq-eqb}
 use Rattle.basics.specs.Lists.{every}
 use Rattle.kinds.specs.declared.Number.{Number}
 use Rattle.rules.specs.declared.Resting.{Resting}
-use Rattle.rules.specs.Book.{placesASide, isUnused}
+use Rattle.rules.specs.Book.{places_aSide, is_unused}
 use Rattle.side.specs.Table.{order_of, row_of}
-use Rattle.side.proofs.rows.LawsTable.{orders-rows}
+use Rattle.side.proofs.rows.LawsTable.{orders_rows}
 use Rattle.book.specs.declared.Side.{Side}
-use Rattle.book.specs.Record.{placesOn}
-use Rattle.inspection.specs.Inspection.{sideSound}
-use Rattle.inspection.proofs.LawsInspection.{none-used}
+use Rattle.book.specs.Record.{places_on}
+use Rattle.inspection.specs.Inspection.{side_sound}
+use Rattle.inspection.proofs.LawsInspection.{none_used}
 use Rattle.lent.specs.Lent.{is_empty}
 use Rattle.lent.proofs.is_empty.Statement.{statement}
 use Rattle.lent.proofs.is_empty.Tie as tie
 
 empty-found : (last : Number) (used : ℕ) (places : List Resting) (t : List (List ℕ)) (found : Bool) → t ≡ map row_of places
-    → length t ≡ placesASide → found ≡ sideSound true last [] 0 (map order_of t) → (eqb used 0 && found) ≡ is_empty (record { used = used; places = places })
+    → length t ≡ places_aSide → found ≡ side_sound true last [] 0 (map order_of t) → (eqb used 0 && found) ≡ is_empty (record { used = used; places = places })
 unfolding is_empty
 empty-found last used places t found is long told =
-    let all : length places ≡ placesASide = sym (length-map places row_of) ∙ (rw is at long) in
-    rw (told, is, orders-rows places, none-used true last [] places, eq-eqb (length places) placesASide all) (skipped (eqb used 0) (every isUnused places))
+    let all : length places ≡ places_aSide = sym (length-map places row_of) ∙ (rw is at long) in
+    rw (told, is, orders_rows places, none_used true last [] places, eq-eqb (length places) places_aSide all) (skipped (eqb used 0) (every is_unused places))
   where
     skipped : (a b : Bool) → (a && b) ≡ (a && true && b)
     skipped true b = refl
@@ -51,7 +51,7 @@ returns c =
     let s = lent.before.before.before.side-of in
     let sound = c.side-sound in
     empty-found _ s.result.used s.result.places _ sound.result lent.load.ensures told.whole.ensures sound.ensures
-    ∙ ap (λ (x : Side). is_empty (placesOn x)) s.ensures
+    ∙ ap (λ (x : Side). is_empty (places_on x)) s.ensures
 
 pub is_empty_spec : {M : Type 1} → statement M
 is_empty_spec = tie.close (tie.spec side-of-requires load-requires whole-requires side-sound-requires returns)

@@ -4,19 +4,19 @@ use mathlib.Core.Bool.{Bool}
 use mathlib.Core.List.{List}
 use mathlib.Core.Path.{◌≡◌}
 use borrow.Author.Rules.{rules}
-use Rattle.basics.specs.Lists.{firstWhere}
+use Rattle.basics.specs.Lists.{first_where}
 use Rattle.rules.specs.declared.Resting.{Resting}
-use Rattle.rules.specs.Book.{isUnused}
+use Rattle.rules.specs.Book.{is_unused}
 use Rattle.book.specs.declared.Book.{Book}
-use Rattle.book.specs.Record.{recordIn, bookWith}
-use Rattle.lent.specs.Lent.{placesLent, withPlaces}
+use Rattle.book.specs.Record.{record_in, book_with}
+use Rattle.lent.specs.Lent.{places_lent, with_places}
 use Rattle.lent.proofs.put_in.Statement.{statement}
 use Rattle.lent.proofs.put_in.Tie as tie
 
-counted-so : (buys : Bool) (book : Book) (places : List Resting) (used : ℕ) → used ≡ firstWhere isUnused places
-    → (whole : Book) → whole ≡ bookWith (withPlaces buys (record { used = used; places = places }) (recordIn book))
-    → whole ≡ bookWith (withPlaces buys (placesLent places) (recordIn book))
-counted-so buys book places used usedIs whole wholeIs = rw usedIs at wholeIs
+counted-so : (buys : Bool) (book : Book) (places : List Resting) (used : ℕ) → used ≡ first_where is_unused places
+    → (whole : Book) → whole ≡ book_with (with_places buys (record { used = used; places = places }) (record_in book))
+    → whole ≡ book_with (with_places buys (places_lent places) (record_in book))
+counted-so buys book places used used_is whole whole_is = rw used_is at whole_is
 
 used-in-requires : tie.Need-used-in-requires
 used-in-requires c κs = search rules

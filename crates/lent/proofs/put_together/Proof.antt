@@ -3,16 +3,16 @@ use mathlib.Core.Bool.{Bool}
 use mathlib.Core.Path.{◌≡◌}
 use borrow.Author.Rules.{rules}
 use Rattle.book.specs.declared.Book.{Book}
-use Rattle.book.specs.Record.{recordIn, bookWith}
+use Rattle.book.specs.Record.{record_in, book_with}
 use Rattle.lent.specs.declared.GivenBack.{GivenBack}
-use Rattle.lent.specs.Lent.{placesLent, withPlaces, togetherOf}
+use Rattle.lent.specs.Lent.{places_lent, with_places, together_of}
 use Rattle.lent.proofs.put_together.Statement.{statement}
 use Rattle.lent.proofs.put_together.Tie as tie
 
 put-together : (buys : Bool) (worked : GivenBack) (whole : Book)
-    → whole ≡ bookWith (withPlaces buys (placesLent worked.places) (recordIn worked.reply.book))
-    → record { refusal = worked.reply.refusal; length = worked.reply.length; book = whole } ≡ togetherOf buys worked
-put-together buys worked whole wholeIs = rw wholeIs
+    → whole ≡ book_with (with_places buys (places_lent worked.places) (record_in worked.reply.book))
+    → record { refusal = worked.reply.refusal; length = worked.reply.length; book = whole } ≡ together_of buys worked
+put-together buys worked whole whole_is = rw whole_is
 
 put-in-requires : tie.Need-put-in-requires
 put-in-requires c κs = search rules

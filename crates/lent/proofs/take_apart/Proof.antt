@@ -6,15 +6,15 @@ use borrow.Author.Rules.{rules}
 use Rattle.rules.specs.declared.Resting.{Resting}
 use Rattle.book.specs.declared.Book.{Book}
 use Rattle.book.specs.declared.Reply.{Reply}
-use Rattle.book.specs.Record.{recordIn, bookWith}
-use Rattle.lent.specs.Lent.{noPlaces, side_of, withPlaces, apartOf}
+use Rattle.book.specs.Record.{record_in, book_with}
+use Rattle.lent.specs.Lent.{no_places, side_of, with_places, apart_of}
 use Rattle.lent.proofs.take_apart.Statement.{statement}
 use Rattle.lent.proofs.take_apart.Tie as tie
 
-taken-apart : (buys : Bool) (reply : Reply) (left : List Resting) → left ≡ (side_of buys (recordIn reply.book)).places
-    → (apart : Book) → apart ≡ bookWith (withPlaces buys noPlaces (recordIn reply.book))
-    → record { reply = record { refusal = reply.refusal; length = reply.length; book = apart }; places = left } ≡ apartOf buys reply
-taken-apart buys reply left leftIs apart apartIs = rw (leftIs, apartIs)
+taken-apart : (buys : Bool) (reply : Reply) (left : List Resting) → left ≡ (side_of buys (record_in reply.book)).places
+    → (apart : Book) → apart ≡ book_with (with_places buys no_places (record_in reply.book))
+    → record { reply = record { refusal = reply.refusal; length = reply.length; book = apart }; places = left } ≡ apart_of buys reply
+taken-apart buys reply left left_is apart apart_is = rw (left_is, apart_is)
 
 places-in-requires : tie.Need-places-in-requires
 places-in-requires c κs = search rules

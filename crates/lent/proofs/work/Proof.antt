@@ -4,7 +4,7 @@ use mathlib.Core.Path.{◌≡◌, sym, ◌∙◌}
 use borrow.Author.Rules.{rules}
 use borrow.Author.Tests.{not-true, not-false}
 use Rattle.lent.specs.Lent.{is_empty}
-use Rattle.lent.proofs.LawsLentStep.{worked-unfit, worked_fit}
+use Rattle.lent.proofs.LawsLentStep.{worked_unfit, worked_fit}
 use Rattle.lent.proofs.work.Statement.{statement}
 use Rattle.lent.proofs.work.Tie as tie
 
@@ -23,7 +23,7 @@ returns c =
     let a = c.before.before.before.before.before.before.args in
     let e : is_empty _ ≡ false = sym c.before.before.before.is-empty.ensures ∙ not-true _ c.before.before.if1.true in
     let reply = c.before.refuse in
-    let it = worked-unfit a.buys a.book a.places a.line.now a.out.now e reply.result reply.ensures in
+    let it = worked_unfit a.buys a.book a.places a.line.now a.out.now e reply.result reply.ensures in
     (c.worked-of.ensures ∙ it.0, it.1)
 
 answer-whole-requires : tie.Need-answer-whole-requires

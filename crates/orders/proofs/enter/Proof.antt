@@ -6,17 +6,17 @@ use borrow.Author.Tests.{eq-eqb, ne_eqb, not-false, not-true}
 use Rattle.rules.specs.Book.{Book}
 use Rattle.basics.proofs.LawsChoice.{and_left}
 use Rattle.rules.specs.Instructions.{displayed, reserve, has, rules as needs-of, lawful}
-use Rattle.rules.specs.Refusals.{carriesFloor, carriesMinimum, orderLawful, orderInRange}
+use Rattle.rules.specs.Refusals.{carries_floor, carries_minimum, order_lawful, order_in_range}
 use Rattle.rules.specs.Working.{buying}
-use Rattle.side.specs.Tables.{bookOn}
-use Rattle.side.proofs.tables.LawsAnswers.{left-refused}
-use Rattle.orders.proofs.LawsEntered.{unlawful, out_of_range, left-entered}
+use Rattle.side.specs.Tables.{book_on}
+use Rattle.side.proofs.tables.LawsAnswers.{left_refused}
+use Rattle.orders.proofs.LawsEntered.{unlawful, out_of_range, left_entered}
 use Rattle.orders.proofs.LawsReady.{ready}
 use Rattle.orders.proofs.enter.Statement.{statement}
 use Rattle.orders.proofs.enter.Tie as tie
 
 abbrev book : tie.Start → Book
-book s = let a = s.args in bookOn a.h a.x.now a.buys.now a.y.now a.sells.now
+book s = let a = s.args in book_on a.h a.x.now a.buys.now a.y.now a.sells.now
 
 order-lawful-requires : tie.Need-order-lawful-requires
 order-lawful-requires c κs = search rules
@@ -28,9 +28,9 @@ returns : tie.Need-returns
 returns c =
     let start = c.before.before.before.before in
     let a = start.args in
-    let e : orderLawful a.o ≡ false = sym c.before.before.order-lawful.ensures ∙ not-true _ c.before.if1.true in
+    let e : order_lawful a.o ≡ false = sym c.before.before.order-lawful.ensures ∙ not-true _ c.before.if1.true in
     let left =
-    left-refused a.h a.x.now a.buys.now a.y.now a.sells.now start.requires.0 8 a.out.now _ (unlawful a.number a.time a.o (book start) e) in
+    left_refused a.h a.x.now a.buys.now a.y.now a.sells.now start.requires.0 8 a.out.now _ (unlawful a.number a.time a.o (book start) e) in
     (c.refuse.ensures ∙ left.0, left.1)
 
 order-in-range-requires : tie.Need-order-in-range-requires
@@ -40,28 +40,28 @@ refuse-requires-2 : tie.Need-refuse-requires-2
 refuse-requires-2 c κs = search rules
 
 -- the order is lawful
-isLawful : (c : tie.Else1) → orderLawful c.before.before.before.args.o ≡ true
-isLawful c = sym c.before.order-lawful.ensures ∙ not-false _ c.if1.false
+is_lawful : (c : tie.Else1) → order_lawful c.before.before.before.args.o ≡ true
+is_lawful c = sym c.before.order-lawful.ensures ∙ not-false _ c.if1.false
 
 word-lawful : (c : tie.Else1) → lawful c.before.before.before.args.o.word ≡ true
 word-lawful c =
     let o = c.before.before.before.args.o in
-    let tied = beq (has o.word reserve) (carriesFloor o.carried) in
+    let tied = beq (has o.word reserve) (carries_floor o.carried) in
     and_left (lawful o.word) tied
-    (and_left (lawful o.word && tied) (needs-of (carriesMinimum o.carried) (not (has o.word displayed))) (isLawful c))
+    (and_left (lawful o.word && tied) (needs-of (carries_minimum o.carried) (not (has o.word displayed))) (is_lawful c))
 
 returns-2 : tie.Need-returns-2
 returns-2 c =
     let start = c.before.before.before.before.before.before in
     let a = start.args in
-    let f : orderInRange a.o ≡ false = sym c.before.before.order-in-range.ensures ∙ not-true _ c.before.if2.true in
+    let f : order_in_range a.o ≡ false = sym c.before.before.order-in-range.ensures ∙ not-true _ c.before.if2.true in
     let left =
-    left-refused a.h a.x.now a.buys.now a.y.now a.sells.now start.requires.0 9 a.out.now _
-    (out_of_range a.number a.time a.o (book start) (isLawful c.before.before.before) f) in
+    left_refused a.h a.x.now a.buys.now a.y.now a.sells.now start.requires.0 9 a.out.now _
+    (out_of_range a.number a.time a.o (book start) (is_lawful c.before.before.before) f) in
     (c.refuse2.ensures ∙ left.0, left.1)
 
 -- and in range
-in_range : (c : tie.Else2) → orderInRange c.before.before.before.before.before.args.o ≡ true
+in_range : (c : tie.Else2) → order_in_range c.before.before.before.before.before.args.o ≡ true
 in_range c = sym c.before.order-in-range.ensures ∙ not-false _ c.if2.false
 
 match-order-requires : tie.Need-match-order-requires
@@ -70,7 +70,7 @@ match-order-requires c κs =
     let a = start.args in
     let p = start.requires in
     let q : buying a.o ≡ true = eq-eqb _ _ c.before.before.before.before.before.before.if3.true in
-    (p.0.buys, p.0.sells, ready a.o a.number true (book start) p.0.isSound p.2 (word-lawful c.before.before.before.before.before.before.before.before.before.before.before.before) (in_range c.before.before.before.before.before.before.before.before.before.before) q, p.1)
+    (p.0.buys, p.0.sells, ready a.o a.number true (book start) p.0.is_sound p.2 (word-lawful c.before.before.before.before.before.before.before.before.before.before.before.before) (in_range c.before.before.before.before.before.before.before.before.before.before) q, p.1)
 
 step-after-requires : tie.Need-step-after-requires
 step-after-requires c κs = search rules
@@ -85,8 +85,8 @@ returns-3 c =
     let m = c.before.before.before.match-order in
     let q : buying a.o ≡ true = eq-eqb _ _ c.before.before.before.before.before.before.before.before.before.before.if3.true in
     let left =
-    left-entered a.h a.x.now a.buys.now a.y.now a.sells.now start.requires.0 a.number a.time a.out.now _ _ _ _ _
-    a.o (isLawful c.before.before.before.before.before.before.before.before.before.before.before.before.before.before.before.before) (in_range c.before.before.before.before.before.before.before.before.before.before.before.before.before.before) true q m.result m.ensures in
+    left_entered a.h a.x.now a.buys.now a.y.now a.sells.now start.requires.0 a.number a.time a.out.now _ _ _ _ _
+    a.o (is_lawful c.before.before.before.before.before.before.before.before.before.before.before.before.before.before.before.before) (in_range c.before.before.before.before.before.before.before.before.before.before.before.before.before.before) true q m.result m.ensures in
     (c.step_after.ensures ∙ left.0, left.1)
 
 match-order-requires-2 : tie.Need-match-order-requires-2
@@ -95,7 +95,7 @@ match-order-requires-2 c κs =
     let a = start.args in
     let p = start.requires in
     let q : buying a.o ≡ false = ne_eqb _ _ c.before.before.before.before.before.before.if3.false in
-    (p.0.sells, p.0.buys, ready a.o a.number false (book start) p.0.isSound p.2 (word-lawful c.before.before.before.before.before.before.before.before.before.before.before.before) (in_range c.before.before.before.before.before.before.before.before.before.before) q, p.1)
+    (p.0.sells, p.0.buys, ready a.o a.number false (book start) p.0.is_sound p.2 (word-lawful c.before.before.before.before.before.before.before.before.before.before.before.before) (in_range c.before.before.before.before.before.before.before.before.before.before) q, p.1)
 
 step-after-requires-2 : tie.Need-step-after-requires-2
 step-after-requires-2 c κs = search rules
@@ -110,8 +110,8 @@ returns-4 c =
     let m = c.before.before.before.match-order2 in
     let q : buying a.o ≡ false = ne_eqb _ _ c.before.before.before.before.before.before.before.before.before.before.if3.false in
     let left =
-    left-entered a.h a.x.now a.buys.now a.y.now a.sells.now start.requires.0 a.number a.time a.out.now _ _ _ _ _
-    a.o (isLawful c.before.before.before.before.before.before.before.before.before.before.before.before.before.before.before.before) (in_range c.before.before.before.before.before.before.before.before.before.before.before.before.before.before) false q m.result m.ensures in
+    left_entered a.h a.x.now a.buys.now a.y.now a.sells.now start.requires.0 a.number a.time a.out.now _ _ _ _ _
+    a.o (is_lawful c.before.before.before.before.before.before.before.before.before.before.before.before.before.before.before.before) (in_range c.before.before.before.before.before.before.before.before.before.before.before.before.before.before) false q m.result m.ensures in
     (c.step-after2.ensures ∙ left.0, left.1)
 
 pub enter_spec : {M : Type 1} → statement M

@@ -12,14 +12,14 @@ use native.Mathlib.Omega.{arith}
 use borrow.Author.Tests.{eqb-true, eqb-false}
 use Rattle.basics.specs.Choice.{if◌then◌else◌}
 use Rattle.basics.specs.Lists.{every, times}
-use Rattle.basics.proofs.LawsChoice.{holds-or-not, lt-or-le}
+use Rattle.basics.proofs.LawsChoice.{holds_or_not, lt_or_le}
 use Rattle.side.specs.Table.{order_of, row_of, ranked, rows_at, side, Names, Holds, Shows}
-use Rattle.side.proofs.rows.LawsIndex.{length-ranked, ranked-alike, names_same}
-use Rattle.side.proofs.rows.LawsShown.{length-side, shown-holds, shown-side, shows-rows, side-dropped}
+use Rattle.side.proofs.rows.LawsIndex.{length_ranked, ranked_alike, names_same}
+use Rattle.side.proofs.rows.LawsShown.{length_side, shown_holds, shown_side, shows_rows, side_dropped}
 use Rattle.rules.specs.declared.Resting.{Resting}
-use Rattle.rules.specs.Book.{placesASide}
+use Rattle.rules.specs.Book.{places_aSide}
 use Rattle.orders.specs.Fills.{keeps, keepers}
-use Rattle.orders.proofs.fills.LawsTakenOff.{keepers-all}
+use Rattle.orders.proofs.fills.LawsTakenOff.{keepers_all}
 
 -- ── Two bytes change places ──
 
@@ -27,48 +27,48 @@ abbrev pub swapped : ℕ → ℕ → List ℕ → List ℕ
 swapped a b x = set (set x b (get_or x a 0)) a (get_or x b 0)
 
 -- another byte counts in place of one
-times-put : (j m k v : ℕ) (x : List ℕ) → k < m → k < length x
+times_put : (j m k v : ℕ) (x : List ℕ) → k < m → k < length x
     → times j (ranked m (set x k v)) + (if eqb (get_or x k 0) j then 1 else 0) ≡ times j (ranked m x) + (if eqb v j then 1 else 0)
 unfolding times ranked
-times-put j zero k v x l b = let z : ⊥ = omega arith in absurd z
-times-put j (suc m) k v x l b =
+times_put j zero k v x l b = let z : ⊥ = omega arith in absurd z
+times_put j (suc m) k v x l b =
     ⊎_elim
     (λ (p : k < m).
     let g : get_or (set x k v) m 0 ≡ get_or x m 0 = get_or-set_other x k m v 0 (λ z. omega arith) in
-    rw g (omega (arith, times-put j m k v x p b)))
+    rw g (omega (arith, times_put j m k v x p b)))
     (λ (p : m ≤ k).
     let e : k ≡ m = omega arith in
     let g : get_or (set x m v) m 0 ≡ v = get_or-set_same x m v 0 (omega arith) in
-    let r : ranked m (set x m v) ≡ ranked m x = ranked-alike m (set x m v) x (λ i q. get_or-set_other x m i v 0 (λ z. omega (arith, q, z))) in
+    let r : ranked m (set x m v) ≡ ranked m x = ranked_alike m (set x m v) x (λ i q. get_or-set_other x m i v 0 (λ z. omega (arith, q, z))) in
     rw (e, g, r) (omega arith))
-    (lt-or-le k m)
+    (lt_or_le k m)
 
 module _ (a b : ℕ) (x : List ℕ) where
-  first-put : b < length x → get_or (set x b (get_or x a 0)) a 0 ≡ get_or x a 0
-  first-put l =
+  first_put : b < length x → get_or (set x b (get_or x a 0)) a 0 ≡ get_or x a 0
+  first_put l =
       ⊎_elim
       (λ (e : eqb a b ≡ true). let z : a ≡ b = eqb-true a b e in rw z (get_or-set_same x b (get_or x b 0) 0 l))
       (λ (e : eqb a b ≡ false). get_or-set_other x b a (get_or x a 0) 0 (eqb-false a b e))
-      (holds-or-not (eqb a b))
+      (holds_or_not (eqb a b))
 
-  times-swapped : (j m : ℕ) → a < m → b < m → m ≤ length x → times j (ranked m (swapped a b x)) ≡ times j (ranked m x)
-  times-swapped j m p q l =
+  times_swapped : (j m : ℕ) → a < m → b < m → m ≤ length x → times j (ranked m (swapped a b x)) ≡ times j (ranked m x)
+  times_swapped j m p q l =
       let y = set x b (get_or x a 0) in
       let z : length y ≡ length x = length-set x b (get_or x a 0) in
-      let two = times-put j m a (get_or x b 0) y p (omega arith) in
-      omega (arith, times-put j m b (get_or x a 0) x q (omega arith), rw (first-put (omega arith)) at two)
+      let two = times_put j m a (get_or x b 0) y p (omega arith) in
+      omega (arith, times_put j m b (get_or x a 0) x q (omega arith), rw (first_put (omega arith)) at two)
 
 -- ── The worst orders of a side, without the best k ──
 
 module _ (n : ℕ) (x : List ℕ) (t : List (List ℕ)) (h : Holds n x t) (k : ℕ) (l : k ≤ n) where
   long : length (drop k (side n x t)) ≡ n - k
-  long = length-drop k (side n x t) ∙ rw (length-side n x t)
+  long = length-drop k (side n x t) ∙ rw (length_side n x t)
 
-  worst-holds : Holds (n - k) x t
-  worst-holds = shown-holds (drop k (side n x t)) x t (n - k) long (side-dropped n x t h k l)
+  worst_holds : Holds (n - k) x t
+  worst_holds = shown_holds (drop k (side n x t)) x t (n - k) long (side_dropped n x t h k l)
 
-  worst-side : side (n - k) x t ≡ drop k (side n x t)
-  worst-side = shown-side (drop k (side n x t)) x t (n - k) long (side-dropped n x t h k l)
+  worst_side : side (n - k) x t ≡ drop k (side n x t)
+  worst_side = shown_side (drop k (side n x t)) x t (n - k) long (side_dropped n x t h k l)
 
 -- ── The loop ──
 
@@ -78,21 +78,21 @@ pub record Closing (n : ℕ) (x₀ x : List ℕ) (t : List (List ℕ)) (to i : �
   pub inside : i ≤ n
   pub long : length x ≡ length x₀
   pub ahead : (k : ℕ) → i ≤ k → get_or x k 0 ≡ get_or x₀ k 0
-  pub same : (j : ℕ) → times j (ranked placesASide x) ≡ times j (ranked placesASide x₀)
+  pub same : (j : ℕ) → times j (ranked places_aSide x) ≡ times j (ranked places_aSide x₀)
   pub rows : rows_at t (ranked to x) ≡ map row_of (keepers (side i x₀ t))
 
-pub closing-start : (n : ℕ) (x : List ℕ) (t : List (List ℕ)) (reached : ℕ) → Holds n x t → reached ≤ n → every keeps (drop reached (side n x t)) ≡ true
+pub closing_start : (n : ℕ) (x : List ℕ) (t : List (List ℕ)) (reached : ℕ) → Holds n x t → reached ≤ n → every keeps (drop reached (side n x t)) ≡ true
     → Closing n x x t (n - reached) (n - reached)
-closing-start n x t reached h l e =
+closing_start n x t reached h l e =
     let all : keepers (side (n - reached) x t) ≡ side (n - reached) x t =
-    keepers-all (side (n - reached) x t) (rw (worst-side n x t h reached l) e) in
+    keepers_all (side (n - reached) x t) (rw (worst_side n x t h reached l) e) in
     record {
       behind = omega arith;
       inside = omega arith;
       long = refl;
       ahead = λ k p. refl;
       same = λ j. refl;
-      rows = rw all (worst-holds n x t h reached l).words;
+      rows = rw all (worst_holds n x t h reached l).words;
     }
 
 module _ {n : ℕ} {x₀ x : List ℕ} {t : List (List ℕ)} {to i : ℕ} (h : Holds n x₀ t) (w : Closing n x₀ x t to i) where
@@ -100,9 +100,9 @@ module _ {n : ℕ} {x₀ x : List ℕ} {t : List (List ℕ)} {to i : ℕ} (h : H
   closing_end e =
       let rows : rows_at t (ranked to x) ≡ map row_of (keepers (side n x₀ t)) = rw e at w.rows in
       let count : length (keepers (side n x₀ t)) ≡ to =
-      sym (length-map (keepers (side n x₀ t)) row_of) ∙ ap length (sym rows) ∙ length-map (ranked to x) (λ (j : ℕ). get_or t j []) ∙ length-ranked to x in
+      sym (length-map (keepers (side n x₀ t)) row_of) ∙ ap length (sym rows) ∙ length-map (ranked to x) (λ (j : ℕ). get_or t j []) ∙ length_ranked to x in
       let names : Names x = names_same x₀ x h.names w.long w.same in
-      (sym count, shows-rows (keepers (side n x₀ t)) x t to count (omega (arith, w.behind, h.fits)) h.all names rows)
+      (sym count, shows_rows (keepers (side n x₀ t)) x t to count (omega (arith, w.behind, h.fits)) h.all names rows)
 
   module _ (l : i < n) where
     pub slot_same : get_or x i 0 ≡ get_or x₀ i 0
@@ -113,7 +113,7 @@ module _ {n : ℕ} {x₀ x : List ℕ} {t : List (List ℕ)} {to i : ℕ} (h : H
     unfolding ranked
     row_next =
         let z : n - (n - suc i) ≡ suc i = omega arith in
-        let words : rows_at t (ranked (suc i) x₀) ≡ map row_of (side (suc i) x₀ t) = rw z at (worst-holds n x₀ t h (n - suc i) (omega arith)).words in
+        let words : rows_at t (ranked (suc i) x₀) ≡ map row_of (side (suc i) x₀ t) = rw z at (worst_holds n x₀ t h (n - suc i) (omega arith)).words in
         ap (λ (rs : List (List ℕ)). get_or rs 0 []) words
 
     module _ (o : Resting) (e : o ≡ order_of (get_or t (get_or x i 0) [])) where
@@ -124,7 +124,7 @@ module _ {n : ℕ} {x₀ x : List ℕ} {t : List (List ℕ)} {to i : ℕ} (h : H
           let b = w.behind in
           let m : to < length y = rw (length-set x i (get_or x to 0)) (omega (arith, w.long, h.names.long, h.fits)) in
           let front : ranked to (swapped to i x) ≡ ranked to x =
-          ranked-alike to (swapped to i x) x
+          ranked_alike to (swapped to i x) x
           (λ k p. get_or-set_other y to k (get_or x i 0) 0 (λ z. omega (arith, p, z)) ∙ get_or-set_other x i k (get_or x to 0) 0 (λ z. omega (arith, p, z))) in
           let here : get_or (swapped to i x) to 0 ≡ get_or x₀ i 0 = get_or-set_same y to (get_or x i 0) 0 m ∙ slot_same in
           let next : o ≡ order_of (get_or t (get_or x₀ i 0) []) = e ∙ rw slot_same in
@@ -137,23 +137,23 @@ module _ {n : ℕ} {x₀ x : List ℕ} {t : List (List ℕ)} {to i : ℕ} (h : H
           (λ (k : keeps o ≡ false).
           let gone : keeps (order_of (get_or t (get_or x₀ i 0) [])) ≡ false = rw next at k in
           rw (k, add-one i, front, gone) rows)
-          (holds-or-not (keeps o))
+          (holds_or_not (keeps o))
 
-      pub closing-on : Closing n x₀ (swapped to i x) t (if keeps o then to + 1 else to) (i + 1)
-      closing-on =
+      pub closing_on : Closing n x₀ (swapped to i x) t (if keeps o then to + 1 else to) (i + 1)
+      closing_on =
           let y = set x i (get_or x to 0) in
           let long : length y ≡ length x = length-set x i (get_or x to 0) in
-          let room : placesASide ≤ length x = omega (arith, w.long, h.names.long) in
+          let room : places_aSide ≤ length x = omega (arith, w.long, h.names.long) in
           record {
             behind = ⊎_elim
                 (λ (k : keeps o ≡ true). rw k (omega (arith, w.behind)))
                 (λ (k : keeps o ≡ false). rw k (omega (arith, w.behind)))
-                (holds-or-not (keeps o));
+                (holds_or_not (keeps o));
             inside = omega arith;
             long = length-set y to (get_or x i 0) ∙ (long ∙ w.long);
             ahead = λ k p.
                 get_or-set_other y to k (get_or x i 0) 0 (λ z. omega (arith, p, z, w.behind))
                 ∙ (get_or-set_other x i k (get_or x to 0) 0 (λ z. omega (arith, p, z)) ∙ w.ahead k (omega (arith, p)));
-            same = λ j. times-swapped to i x j placesASide (omega (arith, w.behind, h.fits)) (omega (arith, h.fits)) room ∙ w.same j;
+            same = λ j. times_swapped to i x j places_aSide (omega (arith, w.behind, h.fits)) (omega (arith, h.fits)) room ∙ w.same j;
             rows = rows_next;
           }

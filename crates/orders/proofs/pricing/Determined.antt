@@ -8,17 +8,17 @@ use Rattle.orders.proofs.pricing.locked_price.Reads as locked-price
 use Rattle.orders.proofs.pricing.execution_price.Reads as execution-price
 use Rattle.orders.proofs.pricing.seek.Reads as seek
 
-pub locked-price-determined : (κs : _) (a : _) (r r' : HalfCents) (s s' : _)
+pub locked_price_determined : (κs : _) (a : _) (r r' : HalfCents) (s s' : _)
     → locked-price.Post κs a r s → locked-price.Post κs a r' s' → r ≡ r'
-locked-price-determined κs a r r' s s' p q = p ∙ sym q
+locked_price_determined κs a r r' s s' p q = p ∙ sym q
 
-pub execution-price-determined : (κs : _) (a : _) (r r' : HalfCents) (s s' : _)
+pub execution_price_determined : (κs : _) (a : _) (r r' : HalfCents) (s s' : _)
     → execution-price.Post κs a r s → execution-price.Post κs a r' s' → r ≡ r'
-execution-price-determined κs a r r' s s' p q = p ∙ sym q
+execution_price_determined κs a r r' s s' p q = p ∙ sym q
 
-pub bound-under-determined : (κs : _) (a : _) (r r' : HalfCents) (s s' : _)
+pub bound_under_determined : (κs : _) (a : _) (r r' : HalfCents) (s s' : _)
     → bound-under.Post κs a r s → bound-under.Post κs a r' s' → r ≡ r'
-bound-under-determined κs a r r' s s' p q = p ∙ sym q
+bound_under_determined κs a r r' s s' p q = p ∙ sym q
 
-pub seek-determined : (κs : _) (a : _) (r r' : Ending) (s s' : _) → seek.Post κs a r s → seek.Post κs a r' s' → r ≡ r'
-seek-determined κs a r r' s s' p q = p ∙ sym q
+pub seek_determined : (κs : _) (a : _) (r r' : Ending) (s s' : _) → seek.Post κs a r s → seek.Post κs a r' s' → r ≡ r'
+seek_determined κs a r r' s s' p q = p ∙ sym q

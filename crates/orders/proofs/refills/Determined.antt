@@ -4,15 +4,15 @@
 use mathlib.Core.Path.{◌≡◌, sym, ◌∙◌}
 use Rattle.kinds.specs.declared.Shares.{Shares}
 use Rattle.side.specs.Table.{side}
-use Rattle.side.proofs.rows.LawsShown.{shown-same}
+use Rattle.side.proofs.rows.LawsShown.{shown_same}
 use Rattle.settling.specs.declared.Settled.{Settled}
 use Rattle.orders.proofs.refills.refill.Reads as refill
 use Rattle.orders.proofs.refills.shown_of.Reads as Shown-of
 
-pub shown-of-determined : (κs : _) (a : _) (r r' : Shares) (s s' : _) → Shown-of.Post κs a r s → Shown-of.Post κs a r' s' → r ≡ r'
-shown-of-determined κs a r r' s s' p q = p ∙ sym q
+pub shown_of_determined : (κs : _) (a : _) (r r' : Shares) (s s' : _) → Shown-of.Post κs a r s → Shown-of.Post κs a r' s' → r ≡ r'
+shown_of_determined κs a r r' s s' p q = p ∙ sym q
 
-pub refill-determined : (κs : _) (a : _) (r r' : Settled) (s s' : _) → refill.Post κs a r s → refill.Post κs a r' s'
+pub refill_determined : (κs : _) (a : _) (r r' : Settled) (s s' : _) → refill.Post κs a r s → refill.Post κs a r' s'
     → (r ≡ r') × (side r.held s.0.now s.1.0.now ≡ side r.held s'.0.now s'.1.0.now)
     × (s.1.1.1.1.1.1.0.now ≡ s'.1.1.1.1.1.1.0.now)
-refill-determined κs a r r' s s' p q = (p.0 ∙ sym q.0, rw p.0 (shown-same p.1.0 q.1.0), p.1.1 ∙ sym q.1.1)
+refill_determined κs a r r' s s' p q = (p.0 ∙ sym q.0, rw p.0 (shown_same p.1.0 q.1.0), p.1.1 ∙ sym q.1.1)

@@ -5,10 +5,10 @@ use Prim.Native.Nat.{ℕ}
 use Rattle.orders.proofs.reports.report.Reads as report
 use Rattle.orders.proofs.reports.report_cancelled.Reads as report-cancelled
 
-pub report-determined : (κs : _) (a : _) (r r' : ℕ) (s s' : _) → report.Post κs a r s → report.Post κs a r' s'
+pub report_determined : (κs : _) (a : _) (r r' : ℕ) (s s' : _) → report.Post κs a r s → report.Post κs a r' s'
     → (r ≡ r') × (s.1.1.1.1.1.1.1.1.0.now ≡ s'.1.1.1.1.1.1.1.1.0.now)
-report-determined κs a r r' s s' p q = (p.0 ∙ sym q.0, p.1 ∙ sym q.1)
+report_determined κs a r r' s s' p q = (p.0 ∙ sym q.0, p.1 ∙ sym q.1)
 
-pub report-cancelled-determined : (κs : _) (a : _) (r r' : ℕ) (s s' : _) → report-cancelled.Post κs a r s → report-cancelled.Post κs a r' s'
+pub report_cancelled_determined : (κs : _) (a : _) (r r' : ℕ) (s s' : _) → report-cancelled.Post κs a r s → report-cancelled.Post κs a r' s'
     → (r ≡ r') × (s.1.1.1.1.0.now ≡ s'.1.1.1.1.0.now)
-report-cancelled-determined κs a r r' s s' p q = (p.0 ∙ sym q.0, p.1 ∙ sym q.1)
+report_cancelled_determined κs a r r' s s' p q = (p.0 ∙ sym q.0, p.1 ∙ sym q.1)

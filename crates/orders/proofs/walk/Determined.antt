@@ -8,12 +8,12 @@ use Rattle.orders.proofs.walk.first_of.Reads as first_of
 use Rattle.orders.proofs.walk.taking_at.Reads as taking-at
 use Rattle.orders.proofs.walk.walk.Reads as walk
 
-pub taking-at-determined : (κs : _) (a : _) (r r' : Taking) (s s' : _) → taking-at.Post κs a r s → taking-at.Post κs a r' s' → r ≡ r'
-taking-at-determined κs a r r' s s' p q = p ∙ sym q
+pub taking_at_determined : (κs : _) (a : _) (r r' : Taking) (s s' : _) → taking-at.Post κs a r s → taking-at.Post κs a r' s' → r ≡ r'
+taking_at_determined κs a r r' s s' p q = p ∙ sym q
 
-pub walk-determined : (κs : _) (a : _) (r r' : Walked) (s s' : _) → walk.Post κs a r s → walk.Post κs a r' s'
+pub walk_determined : (κs : _) (a : _) (r r' : Walked) (s s' : _) → walk.Post κs a r s → walk.Post κs a r' s'
     → (r ≡ r') × (s.1.1.1.1.1.1.0.now ≡ s'.1.1.1.1.1.1.0.now)
-walk-determined κs a r r' s s' p q = (p.0 ∙ sym q.0, p.1 ∙ sym q.1)
+walk_determined κs a r r' s s' p q = (p.0 ∙ sym q.0, p.1 ∙ sym q.1)
 
-pub first-of-determined : (κs : _) (a : _) (r r' : ℕ) (s s' : _) → first_of.Post κs a r s → first_of.Post κs a r' s' → r ≡ r'
-first-of-determined κs a r r' s s' p q = p ∙ sym q
+pub first_of_determined : (κs : _) (a : _) (r r' : ℕ) (s s' : _) → first_of.Post κs a r s → first_of.Post κs a r' s' → r ≡ r'
+first_of_determined κs a r r' s s' p q = p ∙ sym q

@@ -14,16 +14,16 @@ use Rattle.basics.specs.Lists.{total, All, none, also}
 use Rattle.basics.proofs.LawsLists.{map-append}
 use Rattle.kinds.specs.Kinds.{shares}
 use Rattle.rules.specs.declared.Resting.{Resting}
-use Rattle.rules.specs.Book.{placesASide}
+use Rattle.rules.specs.Book.{places_aSide}
 use Rattle.rules.specs.Holdings.{nothing, walk}
-use Rattle.rules.proofs.LawsTakings.{nothing-total}
+use Rattle.rules.proofs.LawsTakings.{nothing_total}
 use Rattle.orders.specs.declared.cursor.Cursor.{Cursor}
 use Rattle.orders.specs.declared.cursor.Part.{Part}
 use Rattle.orders.specs.declared.walk.Taking.{Taking}
 use Rattle.orders.specs.Cursor.{parts, ahead, start, IsAt, Gives}
-use Rattle.orders.specs.Walk.{mostTakings, isPassed, partGives, taking, takingsFrom, reached, firstSkipped, takingsOf, walkedOf, takingRow, laid, laidAt}
-use Rattle.orders.proofs.cursor.LawsAhead.{ahead-start, length-parts}
-use Rattle.orders.proofs.walk.LawsTaken.{taking-none, length-taking, takings-nothing, walk-nothing}
+use Rattle.orders.specs.Walk.{most_takings, is_passed, part_gives, taking, takings_from, reached, first_skipped, takings_of, walked_of, taking_row, laid, laid_at}
+use Rattle.orders.proofs.cursor.LawsAhead.{ahead_start, length_parts}
+use Rattle.orders.proofs.walk.LawsTaken.{taking_none, length_taking, takings_nothing, walk_nothing}
 
 -- ── The turns of a walk ──
 
@@ -36,93 +36,93 @@ pub record Outcome : Type 0 where
 -- what a walk comes to that has the takings ks, has reached the orders before `at`, and of these has skipped `skipped` first
 unfoldable pub outcome : (Part → Bool) → List Taking → ℕ → ℕ → ℕ → List Part → Outcome
 outcome may ks at skipped left s =
-    let gs = walk may partGives left s in
-    record { took = ks ++ takingsFrom s gs; left = left - total gs; at = reached may at left s; skipped = firstSkipped may skipped left s }
+    let gs = walk may part_gives left s in
+    record { took = ks ++ takings_from s gs; left = left - total gs; at = reached may at left s; skipped = first_skipped may skipped left s }
 
 module _ (may : Part → Bool) (ks : List Taking) (at skipped left : ℕ) where
   -- the walk is over
   abbrev Over : List Part → Type 0
   Over s = outcome may ks at skipped left s ≡ record { took = ks; left = left; at = at; skipped = skipped }
 
-  over : (s : List Part) → walk may partGives left s ≡ nothing s → reached may at left s ≡ at → firstSkipped may skipped left s ≡ skipped → Over s
+  over : (s : List Part) → walk may part_gives left s ≡ nothing s → reached may at left s ≡ at → first_skipped may skipped left s ≡ skipped → Over s
   unfolding outcome
   over s e r k =
       let l : left - 0 ≡ left = omega arith in
-      rw (e, r, k, takings-nothing s, nothing-total s, append-nil ks, l)
+      rw (e, r, k, takings_nothing s, nothing_total s, append-nil ks, l)
 
-  over-end : Over []
-  unfolding walk nothing reached firstSkipped
-  over-end = over [] refl refl refl
+  over_end : Over []
+  unfolding walk nothing reached first_skipped
+  over_end = over [] refl refl refl
 
   over_none : left ≡ 0 → (s : List Part) → Over s
-  unfolding reached firstSkipped
-  over_none z s = over s (rw z (walk-nothing may s)) (rw z (none-reached s)) (rw z (none-skipped s))
+  unfolding reached first_skipped
+  over_none z s = over s (rw z (walk_nothing may s)) (rw z (none_reached s)) (rw z (none_skipped s))
     where
-      none-reached : (s : List Part) → reached may at 0 s ≡ at
-      none-reached [] = refl
-      none-reached (p ∷ s) = refl
+      none_reached : (s : List Part) → reached may at 0 s ≡ at
+      none_reached [] = refl
+      none_reached (p ∷ s) = refl
 
-      none-skipped : (s : List Part) → firstSkipped may skipped 0 s ≡ skipped
-      none-skipped [] = refl
-      none-skipped (p ∷ s) = refl
+      none_skipped : (s : List Part) → first_skipped may skipped 0 s ≡ skipped
+      none_skipped [] = refl
+      none_skipped (p ∷ s) = refl
 
   module _ (p : Part) (s : List Part) (some_left : 0 < left) where
     some : eqb left 0 ≡ false
     some = ne_eqb left 0 (λ z. omega arith)
 
-    over-beyond : may p ≡ false → Over (p ∷ s)
-    unfolding walk reached firstSkipped
-    over-beyond t = over (p ∷ s) (rw t) (rw (some, t)) (rw (some, t))
+    over_beyond : may p ≡ false → Over (p ∷ s)
+    unfolding walk reached first_skipped
+    over_beyond t = over (p ∷ s) (rw t) (rw (some, t)) (rw (some, t))
 
     turn : may p ≡ true
         → outcome may ks at skipped left (p ∷ s)
-        ≡ outcome may (ks ++ taking p (partGives left p)) (max at (p.place + 1)) (if isPassed left p then min skipped p.place else skipped)
-        (left - partGives left p) s
-    unfolding outcome takingsFrom walk reached firstSkipped total
+        ≡ outcome may (ks ++ taking p (part_gives left p)) (max at (p.place + 1)) (if is_passed left p then min skipped p.place else skipped)
+        (left - part_gives left p) s
+    unfolding outcome takings_from walk reached first_skipped total
     turn t =
-        let g = partGives left p in
-        let rest = walk may partGives (left - g) s in
+        let g = part_gives left p in
+        let rest = walk may part_gives (left - g) s in
         let l : left - (g + total rest) ≡ left - g - total rest = omega arith in
-        rw (t, some, l, append_assoc ks (taking p g) (takingsFrom s rest))
+        rw (t, some, l, append_assoc ks (taking p g) (takings_from s rest))
 
 -- ── The loop ──
 
-pub laid_one : (k : ℕ) (r : List ℕ) (took : List (List ℕ)) → k < length took → set took k r ≡ laidAt k (r ∷ []) took
+pub laid_one : (k : ℕ) (r : List ℕ) (took : List (List ℕ)) → k < length took → set took k r ≡ laid_at k (r ∷ []) took
 laid_one k r took l = set_split took k r l ∙ rw (drop-drop 1 k took, add-one k)
 
 laid_more : (ks x : List Taking) (took : List (List ℕ))
-    → laidAt (length ks) (map takingRow x) (laid (map takingRow ks) took) ≡ laid (map takingRow (ks ++ x)) took
+    → laid_at (length ks) (map taking_row x) (laid (map taking_row ks) took) ≡ laid (map taking_row (ks ++ x)) took
 laid_more ks x took =
-    let p = map takingRow ks in
-    let q = map takingRow x in
-    let n : length p ≡ length ks = length-map ks takingRow in
+    let p = map taking_row ks in
+    let q = map taking_row x in
+    let n : length p ≡ length ks = length-map ks taking_row in
     rw (take_at p (drop (length p) took) (length ks) n, drop_at p (drop (length p) took) (length ks) n, drop-drop (length q) (length p) took)
-    (sym (rw (map-append takingRow ks x, length-append p q) (append_assoc p q (drop (length p + length q) took))))
+    (sym (rw (map-append taking_row ks x, length-append p q) (append_assoc p q (drop (length p + length q) took))))
 
 -- the takings of the parts behind the cursor are laid, and the walk goes on from there with the shares left
 pub record Underway (may : Part → Bool) (want : ℕ) (s : List Resting) (took₀ took : List (List ℕ)) (c : Cursor) (count left skipped : ℕ) : Type 0 where
   pub is_at : IsAt s c
   pub ks : List Taking
   pub counted : length ks ≡ count
-  pub room : count + length (ahead s c) ≤ mostTakings
-  pub rows : took ≡ laid (map takingRow ks) took₀
-  pub rest : outcome may ks c.at skipped left (ahead s c) ≡ outcome may [] 0 placesASide want (parts s)
+  pub room : count + length (ahead s c) ≤ most_takings
+  pub rows : took ≡ laid (map taking_row ks) took₀
+  pub rest : outcome may ks c.at skipped left (ahead s c) ≡ outcome may [] 0 places_aSide want (parts s)
 
 -- the walk has ended so
 abbrev pub Ended : (Part → Bool) → ℕ → List Resting → List (List ℕ) → List (List ℕ) → Cursor → ℕ → ℕ → ℕ → Type 0
 Ended may want s took₀ took c count left skipped =
-    (record { count = count; left = shares left; at = c.at; skipped = skipped } ≡ walkedOf may want (parts s))
-    × (took ≡ laid (map takingRow (takingsOf may want (parts s))) took₀)
+    (record { count = count; left = shares left; at = c.at; skipped = skipped } ≡ walked_of may want (parts s))
+    × (took ≡ laid (map taking_row (takings_of may want (parts s))) took₀)
 
-pub underway-start : (may : Part → Bool) (want : ℕ) (s : List Resting) (took : List (List ℕ)) → length s ≤ placesASide
-    → Underway may want s took took start 0 want placesASide
-underway-start may want s took l =
-    let e = ahead-start s in
+pub underway_start : (may : Part → Bool) (want : ℕ) (s : List Resting) (took : List (List ℕ)) → length s ≤ places_aSide
+    → Underway may want s took took start 0 want places_aSide
+underway_start may want s took l =
+    let e = ahead_start s in
     record {
       is_at = record { within = omega arith; behind = omega arith; waits = λ p. let z : ⊥ = omega arith in absurd z };
       ks = [];
       counted = refl;
-      room = rw e (omega (arith, length-parts s));
+      room = rw e (omega (arith, length_parts s));
       rows = refl;
       rest = rw e;
     }
@@ -133,36 +133,36 @@ module _ {may : Part → Bool} {want : ℕ} {s : List Resting} {took₀ took : L
   unfolding outcome
   ended e =
       let f = sym e ∙ w.rest in
-      let k : w.ks ≡ takingsOf may want (parts s) = ap (λ (o : Outcome). o.took) f in
-      let l : left ≡ want - total (walk may partGives want (parts s)) = ap (λ (o : Outcome). o.left) f in
+      let k : w.ks ≡ takings_of may want (parts s) = ap (λ (o : Outcome). o.took) f in
+      let l : left ≡ want - total (walk may part_gives want (parts s)) = ap (λ (o : Outcome). o.left) f in
       let i : c.at ≡ reached may 0 want (parts s) = ap (λ (o : Outcome). o.at) f in
-      let n : skipped ≡ firstSkipped may placesASide want (parts s) = ap (λ (o : Outcome). o.skipped) f in
+      let n : skipped ≡ first_skipped may places_aSide want (parts s) = ap (λ (o : Outcome). o.skipped) f in
       (rw (← k, ← l, ← i, ← n, w.counted), rw (← k) w.rows)
 
-  pub ended-side : ahead s c ≡ [] → Ended may want s took₀ took c count left skipped
-  ended-side e = ended (rw e (over-end may w.ks c.at skipped left))
+  pub ended_side : ahead s c ≡ [] → Ended may want s took₀ took c count left skipped
+  ended_side e = ended (rw e (over_end may w.ks c.at skipped left))
 
-  pub ended-none : left ≡ 0 → Ended may want s took₀ took c count left skipped
-  ended-none z = ended (over_none may w.ks c.at skipped left z (ahead s c))
+  pub ended_none : left ≡ 0 → Ended may want s took₀ took c count left skipped
+  ended_none z = ended (over_none may w.ks c.at skipped left z (ahead s c))
 
   module _ (some : 0 < left) {p : Part} {next : Cursor} (g : Gives s c p next) where
-    pub ended-beyond : may p ≡ false → Ended may want s took₀ took c count left skipped
-    ended-beyond t = ended (rw g.list (over-beyond may w.ks c.at skipped left p (ahead s next) some t))
+    pub ended_beyond : may p ≡ false → Ended may want s took₀ took c count left skipped
+    ended_beyond t = ended (rw g.list (over_beyond may w.ks c.at skipped left p (ahead s next) some t))
 
-    pub underway-on : may p ≡ true → (let x = taking p (partGives left p) in
-        Underway may want s took₀ (laidAt count (map takingRow x) took) next (count + length x) (left - partGives left p)
-        (if isPassed left p then min skipped p.place else skipped))
-    underway-on t =
-        let x = taking p (partGives left p) in
-        let m : count + suc (length (ahead s next)) ≤ mostTakings = rw g.list at w.room in
+    pub underway_on : may p ≡ true → (let x = taking p (part_gives left p) in
+        Underway may want s took₀ (laid_at count (map taking_row x) took) next (count + length x) (left - part_gives left p)
+        (if is_passed left p then min skipped p.place else skipped))
+    underway_on t =
+        let x = taking p (part_gives left p) in
+        let m : count + suc (length (ahead s next)) ≤ most_takings = rw g.list at w.room in
         record {
           is_at = g.stands;
           ks = w.ks ++ x;
           counted = length-append w.ks x ∙ rw w.counted;
-          room = omega (arith, length-taking p (partGives left p), m);
+          room = omega (arith, length_taking p (part_gives left p), m);
           rows = rw (← w.counted, w.rows) (laid_more w.ks x took₀);
           rest =
-              ap (λ (at : ℕ). outcome may (w.ks ++ x) at (if isPassed left p then min skipped p.place else skipped) (left - partGives left p)
+              ap (λ (at : ℕ). outcome may (w.ks ++ x) at (if is_passed left p then min skipped p.place else skipped) (left - part_gives left p)
               (ahead s next)) g.at
               ∙ sym (turn may w.ks c.at skipped left p (ahead s next) some t)
               ∙ ap (outcome may w.ks c.at skipped left) (sym g.list) ∙ w.rest;
@@ -173,20 +173,20 @@ pub less : {s : List Resting} {c : Cursor} {p : Part} {next : Cursor} → Gives 
 less g = rw g.list (omega arith)
 
 -- one that is skipped lays nothing, and takes no shares
-pub underway-past : {may : Part → Bool} {want : ℕ} {s : List Resting} {took₀ took : List (List ℕ)} {c : Cursor} {count left skipped : ℕ}
+pub underway_past : {may : Part → Bool} {want : ℕ} {s : List Resting} {took₀ took : List (List ℕ)} {c : Cursor} {count left skipped : ℕ}
     → Underway may want s took₀ took c count left skipped → 0 < left → {p : Part} {next : Cursor} → Gives s c p next → may p ≡ true
-    → isPassed left p ≡ true → Underway may want s took₀ took next count left (min skipped p.place)
-unfolding underway-on
-underway-past {may = may} {want = want} {s = s} {took₀ = took₀} {took = took} {count = count} {left = left} {skipped = skipped} w some {p = p} {next = next} g t passed =
-    let m : count + suc (length (ahead s next)) ≤ mostTakings = rw g.list at w.room in
+    → is_passed left p ≡ true → Underway may want s took₀ took next count left (min skipped p.place)
+unfolding underway_on
+underway_past {may = may} {want = want} {s = s} {took₀ = took₀} {took = took} {count = count} {left = left} {skipped = skipped} w some {p = p} {next = next} g t passed =
+    let m : count + suc (length (ahead s next)) ≤ most_takings = rw g.list at w.room in
     let none : left - 0 ≡ left = omega arith in
-    let r : outcome may (w.ks ++ taking p (partGives left p)) next.at (if isPassed left p then min skipped p.place else skipped)
-    (left - partGives left p) (ahead s next) ≡ outcome may [] 0 placesASide want (parts s) = (underway-on w some g t).rest in
+    let r : outcome may (w.ks ++ taking p (part_gives left p)) next.at (if is_passed left p then min skipped p.place else skipped)
+    (left - part_gives left p) (ahead s next) ≡ outcome may [] 0 places_aSide want (parts s) = (underway_on w some g t).rest in
     record {
       is_at = g.stands;
       ks = w.ks;
       counted = w.counted;
       room = omega (arith, m);
       rows = w.rows;
-      rest = rw (passed, taking-none p, append-nil w.ks, none) at r;
+      rest = rw (passed, taking_none p, append-nil w.ks, none) at r;
     }

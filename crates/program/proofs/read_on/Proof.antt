@@ -9,7 +9,7 @@ use native.Mathlib.Omega.{arith}
 use borrow.Author.Rules.{rules}
 use borrow.Author.Tests.{not-false}
 use borrow.Rule.Slice.PartMut.{take_put}
-use Rattle.command_lines.proofs.lines.LawsRead.{read-within}
+use Rattle.command_lines.proofs.lines.LawsRead.{read_within}
 use Rattle.program.proofs.read_on.Statement.{statement}
 use Rattle.program.proofs.read_on.Tie as tie
 
@@ -46,7 +46,7 @@ returns-2 c =
     let asked : a.reads ≡ true = not-false a.reads c.before.before.before.before.before.if1.false in (
       λ e. let z : true ≡ false = sym asked ∙ e in cc,
       (
-        λ end e. read-within (to_z w64 (of_z w64 r.result)) a.have _ end (sym c.after_read.ensures ∙ e),
+        λ end e. read_within (to_z w64 (of_z w64 r.result)) a.have _ end (sym c.after_read.ensures ∙ e),
         take_put a.have (length input - a.have) input r.new.1.0 s.requires,
       ),
     )

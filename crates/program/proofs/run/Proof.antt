@@ -4,9 +4,9 @@ use mathlib.Core.Path.{◌≡◌, refl, sym, ◌∙◌}
 use lib.ListN.{length}
 use lib.Seq.{length-take-le}
 use Rattle.rules.specs.Book.{fresh}
-use Rattle.rules.specs.Refusals.{leastRoom}
-use Rattle.soundness.proofs.LawsKept.{fresh-sound}
-use Rattle.side.proofs.tables.LawsAnswers.{stands-back}
+use Rattle.rules.specs.Refusals.{least_room}
+use Rattle.soundness.proofs.LawsKept.{fresh_sound}
+use Rattle.side.proofs.tables.LawsAnswers.{stands_back}
 use Rattle.side.specs.Answers.{Stands}
 use native.Mathlib.Omega.{arith}
 use borrow.Author.Rules.{rules}
@@ -35,7 +35,7 @@ loop-holds c =
     let sells = c.clear2 in
     let s = c.before.before.before.before.before.before.before.before.before in
     let begun : Stands c.before.before.before.before.before.before.begin.result buys.new.0 s.args.buys.now sells.new.0 s.args.sells.now =
-    rw c.before.before.before.before.before.before.begin.ensures (stands-back fresh buys.new.0 s.args.buys.now sells.new.0 s.args.sells.now buys.ensures.0 sells.ensures.0 fresh-sound) in
+    rw c.before.before.before.before.before.before.begin.ensures (stands_back fresh buys.new.0 s.args.buys.now sells.new.0 s.args.sells.now buys.ensures.0 sells.ensures.0 fresh_sound) in
     (begun, omega arith, refl, refl)
 
 take-turn-requires : tie.Need-take-turn-requires invariant-loop decreases-loop
@@ -51,7 +51,7 @@ module _ (c : tie.After-take-turn invariant-loop decreases-loop) where
       ≡ length c.before.before.before.before.before.before.before.before.before.before.before.before.before.before.before.before.before.before.before.args.out.now
   long-out = c.take-turn.auto.1.1.1.1.1.1.1.1.0 ∙ c.before.before.before.before.before.before.before.before.before.loop.invariant.3
 
-  room-stays : leastRoom ≤ length c.take-turn.new.1.1.1.1.1.1.1.1.0
+  room-stays : least_room ≤ length c.take-turn.new.1.1.1.1.1.1.1.1.0
   room-stays = omega (arith, long-out, c.before.before.before.before.before.before.before.before.before.before.before.before.before.before.before.before.before.before.before.requires.1)
 
   waits-fit : c.take-turn.result.have ≤ length c.take-turn.new.1.0

@@ -6,19 +6,19 @@ use lib.ListN.{length, take, drop, length-take, length-drop, take-append-drop}
 use native.Mathlib.Omega.{arith}
 use borrow.Author.Rules.{rules}
 use Rattle.basics.specs.Bytes.{onto}
-use Rattle.basics.specs.Lists.{removeAt}
-use Rattle.basics.proofs.LawsBytes.{onto-part}
-use Rattle.basics.proofs.LawsLists.{length-removeAt}
+use Rattle.basics.specs.Lists.{remove_at}
+use Rattle.basics.proofs.LawsBytes.{onto_part}
+use Rattle.basics.proofs.LawsLists.{length_remove_at}
 use Rattle.side.specs.Table.{side, Holds, Shows}
-use Rattle.side.proofs.rows.LawsShown.{length-side, holds-shows, shown-holds, shown-side}
+use Rattle.side.proofs.rows.LawsShown.{length_side, holds_shows, shown_holds, shown_side}
 use Rattle.rules.specs.declared.Event.TheVariants.{Cancelled, Moved}
 use Rattle.rules.specs.declared.Fate.TheVariants.{Stays, IsCancelled, IsSet}
 use Rattle.kinds.specs.Kinds.{shares}
-use Rattle.rules.specs.Book.{stamp, inRankOrder, sharesLeft}
-use Rattle.rules.specs.EventLines.{eventLine, eventLines}
-use Rattle.rules.specs.Settling.{stampedAs, insert, toldBy}
-use Rattle.rules.proofs.LawsEvents.{eventLines-one, cancelled-length, moved_length}
-use Rattle.settling.specs.OneByOne.{setBelow}
+use Rattle.rules.specs.Book.{stamp, in_rank_order, shares_left}
+use Rattle.rules.specs.EventLines.{event_line, event_lines}
+use Rattle.rules.specs.Settling.{stamped_as, insert, told_by}
+use Rattle.rules.proofs.LawsEvents.{event_lines_one, cancelled_length, moved_length}
+use Rattle.settling.specs.OneByOne.{set_below}
 use Rattle.settling.proofs.settle.Statement.{statement}
 use Rattle.settling.proofs.settle.Tie as tie
 
@@ -36,12 +36,12 @@ enum_told : tie.Need-enum-told
 enum_told c = search rules
 
 returns : tie.Need-returns
-unfolding eventLines onto
+unfolding event_lines onto
 returns c =
     let start = c.before.before.before in
     let a = start.args in
     let is : a.fate ≡ Stays = c.enum_told.given.1 in
-    rw is (refl, (holds-shows a.m.held a.x.now a.t.now start.requires.0, sym (take-append-drop a.m.length a.out.now)))
+    rw is (refl, (holds_shows a.m.held a.x.now a.t.now start.requires.0, sym (take-append-drop a.m.length a.out.now)))
 
 -- ── It is cancelled ──
 
@@ -55,10 +55,10 @@ cancelled-at c =
     let start = c.before.before.before.before in
     let a = start.args in
     let is : a.fate ≡ IsCancelled c.before.fate.given.0.0 = c.before.fate.given.1 in
-    let room : a.m.length + length (eventLines (toldBy a.fate a.o)) ≤ length a.out.now = start.requires.3 in
-    let left = shares (sharesLeft a.o) in
+    let room : a.m.length + length (event_lines (told_by a.fate a.o)) ≤ length a.out.now = start.requires.3 in
+    let left = shares (shares_left a.o) in
     let e = Cancelled a.o.number left c.before.fate.given.0.0 in
-    (is, omega (arith, rw (is, eventLines-one e) at room, cancelled-length a.o.number left c.before.fate.given.0.0))
+    (is, omega (arith, rw (is, event_lines_one e) at room, cancelled_length a.o.number left c.before.fate.given.0.0))
 
 remove-requires : tie.Need-remove-requires
 remove-requires c κs = search rules
@@ -99,17 +99,17 @@ returns-2 c =
     let start = k.before.before.before.before in
     let a = start.args in
     let reason = k.before.fate.given.0.0 in
-    let left = shares (sharesLeft a.o) in
+    let left = shares (shares_left a.o) in
     let e = Cancelled a.o.number left reason in
     let counted : c.before.before.before.before.shares_left.result ≡ left = c.before.before.before.before.shares_left.ensures in
-    let more : w.result ≡ length (eventLine e) = w.ensures.0 ∙ sym (cancelled-length a.o.number left reason) in
-    let written : w.new.0 ≡ onto (eventLine e) (take (length a.out.now - a.m.length) (drop a.m.length a.out.now)) =
+    let more : w.result ≡ length (event_line e) = w.ensures.0 ∙ sym (cancelled_length a.o.number left reason) in
+    let written : w.new.0 ≡ onto (event_line e) (take (length a.out.now - a.m.length) (drop a.m.length a.out.now)) =
     w.ensures.1 ∙ rw counted in
-    let gone : Shows (removeAt a.at (side a.m.held a.x.now a.t.now)) c.before.before.before.before.before.remove.new.0 a.t.now =
+    let gone : Shows (remove_at a.at (side a.m.held a.x.now a.t.now)) c.before.before.before.before.before.remove.new.0 a.t.now =
     c.before.before.before.before.before.remove.ensures in
-    rw ((cancelled-at k).0, eventLines-one e) (
+    rw ((cancelled-at k).0, event_lines_one e) (
       ap (λ (l : ℕ). record { held = a.m.held - 1; next = a.m.next; length = a.m.length + l }) more,
-      (gone, onto-part a.m.length (eventLine e) a.out.now w.new.0 written),
+      (gone, onto_part a.m.length (event_line e) a.out.now w.new.0 written),
     )
 
 -- ── It is set anew ──
@@ -125,28 +125,28 @@ set_at c =
     let a = start.args in
     let new = c.before.fate2.given.0.0 in
     let is : a.fate ≡ IsSet new = c.before.fate2.given.1 in
-    let room : a.m.length + length (eventLines (toldBy a.fate a.o)) ≤ length a.out.now = start.requires.3 in
+    let room : a.m.length + length (event_lines (told_by a.fate a.o)) ≤ length a.out.now = start.requires.3 in
     let e = Moved new.number new.price new.shares in
-    (is, omega (arith, rw (is, eventLines-one e) at room, moved_length new.number new.price new.shares))
+    (is, omega (arith, rw (is, event_lines_one e) at room, moved_length new.number new.price new.shares))
 
 -- the side without it
 left-side : (c : tie.After-remove2) → let a = c.before.before.before.before.before.before.before.args in
     let x = c.remove2.new.0 in
-    (side (a.m.held - 1) x a.t.now ≡ removeAt a.at (side a.m.held a.x.now a.t.now)) × Holds (a.m.held - 1) x a.t.now
+    (side (a.m.held - 1) x a.t.now ≡ remove_at a.at (side a.m.held a.x.now a.t.now)) × Holds (a.m.held - 1) x a.t.now
 left-side c =
     let start = c.before.before.before.before.before.before.before in
     let a = start.args in
     let x = c.remove2.new.0 in
     let s = side a.m.held a.x.now a.t.now in
-    let whole = length-side a.m.held a.x.now a.t.now in
-    let fewer : length (removeAt a.at s) ≡ a.m.held - 1 = length-removeAt a.at s (omega (arith, whole, start.requires.1)) ∙ ap (λ (l : ℕ). l - 1) whole in
-    let gone : Shows (removeAt a.at s) x a.t.now = c.remove2.ensures in
-    (shown-side (removeAt a.at s) x a.t.now (a.m.held - 1) fewer gone, shown-holds (removeAt a.at s) x a.t.now (a.m.held - 1) fewer gone)
+    let whole = length_side a.m.held a.x.now a.t.now in
+    let fewer : length (remove_at a.at s) ≡ a.m.held - 1 = length_remove_at a.at s (omega (arith, whole, start.requires.1)) ∙ ap (λ (l : ℕ). l - 1) whole in
+    let gone : Shows (remove_at a.at s) x a.t.now = c.remove2.ensures in
+    (shown_side (remove_at a.at s) x a.t.now (a.m.held - 1) fewer gone, shown_holds (remove_at a.at s) x a.t.now (a.m.held - 1) fewer gone)
 
 -- the order as it is set anew
 set_is : (c : tie.After-stamped-as) → let k = c.before.before.before.before.before.before in
     let a = k.before.before.before.before.args in
-    c.stamped-as.result ≡ stampedAs (stamp a.number a.m.next) k.before.fate2.given.0.0
+    c.stamped-as.result ≡ stamped_as (stamp a.number a.m.next) k.before.fate2.given.0.0
 set_is c = c.stamped-as.ensures
 
 remove-requires-2 : tie.Need-remove-requires-2
@@ -165,10 +165,10 @@ rest-requires c κs =
     let start = k.before.before.before.before in
     let a = start.args in
     let fits = start.requires.0.fits in
-    let below : setBelow a.fate = start.requires.6.0 in (
+    let below : set_below a.fate = start.requires.6.0 in (
       left.1,
       omega (arith, fits, start.requires.1),
-      ap (inRankOrder a.buying) left.0 ∙ start.requires.2,
+      ap (in_rank_order a.buying) left.0 ∙ start.requires.2,
       rw (set_is c, left.0) (record { priced = rw (set_at k).0 at below; others = start.requires.6.1 }),
     )
 
@@ -208,14 +208,14 @@ returns-3 c =
     let a = start.args in
     let new = k.before.fate2.given.0.0 in
     let e = Moved new.number new.price new.shares in
-    let more : w.result ≡ length (eventLine e) = w.ensures.0 ∙ sym (moved_length new.number new.price new.shares) in
-    let written : w.new.0 ≡ onto (eventLine e) (take (length a.out.now - a.m.length) (drop a.m.length a.out.now)) = w.ensures.1 in
+    let more : w.result ≡ length (event_line e) = w.ensures.0 ∙ sym (moved_length new.number new.price new.shares) in
+    let written : w.new.0 ≡ onto (event_line e) (take (length a.out.now - a.m.length) (drop a.m.length a.out.now)) = w.ensures.1 in
     let x = c.before.before.before.before.before.before.before.before.remove2.new.0 in
     let put : Shows (insert a.buying c.before.before.before.before.before.stamped-as.result (side (a.m.held - 1) x a.t.now))
     rest.new.0 rest.new.1.0 = rest.ensures in
-    rw ((set_at k).0, eventLines-one e) (
+    rw ((set_at k).0, event_lines_one e) (
       ap (λ (l : ℕ). record { held = a.m.held; next = a.m.next + 1; length = a.m.length + l }) more,
-      (rw (set_is c.before.before.before.before.before, left.0) at put, onto-part a.m.length (eventLine e) a.out.now w.new.0 written),
+      (rw (set_is c.before.before.before.before.before, left.0) at put, onto_part a.m.length (event_line e) a.out.now w.new.0 written),
     )
 
 pub settle-spec : {M : Type 1} → statement M

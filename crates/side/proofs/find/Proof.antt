@@ -4,17 +4,17 @@ use mathlib.Core.Path.{◌≡◌, sym, ◌∙◌}
 use lib.ListN.{drop}
 use native.Mathlib.Omega.{arith}
 use borrow.Author.Rules.{rules}
-use Rattle.basics.specs.Lists.{firstWhere}
-use Rattle.basics.proofs.LawsLoops.{found_here, found-later, found_nowhere}
+use Rattle.basics.specs.Lists.{first_where}
+use Rattle.basics.proofs.LawsLoops.{found_here, found_later, found_nowhere}
 use Rattle.rules.specs.Book.{unused}
 use Rattle.rules.specs.Commands.{is_number}
 use Rattle.side.specs.Table.{side}
-use Rattle.side.proofs.rows.LawsShown.{length-side}
+use Rattle.side.proofs.rows.LawsShown.{length_side}
 use Rattle.side.proofs.find.Statement.{statement}
 use Rattle.side.proofs.find.Tie as tie
 
 abbrev invariant-loop : tie.invariant-loop
-invariant-loop x t n number i₀ i = (i ≤ n) × (i + firstWhere (is_number number) (drop i (side n x t)) ≡ firstWhere (is_number number) (side n x t))
+invariant-loop x t n number i₀ i = (i ≤ n) × (i + first_where (is_number number) (drop i (side n x t)) ≡ first_where (is_number number) (side n x t))
 
 abbrev decreases-loop : tie.decreases-loop
 decreases-loop x t n number i₀ i = n - i
@@ -30,7 +30,7 @@ returns c =
     let l = c.before.before.before.loop in
     let a = c.before.before.before.before.args in
     let s = side a.n a.x.now a.t.now in
-    let long = length-side a.n a.x.now a.t.now in
+    let long = length_side a.n a.x.now a.t.now in
     sym (found_here (is_number a.number) unused s l.i (omega arith) (sym c.before.is_at.ensures ∙ c.if1.true)) ∙ l.invariant.1
 
 add-i : tie.Need-overflow-add-i invariant-loop decreases-loop
@@ -44,15 +44,15 @@ loop-again c =
     let l = c.before.before.before.loop in
     let a = c.before.before.before.before.args in
     let s = side a.n a.x.now a.t.now in
-    let long = length-side a.n a.x.now a.t.now in
-    (omega arith, sym (found-later (is_number a.number) unused s l.i (omega arith) (sym c.before.is_at.ensures ∙ c.if1.false)) ∙ l.invariant.1)
+    let long = length_side a.n a.x.now a.t.now in
+    (omega arith, sym (found_later (is_number a.number) unused s l.i (omega arith) (sym c.before.is_at.ensures ∙ c.if1.false)) ∙ l.invariant.1)
 
 returns-2 : tie.Need-returns-2 invariant-loop decreases-loop
 returns-2 c =
     let l = c.before.loop in
     let a = c.before.before.args in
     let s = side a.n a.x.now a.t.now in
-    let long = length-side a.n a.x.now a.t.now in
+    let long = length_side a.n a.x.now a.t.now in
     sym (found_nowhere (is_number a.number) unused s l.i (omega arith)) ∙ l.invariant.1
 
 pub find_spec : {M : Type 1} → statement M

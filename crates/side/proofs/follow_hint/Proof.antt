@@ -6,11 +6,11 @@ use lib.ListN.{get_or}
 use native.Mathlib.Omega.{arith}
 use borrow.Author.Rules.{rules}
 use borrow.Author.Tests.{eq-eqb}
-use Rattle.rules.specs.Book.{placesASide}
+use Rattle.rules.specs.Book.{places_aSide}
 use Rattle.rules.specs.Commands.{is_number}
-use Rattle.side.proofs.rows.LawsIndex.{names-below}
-use Rattle.side.proofs.rows.LawsShown.{length-side}
-use Rattle.side.proofs.LawsHints.{hint-leads}
+use Rattle.side.proofs.rows.LawsIndex.{names_below}
+use Rattle.side.proofs.rows.LawsShown.{length_side}
+use Rattle.side.proofs.LawsHints.{hint_leads}
 use Rattle.side.proofs.follow_hint.Statement.{statement}
 use Rattle.side.proofs.follow_hint.Tie as tie
 
@@ -32,7 +32,7 @@ row-requires c κs = search rules
 returns : tie.Need-returns
 returns c =
     let a = c.before.before.before.before.before.before.before.before.args in
-    λ l. let z : ⊥ = omega (arith, l, length-side a.n a.x.now a.t.now) in absurd z
+    λ l. let z : ⊥ = omega (arith, l, length_side a.n a.x.now a.t.now) in absurd z
 
 place-of-requires : tie.Need-place-of-requires
 place-of-requires c κs = c.before.before.before.before.before.before.before.before.requires.0.fits
@@ -40,7 +40,7 @@ place-of-requires c κs = c.before.before.before.before.before.before.before.bef
 returns-2 : tie.Need-returns-2
 returns-2 c =
     let a = c.before.before.before.before.before.before.before.before.before.before.args in
-    λ l. let z : ⊥ = omega (arith, l, length-side a.n a.x.now a.t.now) in absurd z
+    λ l. let z : ⊥ = omega (arith, l, length_side a.n a.x.now a.t.now) in absurd z
 
 sub-result : tie.Need-overflow-sub-result
 sub-result c = search rules
@@ -56,13 +56,13 @@ returns-3 c =
     let i = c.before.place_of.result in
     let hint = c.before.before.before.before.before.before.wide in
     let o = c.before.before.before.before.before.row in
-    let slot = hint.result % placesASide in
+    let slot = hint.result % places_aSide in
     let found : get_or a.x.now i 0 ≡ hint.result = c.before.place_of.ensures (omega arith) ∙ sym hint.ensures in
-    let in_table : get_or a.x.now i 0 < placesASide = names-below a.x.now holds.names i (omega (arith, holds.fits)) in
+    let in_table : get_or a.x.now i 0 < places_aSide = names_below a.x.now holds.names i (omega (arith, holds.fits)) in
     let named : get_or a.x.now i 0 ≡ slot = omega (arith, found, in_table) in
     let its : is_number a.number o.result ≡ true = eq-eqb o.result.number.0 a.number.0 c.before.before.if1.false in
     λ l.
-    hint-leads a.n a.x.now a.t.now holds a.number first.requires.1 slot i named (omega arith)
+    hint_leads a.n a.x.now a.t.now holds a.number first.requires.1 slot i named (omega arith)
     (ap (is_number a.number) (sym o.ensures) ∙ its)
 
 pub follow-hint-spec : {M : Type 1} → statement M

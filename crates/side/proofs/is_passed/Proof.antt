@@ -6,8 +6,8 @@ use lib.ListN.{get_or}
 use native.Mathlib.Omega.{arith}
 use borrow.Author.Rules.{rules}
 use borrow.Author.Tests.{lt-ltb, le-ltb}
-use Rattle.side.specs.Table.{levelIn}
-use Rattle.side.proofs.rows.LawsIndex.{names-below}
+use Rattle.side.specs.Table.{level_in}
+use Rattle.side.proofs.rows.LawsIndex.{names_below}
 use Rattle.side.proofs.is_passed.Statement.{statement}
 use Rattle.side.proofs.is_passed.Tie as tie
 
@@ -25,16 +25,16 @@ level-at-requires c κs =
     let start = c.before.before.before in
     let a = start.args in
     let w : c.wide.result ≡ get_or a.x.now a.i 0 = c.wide.ensures in
-    omega (arith, names-below a.x.now start.requires.0 a.i start.requires.1)
+    omega (arith, names_below a.x.now start.requires.0 a.i start.requires.1)
 
 -- the level that was read
 level-is : (c : tie.After-level-at)
     → let a = c.before.before.before.before.args in
-    c.level-at.result ≡ levelIn a.buying (get_or a.t.now (get_or a.x.now a.i 0) [])
+    c.level_at_lem.result ≡ level_in a.buying (get_or a.t.now (get_or a.x.now a.i 0) [])
 level-is c =
     let a = c.before.before.before.before.args in
     let w : c.before.wide.result ≡ get_or a.x.now a.i 0 = c.before.wide.ensures in
-    c.level-at.ensures ∙ ap (λ (j : ℕ). levelIn a.buying (get_or a.t.now j [])) w
+    c.level_at_lem.ensures ∙ ap (λ (j : ℕ). level_in a.buying (get_or a.t.now j [])) w
 
 returns : tie.Need-returns
 returns c = rw (← level-is c.before, lt-ltb _ _ c.if1.true)

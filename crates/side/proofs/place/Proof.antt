@@ -6,8 +6,8 @@ use lib.Dec.{ltb}
 use lib.ListN.{get_or}
 use native.Mathlib.Omega.{arith}
 use borrow.Author.Rules.{rules}
-use Rattle.side.specs.Table.{flagOf, levelIn}
-use Rattle.side.proofs.LawsHalves.{passed, looked, all-looked, Within, quartered, halved}
+use Rattle.side.specs.Table.{flag_of, level_in}
+use Rattle.side.proofs.LawsHalves.{passed, looked, all_looked, Within, quartered, halved}
 use Rattle.side.proofs.place.Statement.{statement}
 use Rattle.side.proofs.place.Tie as tie
 
@@ -27,12 +27,12 @@ decreases-loop2 x t n buying mine low₀ range₀ low range = range
 look : (c : tie.After-level-of invariant-loop decreases-loop invariant-loop2 decreases-loop2) (i r : ℕ)
     → let a = c.before.args in
     let mine = c.level-of.result in
-    i < a.n → r ≡ flagOf (ltb mine (levelIn a.buying (get_or a.t.now (get_or a.x.now i 0) [])))
-    → r ≡ flagOf (ltb i (passed a.n a.x.now a.t.now a.buying mine))
+    i < a.n → r ≡ flag_of (ltb mine (level_in a.buying (get_or a.t.now (get_or a.x.now i 0) [])))
+    → r ≡ flag_of (ltb i (passed a.n a.x.now a.t.now a.buying mine))
 look c i r l e =
     let a = c.before.args in
     let p = c.before.requires in
-    e ∙ ap flagOf (looked a.n a.x.now a.t.now p.0 a.buying a.o p.1 p.2 c.level-of.result c.level-of.ensures i l)
+    e ∙ ap flag_of (looked a.n a.x.now a.t.now p.0 a.buying a.o p.1 p.2 c.level-of.result c.level-of.ensures i l)
 
 -- what three looks told
 narrowed : (c : tie.After-is-passed3 invariant-loop decreases-loop invariant-loop2 decreases-loop2)
@@ -161,7 +161,7 @@ returns c =
     let a = k.before.args in
     let p = k.before.requires in
     let e : l.low ≡ passed a.n a.x.now a.t.now a.buying k.level-of.result = omega arith in
-    rw e (all-looked a.n a.x.now a.t.now p.0 a.buying a.o p.1 p.2 k.level-of.result k.level-of.ensures)
+    rw e (all_looked a.n a.x.now a.t.now p.0 a.buying a.o p.1 p.2 k.level-of.result k.level-of.ensures)
 
 pub place-spec : {M : Type 1} → statement M
 place-spec =

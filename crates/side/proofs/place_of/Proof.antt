@@ -8,23 +8,23 @@ use lib.ListN.{length, get_or}
 use native.Mathlib.Omega.{arith}
 use borrow.Author.Rules.{rules}
 use Rattle.basics.specs.Choice.{if◌then◌else◌}
-use Rattle.basics.proofs.LawsChoice.{holds-or-not}
-use Rattle.side.specs.Table.{placesAPart}
-use Rattle.side.proofs.rows.LawsSteps.{counted, steps, step-at}
+use Rattle.basics.proofs.LawsChoice.{holds_or_not}
+use Rattle.side.specs.Table.{places_aPart}
+use Rattle.side.proofs.rows.LawsSteps.{counted, steps, step_at}
 use Rattle.side.proofs.place_of.Statement.{statement}
 use Rattle.side.proofs.place_of.Tie as tie
 
 abbrev invariant-loop2 : tie.invariant-loop2
-invariant-loop2 x n slot steps part found₀ i₀ found i = (i ≤ placesAPart) × (found < placesAPart)
+invariant-loop2 x n slot steps part found₀ i₀ found i = (i ≤ places_aPart) × (found < places_aPart)
 
 abbrev decreases-loop2 : tie.decreases-loop2
-decreases-loop2 x n slot steps part found₀ i₀ found i = placesAPart - i
+decreases-loop2 x n slot steps part found₀ i₀ found i = places_aPart - i
 
 abbrev invariant-loop : tie.invariant-loop
-invariant-loop x n slot steps part₀ part = part ≤ n + placesAPart
+invariant-loop x n slot steps part₀ part = part ≤ n + places_aPart
 
 abbrev decreases-loop : tie.decreases-loop
-decreases-loop x n slot steps part₀ part = n + placesAPart - part
+decreases-loop x n slot steps part₀ part = n + places_aPart - part
 
 whole-index-requires : tie.Need-whole-index-requires invariant-loop2 decreases-loop2 invariant-loop decreases-loop
 whole-index-requires c κs = search rules
@@ -64,12 +64,12 @@ loop2-again c =
     let a = c.before.before.before.before.before.before.before.before.args in
     let b = get_or a.x.now (l.part + m.i) 0 in
     let h : c.before.here.result ≡ (if eqb b a.slot then get_or steps m.i 0 else 0) = c.before.here.ensures in
-    let it = rw (step-at m.i (omega arith)) at h in
-    let below : c.before.here.result < placesAPart =
+    let it = rw (step_at m.i (omega arith)) at h in
+    let below : c.before.here.result < places_aPart =
     ⊎_elim
     (λ (t : eqb b a.slot ≡ true). omega (arith, rw t at it))
     (λ (t : eqb b a.slot ≡ false). omega (arith, rw t at it))
-    (holds-or-not (eqb b a.slot)) in
+    (holds_or_not (eqb b a.slot)) in
     let e : c.greater.result ≡ max c.before.here.result m.found = c.greater.ensures in
     (omega arith, omega arith)
 

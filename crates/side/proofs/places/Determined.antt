@@ -6,7 +6,7 @@ use Rattle.side.specs.Table.{side}
 use Rattle.rules.specs.Settling.{insert}
 use Rattle.side.proofs.places.rest.Reads as rest
 
-pub rest-determined : (κs : _) (a : _) (r r' : _) (s s' : _) → rest.Post κs a r s → rest.Post κs a r' s'
+pub rest_determined : (κs : _) (a : _) (r r' : _) (s s' : _) → rest.Post κs a r s → rest.Post κs a r' s'
     → let n = length (insert a.1.1.1.0 a.1.1.1.1.0 (side a.1.1.0 a.0.now a.1.0.now)) in
     side n s.0.now s.1.0.now ≡ side n s'.0.now s'.1.0.now
-rest-determined κs a r r' s s' p q = p.is ∙ sym q.is
+rest_determined κs a r r' s s' p q = p.is ∙ sym q.is

@@ -6,8 +6,8 @@ use Rattle.kinds.specs.declared.HalfCents.{HalfCents}
 use Rattle.side.proofs.prices.locking_price.Reads as locking-price
 use Rattle.side.proofs.prices.within.Reads as within
 
-pub within-determined : (κs : _) (a : _) (r r' : Bool) (s s' : _) → within.Post κs a r s → within.Post κs a r' s' → r ≡ r'
-within-determined κs a r r' s s' p q = p ∙ sym q
+pub within_determined : (κs : _) (a : _) (r r' : Bool) (s s' : _) → within.Post κs a r s → within.Post κs a r' s' → r ≡ r'
+within_determined κs a r r' s s' p q = p ∙ sym q
 
-pub locking-price-determined : (κs : _) (a : _) (r r' : HalfCents) (s s' : _) → locking-price.Post κs a r s → locking-price.Post κs a r' s' → r ≡ r'
-locking-price-determined κs a r r' s s' p q = p ∙ sym q
+pub locking_price_determined : (κs : _) (a : _) (r r' : HalfCents) (s s' : _) → locking-price.Post κs a r s → locking-price.Post κs a r' s' → r ≡ r'
+locking_price_determined κs a r r' s s' p q = p ∙ sym q

@@ -2,7 +2,7 @@
 use mathlib.Core.Path.{◌≡◌}
 use borrow.Author.Rules.{rules}
 use Rattle.rules.specs.Book.{earlier}
-use Rattle.side.proofs.LawsPlaces.{ranks-by-values}
+use Rattle.side.proofs.LawsPlaces.{ranks_by_values}
 use Rattle.side.proofs.ranks_before.Statement.{statement}
 use Rattle.side.proofs.ranks_before.Tie as tie
 
@@ -14,7 +14,7 @@ returns c =
     let k = c.before.before.before.before.before.before.before.before.before.before in
     let a = k.before.args in
     let stamped : k.earlier.result ≡ earlier a.x.stamp a.y.stamp = k.earlier.ensures in
-    rw stamped (ranks-by-values a.buying a.x a.y)
+    rw stamped (ranks_by_values a.buying a.x a.y)
 
 pub ranks-before-spec : {M : Type 1} → statement M
 ranks-before-spec = tie.close (tie.spec earlier-requires returns)

@@ -8,97 +8,97 @@ use lib.Seq.{get_or-set_other}
 use native.Mathlib.Numerals.{add-one}
 use native.Mathlib.Omega.{arith}
 use Rattle.basics.specs.Choice.{if◌then◌else◌}
-use Rattle.basics.specs.Lists.{times, insertAt, removeAt}
-use Rattle.basics.proofs.LawsLists.{length-removeAt}
+use Rattle.basics.specs.Lists.{times, insert_at, remove_at}
+use Rattle.basics.proofs.LawsLists.{length_remove_at}
 use Rattle.rules.specs.declared.Resting.{Resting}
-use Rattle.rules.specs.Book.{placesASide}
+use Rattle.rules.specs.Book.{places_aSide}
 use Rattle.side.specs.Table.{row_of, ranked, rotated, side, Names, Holds, Shows}
-use Rattle.side.proofs.rows.LawsIndex.{length-ranked, ranked-alike, times-insertAt, names_same}
-use Rattle.side.proofs.rows.LawsShown.{side-inserted, side-removed}
-use Rattle.side.proofs.shifts.LawsRotated.{inserted-before, inserted-there, inserted-behind, removed-before, insertAt-removeAt, removeAt-insertAt, length-rotated}
+use Rattle.side.proofs.rows.LawsIndex.{length_ranked, ranked_alike, times_insert_at, names_same}
+use Rattle.side.proofs.rows.LawsShown.{side_inserted, side_removed}
+use Rattle.side.proofs.shifts.LawsRotated.{inserted_before, inserted_there, inserted_behind, removed_before, insert_at_remove_at, remove_at_insert_at, length_rotated}
 
 -- ── The rows in rank order ──
 
 -- a byte put in comes behind those that stand past it
 module _ (at v : ℕ) (s : List ℕ) (p : at ≤ length s) where
-  ranked-past : (k : ℕ) → ranked (suc (at + k)) (insertAt at v s) ≡ insertAt k v (ranked (at + k) s)
+  ranked_past : (k : ℕ) → ranked (suc (at + k)) (insert_at at v s) ≡ insert_at k v (ranked (at + k) s)
   unfolding ranked
-  ranked-past zero =
+  ranked_past zero =
       let z : at + 0 ≡ at = omega arith in
-      let h = inserted-there 0 at v s p in
-      let r = ranked-alike at (insertAt at v s) s (inserted-before 0 at v s p) in
+      let h = inserted_there 0 at v s p in
+      let r = ranked_alike at (insert_at at v s) s (inserted_before 0 at v s p) in
       rw z (cc)
-  ranked-past (suc k) =
+  ranked_past (suc k) =
       let e : at + suc k ≡ suc (at + k) = omega arith in
-      let h = inserted-behind 0 at v s p (at + k) (omega arith) in
-      let r = ranked-past k in
+      let h = inserted_behind 0 at v s p (at + k) (omega arith) in
+      let r = ranked_past k in
       rw e (cc)
 
-  ranked-inserted : (m : ℕ) → at ≤ m → ranked (suc m) (insertAt at v s) ≡ insertAt (m - at) v (ranked m s)
-  ranked-inserted m l = let e : at + (m - at) ≡ m = omega arith in rw e at (ranked-past (m - at))
+  ranked_inserted : (m : ℕ) → at ≤ m → ranked (suc m) (insert_at at v s) ≡ insert_at (m - at) v (ranked m s)
+  ranked_inserted m l = let e : at + (m - at) ≡ m = omega arith in rw e at (ranked_past (m - at))
 
 module _ (x : List ℕ) (from to : ℕ) (f : from < length x) where
-  ranked-raised : to ≤ from → ranked (from + 1) (rotated from to x) ≡ insertAt (from - to) (get_or x from 0) (ranked from x)
-  ranked-raised h =
-      let m : to ≤ length (removeAt from x) = omega (arith, length-removeAt from x f) in
+  ranked_raised : to ≤ from → ranked (from + 1) (rotated from to x) ≡ insert_at (from - to) (get_or x from 0) (ranked from x)
+  ranked_raised h =
+      let m : to ≤ length (remove_at from x) = omega (arith, length_remove_at from x f) in
       ap (λ (n : ℕ). ranked n (rotated from to x)) (add-one from)
-      ∙ ranked-inserted to (get_or x from 0) (removeAt from x) m from h
-      ∙ ap (λ (js : List ℕ). insertAt (from - to) (get_or x from 0) js) (ranked-alike from (removeAt from x) x (removed-before 0 from x))
+      ∙ ranked_inserted to (get_or x from 0) (remove_at from x) m from h
+      ∙ ap (λ (js : List ℕ). insert_at (from - to) (get_or x from 0) js) (ranked_alike from (remove_at from x) x (removed_before 0 from x))
 
-  ranked-lowered : from ≤ to → to < length x → ranked to (rotated from to x) ≡ removeAt (to - from) (ranked (suc to) x)
-  ranked-lowered h t =
-      let long : length (removeAt from x) ≡ length x - 1 = length-removeAt from x f in
-      let s = ranked to (removeAt from x) in
-      let m : to - from ≤ length s = omega (arith, length-ranked to (removeAt from x)) in
-      let e : ranked (suc to) x ≡ insertAt (to - from) (get_or x from 0) s =
-      ap (ranked (suc to)) (sym (insertAt-removeAt 0 from x f)) ∙ ranked-inserted from (get_or x from 0) (removeAt from x) (omega arith) to h in
-      ranked-alike to (rotated from to x) (removeAt from x) (inserted-before 0 to (get_or x from 0) (removeAt from x) (omega arith))
-      ∙ rw e (sym (removeAt-insertAt 0 (to - from) (get_or x from 0) s m))
+  ranked_lowered : from ≤ to → to < length x → ranked to (rotated from to x) ≡ remove_at (to - from) (ranked (suc to) x)
+  ranked_lowered h t =
+      let long : length (remove_at from x) ≡ length x - 1 = length_remove_at from x f in
+      let s = ranked to (remove_at from x) in
+      let m : to - from ≤ length s = omega (arith, length_ranked to (remove_at from x)) in
+      let e : ranked (suc to) x ≡ insert_at (to - from) (get_or x from 0) s =
+      ap (ranked (suc to)) (sym (insert_at_remove_at 0 from x f)) ∙ ranked_inserted from (get_or x from 0) (remove_at from x) (omega arith) to h in
+      ranked_alike to (rotated from to x) (remove_at from x) (inserted_before 0 to (get_or x from 0) (remove_at from x) (omega arith))
+      ∙ rw e (sym (remove_at_insert_at 0 (to - from) (get_or x from 0) s m))
 
 -- a hint is none of them
-ranked-hinted : (x : List ℕ) (n hint v : ℕ) → n ≤ hint → ranked n (set x hint v) ≡ ranked n x
-ranked-hinted x n hint v l = ranked-alike n (set x hint v) x (λ i p. get_or-set_other x hint i v 0 (λ z. omega (arith, z, p)))
+ranked_hinted : (x : List ℕ) (n hint v : ℕ) → n ≤ hint → ranked n (set x hint v) ≡ ranked n x
+ranked_hinted x n hint v l = ranked_alike n (set x hint v) x (λ i p. get_or-set_other x hint i v 0 (λ z. omega (arith, z, p)))
 
 -- ── What it names ──
 
 module _ (x : List ℕ) (names : Names x) where
   -- whichever byte moved, and wherever to: in and out of a place a byte counts the same
-  names-rotated : (from to : ℕ) → from < placesASide → to < placesASide → Names (rotated from to x)
-  names-rotated from to f t =
+  names_rotated : (from to : ℕ) → from < places_aSide → to < places_aSide → Names (rotated from to x)
+  names_rotated from to f t =
       let all = names.long in
-      let in-x : from < length x = omega arith in
-      let long : length (removeAt from x) ≡ length x - 1 = length-removeAt from x in-x in
-      names_same x (rotated from to x) names (length-rotated x from to (omega arith) (omega arith))
-      (λ j. times-with j to (omega arith) t ∙ sym (rw (insertAt-removeAt 0 from x) at (times-with j from (omega arith) f)))
+      let in_x : from < length x = omega arith in
+      let long : length (remove_at from x) ≡ length x - 1 = length_remove_at from x in_x in
+      names_same x (rotated from to x) names (length_rotated x from to (omega arith) (omega arith))
+      (λ j. times_with j to (omega arith) t ∙ sym (rw (insert_at_remove_at 0 from x) at (times_with j from (omega arith) f)))
     where
-      times-with : (j at : ℕ) → at ≤ length (removeAt from x) → at < placesASide
-          → times j (ranked placesASide (insertAt at (get_or x from 0) (removeAt from x)))
-          ≡ (if eqb (get_or x from 0) j then 1 else 0) + times j (ranked (placesASide - 1) (removeAt from x))
-      times-with j at p l =
-          ap (times j) (ranked-inserted at (get_or x from 0) (removeAt from x) p (placesASide - 1) (omega arith))
-          ∙ times-insertAt j (placesASide - 1 - at) (get_or x from 0) (ranked (placesASide - 1) (removeAt from x))
+      times_with : (j at : ℕ) → at ≤ length (remove_at from x) → at < places_aSide
+          → times j (ranked places_aSide (insert_at at (get_or x from 0) (remove_at from x)))
+          ≡ (if eqb (get_or x from 0) j then 1 else 0) + times j (ranked (places_aSide - 1) (remove_at from x))
+      times_with j at p l =
+          ap (times j) (ranked_inserted at (get_or x from 0) (remove_at from x) p (places_aSide - 1) (omega arith))
+          ∙ times_insert_at j (places_aSide - 1 - at) (get_or x from 0) (ranked (places_aSide - 1) (remove_at from x))
 
-  names-hinted : (hint v : ℕ) → placesASide ≤ hint → Names (set x hint v)
-  names-hinted hint v l = names_same x (set x hint v) names (length-set x hint v) (λ j. ap (times j) (ranked-hinted x placesASide hint v l))
+  names_hinted : (hint v : ℕ) → places_aSide ≤ hint → Names (set x hint v)
+  names_hinted hint v l = names_same x (set x hint v) names (length-set x hint v) (λ j. ap (times j) (ranked_hinted x places_aSide hint v l))
 
 -- ── The side that it shows ──
 
 module _ (n : ℕ) (x : List ℕ) (t : List (List ℕ)) (h : Holds n x t) where
-  pub shows-inserted : (at hint : ℕ) (o : Resting) → at ≤ n → n < placesASide → placesASide ≤ hint
-      → Shows (insertAt at o (side n x t)) (set (rotated n (n - at) x) hint (get_or x n 0)) (set t (get_or x n 0) (row_of o))
-  shows-inserted at hint o l p far =
+  pub shows_inserted : (at hint : ℕ) (o : Resting) → at ≤ n → n < places_aSide → places_aSide ≤ hint
+      → Shows (insert_at at o (side n x t)) (set (rotated n (n - at) x) hint (get_or x n 0)) (set t (get_or x n 0) (row_of o))
+  shows_inserted at hint o l p far =
       let x₁ = rotated n (n - at) x in
       let v = get_or x n 0 in
       let all = h.names.long in
       let e : n - (n - at) ≡ at = omega arith in
-      side-inserted n x t h (set x₁ hint v) at o l p (names-hinted x₁ (names-rotated x h.names n (n - at) p (omega arith)) hint v far)
-      (ranked-hinted x₁ (n + 1) hint v (omega arith) ∙ rw e at (ranked-raised x n (n - at) (omega arith) (omega arith)))
+      side_inserted n x t h (set x₁ hint v) at o l p (names_hinted x₁ (names_rotated x h.names n (n - at) p (omega arith)) hint v far)
+      (ranked_hinted x₁ (n + 1) hint v (omega arith) ∙ rw e at (ranked_raised x n (n - at) (omega arith) (omega arith)))
 
-  pub shows-removed : (at : ℕ) → at < n → Shows (removeAt at (side n x t)) (rotated (n - 1 - at) (n - 1) x) t
-  shows-removed at l =
+  pub shows_removed : (at : ℕ) → at < n → Shows (remove_at at (side n x t)) (rotated (n - 1 - at) (n - 1) x) t
+  shows_removed at l =
       let all = h.names.long in
       let fits = h.fits in
       let e : n - 1 - (n - 1 - at) ≡ at = omega arith in
       let m : suc (n - 1) ≡ n = omega arith in
-      side-removed n x t h (rotated (n - 1 - at) (n - 1) x) at l (names-rotated x h.names (n - 1 - at) (n - 1) (omega arith) (omega arith))
-      (rw (e, m) at (ranked-lowered x (n - 1 - at) (n - 1) (omega arith) (omega arith) (omega arith)))
+      side_removed n x t h (rotated (n - 1 - at) (n - 1) x) at l (names_rotated x h.names (n - 1 - at) (n - 1) (omega arith) (omega arith))
+      (rw (e, m) at (ranked_lowered x (n - 1 - at) (n - 1) (omega arith) (omega arith) (omega arith)))

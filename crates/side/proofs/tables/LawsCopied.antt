@@ -13,9 +13,9 @@ abbrev pub copied : {A B : Type 0} → (A → B) → List A → List B → ℕ �
 copied f from onto i = map f (take i from) ++ drop i onto
 
 module _ {A B : Type 0} (f : A → B) (d : A) (e : B) where
-  pub copied-step : (from : List A) (onto b : List B) (i : ℕ) (x : B) → i < length from → i < length onto → x ≡ f (get_or from i d) → b ≡ copied f from onto i
+  pub copied_step : (from : List A) (onto b : List B) (i : ℕ) (x : B) → i < length from → i < length onto → x ≡ f (get_or from i d) → b ≡ copied f from onto i
       → set b i x ≡ copied f from onto (i + 1)
-  copied-step from onto b i x l m v h =
+  copied_step from onto b i x l m v h =
       let long : length (map f (take i from)) ≡ i = length-map (take i from) f ∙ length-take-le i from (omega arith) in
       let next : drop i onto ≡ get_or onto i e ∷ drop (i + 1) onto = drop-cons onto i e m ∙ rw add-one in
       rw (h, v, next) (set_at (map f (take i from)) (get_or onto i e) (drop (i + 1) onto) (f (get_or from i d)) i long

@@ -1,15 +1,15 @@
 -- `side_by_side::same_places` is safe and ends: it looks at all places. Assumes nothing.
 use Prim.Native.Nat.{◌-◌, ◌≤◌}
-use Rattle.rules.specs.Book.{placesASide}
+use Rattle.rules.specs.Book.{places_aSide}
 use borrow.Author.Rules.{rules}
 use Rattle.side_by_side.proofs.same_places.Statement.{statement}
 use Rattle.side_by_side.proofs.same_places.Tie as tie
 
 abbrev invariant-loop : tie.invariant-loop
-invariant-loop a b i₀ i = i ≤ placesASide
+invariant-loop a b i₀ i = i ≤ places_aSide
 
 abbrev decreases-loop : tie.decreases-loop
-decreases-loop a b i₀ i = placesASide - i
+decreases-loop a b i₀ i = places_aSide - i
 
 loop-holds : tie.Need-loop-init invariant-loop decreases-loop
 loop-holds c = search rules

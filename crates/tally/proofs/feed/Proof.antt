@@ -4,7 +4,7 @@ use Prim.Native.Nat.{◌-◌}
 use lib.ListN.{length}
 use native.Mathlib.Omega.{arith}
 use borrow.Author.Rules.{rules}
-use Rattle.tally.proofs.LawsFed.{Feeding, feeding-start, feeding-line, feeding-end}
+use Rattle.tally.proofs.LawsFed.{Feeding, feeding_start, feeding_line, feeding_end}
 use Rattle.tally.proofs.feed.Statement.{statement}
 use Rattle.tally.proofs.feed.Tie as tie
 
@@ -17,7 +17,7 @@ decreases-loop number input tally₀ at₀ tally at = length input - at
 loop-holds : tie.Need-loop-init invariant-loop decreases-loop
 loop-holds c =
     let a = c.before.args in
-    feeding-start a.number a.t a.input.now
+    feeding_start a.number a.t a.input.now
 
 sub-rest : tie.Need-overflow-sub-rest invariant-loop decreases-loop
 sub-rest c = search rules
@@ -60,14 +60,14 @@ loop-again c =
     let a = c.before.before.before.before.before.before.before.args in
     let l = c.before.before.before.before.before.loop in
     let end = c.before.before.before.scan-line.result in
-    feeding-line a.number a.t a.input.now l.tally l.at l.invariant end c.before.before.before.scan-line.ensures
+    feeding_line a.number a.t a.input.now l.tally l.at l.invariant end c.before.before.before.scan-line.ensures
     (omega (arith, c.before.before.if1.false)) c.take-line.result c.take-line.ensures
 
 returns : tie.Need-returns invariant-loop decreases-loop
 returns c =
     let a = c.before.before.before.before.before.args in
     let l = c.before.before.before.loop in
-    feeding-end a.number a.t a.input.now l.tally l.at l.invariant c.before.scan-line.result c.before.scan-line.ensures
+    feeding_end a.number a.t a.input.now l.tally l.at l.invariant c.before.scan-line.result c.before.scan-line.ensures
     (omega (arith, c.if1.true))
 
 pub feed-spec : {M : Type 1} → statement M

@@ -8,8 +8,8 @@ use native.Mathlib.Omega.{arith}
 use borrow.Author.Rules.{rules}
 use borrow.Author.Tests.{leb-true, not-true, not-false}
 use Rattle.basics.proofs.LawsChoice.{and_left}
-use Rattle.tally_day.specs.Decimal.{isDecimal}
-use Rattle.tally_day.proofs.LawsDecimal.{Reading, reading-start, reading-length, reading-end, reading-other, reading-digit, reading-large}
+use Rattle.tally_day.specs.Decimal.{is_decimal}
+use Rattle.tally_day.proofs.LawsDecimal.{Reading, reading_start, reading_length, reading_end, reading_other, reading_digit, reading_large}
 use Rattle.tally_day.proofs.decimal_in.Statement.{statement}
 use Rattle.tally_day.proofs.decimal_in.Tie as tie
 
@@ -20,10 +20,10 @@ abbrev decreases-loop : tie.decreases-loop
 decreases-loop s value₀ i₀ value i = length s - i
 
 returns : tie.Need-returns invariant-loop decreases-loop
-returns c = reading-length c.before.before.args.s.now c.if1.true
+returns c = reading_length c.before.before.args.s.now c.if1.true
 
 loop-holds : tie.Need-loop-init invariant-loop decreases-loop
-loop-holds c = reading-start c.before.before.args.s.now
+loop-holds c = reading_start c.before.before.args.s.now
 
 shared-slice-read-is-decimal : tie.Need-shared-slice-read-is-decimal invariant-loop decreases-loop
 shared-slice-read-is-decimal c = search rules
@@ -35,7 +35,7 @@ returns-2 : tie.Need-returns-2 invariant-loop decreases-loop
 returns-2 c =
     let s = c.before.before.before.before.before.before.before.args.s.now in
     let l = c.before.before.before.before.loop in
-    reading-other s c.before.before.before.before.before.if1.false l.value l.i l.invariant c.before.before.before.loop-test.true (sym c.before.is-decimal.ensures ∙ not-true _ c.if2.true)
+    reading_other s c.before.before.before.before.before.if1.false l.value l.i l.invariant c.before.before.before.loop-test.true (sym c.before.is-decimal.ensures ∙ not-true _ c.if2.true)
 
 mul-value : tie.Need-overflow-mul-value invariant-loop decreases-loop
 mul-value c = search rules
@@ -46,7 +46,7 @@ shared-slice-read-value c = search rules
 sub-value : tie.Need-overflow-sub-value invariant-loop decreases-loop
 sub-value c =
     let byte = get_or c.before.before.before.before.before.before.before.before.args.s.now c.before.before.before.before.before.loop.i 0 in
-    let digit : isDecimal byte ≡ true = sym c.before.before.is-decimal.ensures ∙ not-false _ c.before.if2.false in
+    let digit : is_decimal byte ≡ true = sym c.before.before.is-decimal.ensures ∙ not-false _ c.before.if2.false in
     let least : 48 ≤ byte = leb-true 48 byte (and_left (leb 48 byte) (leb byte 57) digit) in
     omega (arith, least)
 
@@ -63,7 +63,7 @@ returns-3 : tie.Need-returns-3 invariant-loop decreases-loop
 returns-3 c =
     let s = c.before.before.before.before.before.before.before.before.before.args.s.now in
     let l = c.before.before.before.before.before.before.loop in
-    reading-large s c.before.before.before.before.before.before.before.if1.false l.value l.i l.invariant c.before.before.before.before.before.loop-test.true (sym c.before.before.before.is-decimal.ensures ∙ not-false _ c.before.before.if2.false) (omega (arith, c.if3.true))
+    reading_large s c.before.before.before.before.before.before.before.if1.false l.value l.i l.invariant c.before.before.before.before.before.loop-test.true (sym c.before.before.before.is-decimal.ensures ∙ not-false _ c.before.before.if2.false) (omega (arith, c.if3.true))
 
 add-i : tie.Need-overflow-add-i invariant-loop decreases-loop
 add-i c = search rules
@@ -75,7 +75,7 @@ loop-again : tie.Need-loop-preserved invariant-loop decreases-loop
 loop-again c =
     let s = c.before.before.before.before.before.before.before.before.before.args.s.now in
     let l = c.before.before.before.before.before.before.loop in
-    reading-digit s c.before.before.before.before.before.before.before.if1.false l.value l.i l.invariant c.before.before.before.before.before.loop-test.true (sym c.before.before.before.is-decimal.ensures ∙ not-false _ c.before.before.if2.false) (omega (arith, c.if3.false))
+    reading_digit s c.before.before.before.before.before.before.before.if1.false l.value l.i l.invariant c.before.before.before.before.before.loop-test.true (sym c.before.before.before.is-decimal.ensures ∙ not-false _ c.before.before.if2.false) (omega (arith, c.if3.false))
 
 cast-t18 : tie.Need-overflow-cast-t18 invariant-loop decreases-loop
 cast-t18 c = omega (arith, c.before.loop.invariant.small)
@@ -84,7 +84,7 @@ returns-4 : tie.Need-returns-4 invariant-loop decreases-loop
 returns-4 c =
     let s = c.before.before.before.before.args.s.now in
     let l = c.before.loop in
-    reading-end s c.before.before.if1.false l.value l.i l.invariant (omega (arith, c.loop-test.false))
+    reading_end s c.before.before.if1.false l.value l.i l.invariant (omega (arith, c.loop-test.false))
 
 pub decimal-in-spec : {M : Type 1} → statement M
 decimal-in-spec =

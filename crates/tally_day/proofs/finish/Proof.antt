@@ -6,21 +6,21 @@ use lib.ListN.{length}
 use native.Mathlib.Omega.{arith}
 use borrow.Author.Rules.{rules}
 use Rattle.kinds.specs.declared.Number.{Number}
-use Rattle.command_lines.specs.Pieces.{afterLines, afterPart}
-use Rattle.rules.specs.Day.{unendedLine}
+use Rattle.command_lines.specs.Pieces.{after_lines, after_part}
+use Rattle.rules.specs.Day.{unended_line}
 use Rattle.tally.specs.declared.Tally.{Tally}
 use Rattle.tally.specs.Tally.{turn}
 use Rattle.tally_day.proofs.finish.Statement.{statement}
 use Rattle.tally_day.proofs.finish.Tie as tie
 
 module _ (n : Number) (t : Tally) where
-  no_part : (part : List ℕ) → length part ≡ 0 → t ≡ afterPart (turn n) t part
-  unfolding unendedLine afterLines
+  no_part : (part : List ℕ) → length part ≡ 0 → t ≡ after_part (turn n) t part
+  unfolding unended_line after_lines
   no_part [] e = refl
   no_part (c ∷ part) e = absurd (omega (arith, e))
 
-  some-part : (part : List ℕ) → 0 < length part → turn n t part ≡ afterPart (turn n) t part
-  unfolding unendedLine afterLines
+  some-part : (part : List ℕ) → 0 < length part → turn n t part ≡ after_part (turn n) t part
+  unfolding unended_line after_lines
   some-part [] l = absurd (omega (arith, l))
   some-part (c ∷ part) l = refl
 

@@ -8,13 +8,13 @@ use mir.Val.{to_z, of_z}
 use native.Mathlib.Omega.{arith}
 use borrow.Author.Rules.{rules}
 use borrow.Rule.Slice.PartMut.{take_put}
-use Rattle.command_lines.proofs.lines.LawsRead.{read-within}
-use Rattle.command_lines.specs.Pieces.{partKept}
+use Rattle.command_lines.proofs.lines.LawsRead.{read_within}
+use Rattle.command_lines.specs.Pieces.{part_kept}
 use Rattle.tally_day.proofs.run.Statement.{statement}
 use Rattle.tally_day.proofs.run.Tie as tie
 
 abbrev invariant-loop : tie.invariant-loop
-invariant-loop number input₀ tally₀ have₀ turns₀ t10 input tally have turns = (have ≤ partKept) × (length input ≡ length input₀)
+invariant-loop number input₀ tally₀ have₀ turns₀ t10 input tally have turns = (have ≤ part_kept) × (length input ≡ length input₀)
 
 abbrev decreases-loop : tie.decreases-loop
 decreases-loop number input₀ tally₀ have₀ turns₀ t10 input tally have turns = turns
@@ -88,7 +88,7 @@ take-piece-requires : tie.Need-take-piece-requires invariant-loop decreases-loop
 take-piece-requires c κs =
     let r = c.before.before.before.before.before.before.before in
     let end = c.before.before.read2.given in
-    read-within (to_z w64 (of_z w64 r.read.result)) r.before.before.before.loop.have _ end.0.0 (sym c.before.before.before.before.after_read.ensures ∙ end.1)
+    read_within (to_z w64 (of_z w64 r.read.result)) r.before.before.before.loop.have _ end.0.0 (sym c.before.before.before.before.after_read.ensures ∙ end.1)
 
 sub-turns : tie.Need-overflow-sub-turns invariant-loop decreases-loop
 sub-turns c = search rules

@@ -4,8 +4,8 @@ use lib.Seq.{length-take-le}
 use native.Mathlib.Omega.{arith}
 use borrow.Author.Rules.{rules}
 use Rattle.tally.specs.declared.TalliedPiece.{TalliedPiece}
-use Rattle.tally.specs.Tally.{fedOn}
-use Rattle.tally_day.proofs.LawsCarried.{part-kept}
+use Rattle.tally.specs.Tally.{fed_on}
+use Rattle.tally_day.proofs.LawsCarried.{part_kept_lem}
 use Rattle.tally_day.proofs.take_piece.Statement.{statement}
 use Rattle.tally_day.proofs.take_piece.Tie as tie
 
@@ -25,7 +25,7 @@ add-carry c = search rules
 
 -- where the whole lines end, by the feed's contract
 carry-requires : tie.Need-carry-requires
-unfolding fedOn
+unfolding fed_on
 carry-requires c κs =
     let s = c.before.before.before.before in
     let long = length-take-le s.args.end s.args.input.now s.requires in
@@ -35,14 +35,14 @@ same_length : tie.Need-same-length
 same_length c = search rules
 
 returns : tie.Need-returns
-unfolding fedOn
+unfolding fed_on
 returns c =
     let a = c.before.before.before.before.before.before.before.before.args in
     let fed = c.before.before.before.before.before.feed in
     let k = c.before.before.before.carry in
     let place = ap (λ (f : TalliedPiece). f.at) fed.ensures in (
       ap (λ (f : TalliedPiece). f.tally) fed.ensures,
-      part-kept a.input.now a.end fed.result.at k.result k.new.0 place k.ensures.0 k.ensures.1,
+      part_kept_lem a.input.now a.end fed.result.at k.result k.new.0 place k.ensures.0 k.ensures.1,
     )
 
 pub take-piece-spec : {M : Type 1} → statement M

@@ -3,9 +3,9 @@ use mathlib.Core.Path.{sym, ap, ◌∙◌}
 use native.Mathlib.Omega.{arith}
 use borrow.Author.Rules.{rules}
 use Rattle.rules.specs.declared.Reading.{Reading}
-use Rattle.rules.specs.Step.{Returned, stepOn}
-use Rattle.book.specs.Record.{recordIn, replyOf}
-use Rattle.book.proofs.LawsStep.{step-unfit, step-bad, fit}
+use Rattle.rules.specs.Step.{Returned, step_on}
+use Rattle.book.specs.Record.{record_in, reply_of}
+use Rattle.book.proofs.LawsStep.{step_unfit, step_bad, fit}
 use Rattle.book.proofs.Book.respond.Statement.{statement}
 use Rattle.book.proofs.Book.respond.Tie as tie
 
@@ -23,8 +23,8 @@ returns : tie.Need-returns
 returns c =
     let a = c.before.before.before.before.before.before.before.before.before.args in
     let k = c.before.before.unfit in
-    let e = step-unfit (recordIn a.self) a.out.now a.reading k.result k.ensures (omega (arith, c.before.if1.true)) in
-    (c.refuse.ensures ∙ ap replyOf (sym e), ap (λ (x : Returned). x.out) (sym e))
+    let e = step_unfit (record_in a.self) a.out.now a.reading k.result k.ensures (omega (arith, c.before.if1.true)) in
+    (c.refuse.ensures ∙ ap reply_of (sym e), ap (λ (x : Returned). x.out) (sym e))
 
 enum-known-reading : tie.Need-enum-known-reading
 enum-known-reading c = search rules
@@ -40,17 +40,17 @@ returns-2 : tie.Need-returns-2
 returns-2 c =
     let a = c.before.before.before.before.before.before.before.before.before.before.before.args in
     let k = c.before.before.before.before.unfit in
-    let r = recordIn a.self in
-    let bad = ap (λ (x : Reading). stepOn r x a.out.now) c.before.enum_told.given.1 in
-    let e = bad ∙ step-bad r a.out.now (sym c.before.before.before.if1.false ∙ k.ensures) in
-    (c.refuse2.ensures ∙ ap replyOf (sym e), ap (λ (x : Returned). x.out) (sym e))
+    let r = record_in a.self in
+    let bad = ap (λ (x : Reading). step_on r x a.out.now) c.before.enum_told.given.1 in
+    let e = bad ∙ step_bad r a.out.now (sym c.before.before.before.if1.false ∙ k.ensures) in
+    (c.refuse2.ensures ∙ ap reply_of (sym e), ap (λ (x : Returned). x.out) (sym e))
 
 work-requires : tie.Need-work-requires
 work-requires c κs =
     let a = c.before.before.before.before.before.before.before.before.before.before.before.before.before.before.args in
     let told = c.before.before.before.before.before.before in
     let loaded = told.before.before.before.before.load.ensures in
-    (fit (recordIn a.self) a.out.now (sym told.if1.false ∙ told.before.unfit.ensures), loaded)
+    (fit (record_in a.self) a.out.now (sym told.if1.false ∙ told.before.unfit.ensures), loaded)
 
 same_length : tie.Need-same-length
 same_length c = search rules

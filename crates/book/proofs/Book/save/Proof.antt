@@ -1,7 +1,7 @@
 -- `Book::save` meets its contract. Assumes nothing.
 use borrow.Author.Rules.{rules}
-use Rattle.side.proofs.rows.LawsShown.{length-side}
-use Rattle.rules.specs.Book.{places_of, recordOf}
+use Rattle.side.proofs.rows.LawsShown.{length_side}
+use Rattle.rules.specs.Book.{places_of, record_of}
 use Rattle.book.proofs.Book.save.Statement.{statement}
 use Rattle.book.proofs.Book.save.Tie as tie
 
@@ -12,14 +12,14 @@ save-requires-2 : tie.Need-save-requires-2
 save-requires-2 c κs = search rules
 
 returns : tie.Need-returns
-unfolding places_of recordOf
+unfolding places_of record_of
 returns c =
     let a = c.before.before.before.args in
     rw (
       c.before.save.ensures,
       c.save2.ensures,
-      length-side a.h.buys a.x.now a.buys.now,
-      length-side a.h.sells a.y.now a.sells.now,
+      length_side a.h.buys a.x.now a.buys.now,
+      length_side a.h.sells a.y.now a.sells.now,
     )
 
 pub save-spec : {M : Type 1} → statement M

@@ -12,7 +12,7 @@ use native.Mathlib.Omega.{arith}
 use borrow.Author.Rules.{rules}
 use borrow.Author.Tests.{ltb-true}
 use Rattle.command_lines.specs.declared.lines.Read.TheVariants.{Failed, Ended, Upto}
-use Rattle.command_lines.specs.Pieces.{readBehind}
+use Rattle.command_lines.specs.Pieces.{read_behind}
 use Rattle.command_lines.proofs.lines.after_read.Statement.{statement}
 use Rattle.command_lines.proofs.lines.after_read.Tie as tie
 
@@ -22,17 +22,17 @@ sized (pos n) t f = (tt, omega (arith, f.sfits))
 sized (negsuc n) t f = let z : ◌≡◌ {A = ℕ} 0 1 = cc in omega arith
 
 module _ (have room : ℕ) where
-  failed : (got : ℤ) → lt_z got (pos 0) ≡ true → Failed ≡ readBehind got have room
+  failed : (got : ℤ) → lt_z got (pos 0) ≡ true → Failed ≡ read_behind got have room
   failed (pos n) t = let z : ⊥ = omega (arith, ltb-true n 0 t) in absurd z
   failed (negsuc n) t = refl
 
-  ended : (got : ℤ) → lt_z got (pos 0) ≡ false → of_z w64 got ≡ 0 → Ended ≡ readBehind got have room
+  ended : (got : ℤ) → lt_z got (pos 0) ≡ false → of_z w64 got ≡ 0 → Ended ≡ read_behind got have room
   ended (pos zero) t e = refl
   ended (pos (suc n)) t e = let z : ⊥ = omega arith in absurd z
   ended (negsuc n) t e = cc
 
   upto : (got : ℤ) (end : ℕ) → lt_z got (pos 0) ≡ false → (of_z w64 got ≡ 0 → ⊥) → end ≡ min room (have + nat_abs got)
-      → Upto end ≡ readBehind got have room
+      → Upto end ≡ read_behind got have room
   upto (pos zero) end t n e = absurd (n refl)
   upto (pos (suc k)) end t n e = ap Upto e
   upto (negsuc k) end t n e = cc

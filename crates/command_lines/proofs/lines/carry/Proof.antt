@@ -12,8 +12,8 @@ use borrow.Author.Rules.{rules}
 use borrow.Author.Tests.{ltb-true, ltb-false}
 use Rattle.basics.specs.Bytes.{onto}
 use Rattle.basics.specs.Lists.{moved}
-use Rattle.basics.proofs.LawsChoice.{holds-or-not, lt-or-le, and_left, and_right}
-use Rattle.basics.proofs.LawsLists.{moved-start, moved-step}
+use Rattle.basics.proofs.LawsChoice.{holds_or_not, lt_or_le, and_left, and_right}
+use Rattle.basics.proofs.LawsLists.{moved_start, moved_step}
 use Rattle.command_lines.specs.Pieces.{carried}
 use Rattle.command_lines.proofs.lines.carry.Statement.{statement}
 use Rattle.command_lines.proofs.lines.carry.Tie as tie
@@ -31,7 +31,7 @@ module _ (i from end most : ℕ) where
       ⊎_elim
       (λ (h : ltb i end ≡ true). let k : most ≤ i - from = ltb-false (i - from) most (rw h at t) in omega arith)
       (λ (h : ltb i end ≡ false). let k : end ≤ i = ltb-false i end h in omega arith)
-      (holds-or-not (ltb i end))
+      (holds_or_not (ltb i end))
 
   -- the bytes up to `i` are then those that are carried
   module _ (a : List ℕ) (l : from ≤ end) (w : end ≤ length a) (e : i ≡ min end (from + most)) where
@@ -47,7 +47,7 @@ module _ (i from end most : ℕ) where
         let v : i ≡ from + most = omega arith in
         rw (v, ← take-take (from + most) end a h, take-add from most s)
         (drop_at (take from s) (take most (drop from s)) from (length-take-le from s (omega arith))))
-        (lt-or-le end (from + most))
+        (lt_or_le end (from + most))
 
     carried-long : i - from ≡ length (carried a from end most)
     carried-long = simp (length-take, length-drop) (omega arith)
@@ -66,7 +66,7 @@ decreases-loop input₀ from end most i₀ input i = end - i
 loop-holds : tie.Need-loop-init invariant-loop decreases-loop
 loop-holds c =
     let a = c.args in
-    (search rules, search rules, search rules, search rules, moved-start 0 a.input.now a.from (omega arith))
+    (search rules, search rules, search rules, search rules, moved_start 0 a.input.now a.from (omega arith))
 
 sub-loop : tie.Need-overflow-sub-loop invariant-loop decreases-loop
 sub-loop c = search rules
@@ -99,7 +99,7 @@ loop-again c =
       omega arith,
       omega arith,
       simp length-set l.invariant.3,
-      moved-step 0 a.input.now l.input a.from l.i (omega arith) (omega arith) l.invariant.4,
+      moved_step 0 a.input.now l.input a.from l.i (omega arith) (omega arith) l.invariant.4,
     )
 
 sub-result : tie.Need-overflow-sub-result invariant-loop decreases-loop

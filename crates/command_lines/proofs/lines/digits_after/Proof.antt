@@ -1,36 +1,36 @@
 -- `command_lines::lines::digits_after` meets its contract: an arm for each kind. Assumes nothing.
 use borrow.Author.Tests.{ne_eqb}
 use Rattle.rules.specs.CommandLines.{kinds}
-use Rattle.command_lines.specs.Lines.{digitsFrom, digitsAfter}
+use Rattle.command_lines.specs.Lines.{digits_from, digits_after}
 use Rattle.command_lines.proofs.lines.digits_after.Statement.{statement}
 use Rattle.command_lines.proofs.lines.digits_after.Tie as tie
 
 returns : tie.Need-returns
-unfolding digitsAfter digitsFrom kinds
+unfolding digits_after digits_from kinds
 returns c = rw c.match.keys1
 
 returns-2 : tie.Need-returns-2
-unfolding digitsAfter digitsFrom kinds
+unfolding digits_after digits_from kinds
 returns-2 c = rw c.match.keys2
 
 returns-3 : tie.Need-returns-3
-unfolding digitsAfter digitsFrom kinds
+unfolding digits_after digits_from kinds
 returns-3 c = rw c.match.keys3
 
 returns-4 : tie.Need-returns-4
-unfolding digitsAfter digitsFrom kinds
+unfolding digits_after digits_from kinds
 returns-4 c = rw c.match.keys4
 
 returns-5 : tie.Need-returns-5
-unfolding digitsAfter digitsFrom kinds
+unfolding digits_after digits_from kinds
 returns-5 c = rw c.match.keys5
 
 returns-6 : tie.Need-returns-6
-unfolding digitsAfter digitsFrom kinds
+unfolding digits_after digits_from kinds
 returns-6 c = rw c.match.keys6
 
 returns-7 : tie.Need-returns-7
-unfolding digitsAfter digitsFrom kinds
+unfolding digits_after digits_from kinds
 returns-7 c =
     let r = c.match.rest in
     rw (

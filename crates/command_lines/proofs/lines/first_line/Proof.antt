@@ -6,9 +6,9 @@ use lib.ListN.{length, get_or, take}
 use native.Mathlib.Omega.{arith}
 use borrow.Author.Rules.{rules}
 use Rattle.rules.specs.declared.Reading.TheVariants as reading
-use Rattle.rules.specs.CommandLines.{commandIn}
-use Rattle.command_lines.specs.Lines.{digitsAfter}
-use Rattle.command_lines.proofs.lines.LawsFirst.{first-command, first-other}
+use Rattle.rules.specs.CommandLines.{command_in}
+use Rattle.command_lines.specs.Lines.{digits_after}
+use Rattle.command_lines.proofs.lines.LawsFirst.{first_command, first_other}
 use Rattle.command_lines.proofs.lines.first_line.Statement.{statement}
 use Rattle.command_lines.proofs.lines.first_line.Tie as tie
 
@@ -19,7 +19,7 @@ other-line-requires c κs = search rules
 returns : tie.Need-returns
 returns c =
     let s = c.before.before.before.args.s.now in
-    c.other-line.ensures ∙ first-other s (λ (l : 1 < length s). absurd (omega (arith, l, c.before.if1.true)))
+    c.other-line.ensures ∙ first_other s (λ (l : 1 < length s). absurd (omega (arith, l, c.before.if1.true)))
 
 shared-slice-read-digits-after : tie.Need-shared-slice-read-digits-after
 shared-slice-read-digits-after c = search rules
@@ -34,8 +34,8 @@ other-line-requires-2 c κs = search rules
 returns-2 : tie.Need-returns-2
 returns-2 c =
     let s = c.before.before.before.before.before.before.args.s.now in
-    let n : c.before.before.digits-after.result ≡ digitsAfter (get_or s 1 0) = c.before.before.digits-after.ensures in
-    c.other-line2.ensures ∙ first-other s (λ _ (l : digitsAfter (get_or s 1 0) < length s). absurd (omega (arith, l, n, c.before.if2.true)))
+    let n : c.before.before.digits-after.result ≡ digits_after (get_or s 1 0) = c.before.before.digits-after.ensures in
+    c.other-line2.ensures ∙ first_other s (λ _ (l : digits_after (get_or s 1 0) < length s). absurd (omega (arith, l, n, c.before.if2.true)))
 
 add-read-command : tie.Need-overflow-add-read-command
 add-read-command c = search rules
@@ -66,10 +66,10 @@ returns-3 : tie.Need-returns-3
 returns-3 c =
     let s = c.before.before.before.before.before.before.before.before.before.before.args.s.now in
     let k = c.before.before.before.before.before.before.digits-after.result in
-    let n : k ≡ digitsAfter (get_or s 1 0) = c.before.before.before.before.before.before.digits-after.ensures in
+    let n : k ≡ digits_after (get_or s 1 0) = c.before.before.before.before.before.before.digits-after.ensures in
     let all : k + 1 - 0 ≡ suc k = omega arith in
-    let bad : commandIn (take (k + 1 - 0) s) ≡ reading.Bad = sym c.before.before.before.read-command.ensures ∙ c.before.enum_told.given.1 in
-    c.other-line3.ensures ∙ first-other s (λ _ _. rw (all, n) at bad)
+    let bad : command_in (take (k + 1 - 0) s) ≡ reading.Bad = sym c.before.before.before.read-command.ensures ∙ c.before.enum_told.given.1 in
+    c.other-line3.ensures ∙ first_other s (λ _ _. rw (all, n) at bad)
 
 -- that command
 returns-4 : tie.Need-returns-4
@@ -77,8 +77,8 @@ returns-4 c =
     let s = c.before.before.before.before.before.before.before.before.before.before.args.s.now in
     let k = c.before.before.before.before.before.before.digits-after.result in
     let all : k + 1 - 0 ≡ suc k = omega arith in
-    let is : commandIn (take (k + 1 - 0) s) ≡ reading.Is _ = sym c.before.before.before.read-command.ensures ∙ c.before.c.given.1 in
-    first-command s k _ (omega (arith, c.before.before.before.before.before.if2.false)) (rw all at is)
+    let is : command_in (take (k + 1 - 0) s) ≡ reading.Is _ = sym c.before.before.before.read-command.ensures ∙ c.before.c.given.1 in
+    first_command s k _ (omega (arith, c.before.before.before.before.before.if2.false)) (rw all at is)
 
 pub first-line-spec : {M : Type 1} → statement M
 first-line-spec =

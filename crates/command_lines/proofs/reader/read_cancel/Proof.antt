@@ -6,8 +6,8 @@ use mathlib.Core.Path.{◌≡◌, refl, sym, ◌∙◌}
 use borrow.Author.Rules.{rules}
 use borrow.Author.Tests.{not-true, not-false}
 use Rattle.digits.specs.declared.Field.{Field}
-use Rattle.rules.specs.CommandLines.{isEnded, cancelForm, bodyOfForm}
-use Rattle.rules.proofs.LawsFields.{fieldsFrom, numbers-good, numbers-bad}
+use Rattle.rules.specs.CommandLines.{is_ended, cancel_form, body_of_form}
+use Rattle.rules.proofs.LawsFields.{fields_from, numbers_good, numbers_bad}
 use Rattle.command_lines.proofs.reader.read_cancel.Statement.{statement}
 use Rattle.command_lines.proofs.reader.read_cancel.Tie as tie
 
@@ -15,7 +15,7 @@ is-ended-requires : tie.Need-is-ended-requires
 is-ended-requires c κs = search rules
 
 returns : tie.Need-returns
-unfolding bodyOfForm
+unfolding body_of_form
 returns c = let e = sym c.before.is-ended.ensures ∙ not-true _ c.if1.true in rw e
 
 field-at-requires : tie.Need-field-at-requires
@@ -26,26 +26,26 @@ module _ (c : tie.After-field-at) where
   abbrev body : List ℕ
   body = c.before.before.before.before.args.s.now
 
-  ended : isEnded 8 body ≡ true
+  ended : is_ended 8 body ≡ true
   ended = sym c.before.before.is-ended.ensures ∙ not-false _ c.before.if1.false
 
   abbrev read : List Field
   read = c.field_at.result ∷ []
 
-  are-read : fieldsFrom 0 cancelForm body ≡ read
+  are-read : fields_from 0 cancel_form body ≡ read
   are-read = rw c.field_at.ensures refl
 
 returns-2 : tie.Need-returns-2
-unfolding bodyOfForm
+unfolding body_of_form
 returns-2 c =
     let f = c.before.before in
-    rw (ended f, numbers-bad 0 cancelForm (body f) (read f) (are-read f) (not-true _ c.if2.true))
+    rw (ended f, numbers_bad 0 cancel_form (body f) (read f) (are-read f) (not-true _ c.if2.true))
 
 returns-3 : tie.Need-returns-3
-unfolding bodyOfForm
+unfolding body_of_form
 returns-3 c =
     let f = c.before.before in
-    rw (ended f, numbers-good 0 cancelForm (body f) (read f) (are-read f) (not-false _ c.if2.false))
+    rw (ended f, numbers_good 0 cancel_form (body f) (read f) (are-read f) (not-false _ c.if2.false))
 
 pub read-cancel-spec : {M : Type 1} → statement M
 read-cancel-spec = tie.close (tie.spec is-ended-requires returns field-at-requires returns-2 returns-3)

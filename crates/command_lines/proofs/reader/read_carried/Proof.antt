@@ -8,44 +8,44 @@ use borrow.Author.Rules.{rules}
 use borrow.Author.Tests.{eq-eqb, ne_eqb, not-true, not-false}
 use Rattle.digits.specs.declared.Field.{Field}
 use Rattle.digits.specs.Digits.{number_at, field_of}
-use Rattle.rules.specs.CommandLines.{reserveKind, minimumKind}
-use Rattle.command_lines.specs.Reading.{last_of, carrying, carriedIn}
-use Rattle.command_lines.proofs.reader.LawsOrder.{last-good, last-bad}
+use Rattle.rules.specs.CommandLines.{reserve_kind, minimum_kind}
+use Rattle.command_lines.specs.Reading.{last_of, carrying, carried_in}
+use Rattle.command_lines.proofs.reader.LawsOrder.{last_good, last_bad}
 use Rattle.command_lines.proofs.reader.read_carried.Statement.{statement}
 use Rattle.command_lines.proofs.reader.read_carried.Tie as tie
 
 -- the kinds with a number after the shares
-abbrev hasLast : ℕ → Bool
-hasLast kind = eqb kind reserveKind || eqb kind minimumKind
+abbrev has_last : ℕ → Bool
+has_last kind = eqb kind reserve_kind || eqb kind minimum_kind
 
 is-ended-requires : tie.Need-is-ended-requires
 is-ended-requires c κs = search rules
 
 returns : tie.Need-returns
-unfolding carriedIn
+unfolding carried_in
 returns c =
     let e = sym c.before.is-ended.ensures ∙ not-true _ c.if2.true in
     rw (eq-eqb _ _ c.before.before.if1.true, e)
 
 returns-2 : tie.Need-returns-2
-unfolding carriedIn
+unfolding carried_in
 returns-2 c =
     let e = sym c.before.is-ended.ensures ∙ not-false _ c.if2.false in
     rw (eq-eqb _ _ c.before.before.if1.true, e)
 
 returns-3 : tie.Need-returns-3
-unfolding carriedIn
-returns-3 c = rw (ne_eqb _ _ c.before.if1.false, not-true (hasLast c.before.before.before.args.kind) c.if3.true)
+unfolding carried_in
+returns-3 c = rw (ne_eqb _ _ c.before.if1.false, not-true (has_last c.before.before.before.args.kind) c.if3.true)
 
 is-ended-requires-2 : tie.Need-is-ended-requires-2
 is-ended-requires-2 c κs = search rules
 
 returns-4 : tie.Need-returns-4
-unfolding carriedIn
+unfolding carried_in
 returns-4 c =
     let e = sym c.before.is-ended2.ensures ∙ not-true _ c.if4.true in
     let first = c.before.before.before in
-    rw (ne_eqb _ _ first.if1.false, not-false (hasLast first.before.before.args.kind) c.before.before.if3.false, e)
+    rw (ne_eqb _ _ first.if1.false, not-false (has_last first.before.before.args.kind) c.before.before.if3.false, e)
 
 field-at-requires : tie.Need-field-at-requires
 field-at-requires c κs = search rules
@@ -58,12 +58,12 @@ module _ (c : tie.After-field-at) where
   abbrev kind : ℕ
   kind = c.before.before.before.before.before.before.args.kind
 
-  has_last : carriedIn kind body ≡ carrying (last_of kind) (number_at 4 22 body)
-  unfolding carriedIn
+  has_last : carried_in kind body ≡ carrying (last_of kind) (number_at 4 22 body)
+  unfolding carried_in
   has_last =
       let tests = c.before.before.before in
       let e = sym c.before.before.is-ended2.ensures ∙ not-false _ c.before.if4.false in
-      rw (ne_eqb _ _ tests.before.if1.false, not-false (hasLast kind) tests.if3.false, e)
+      rw (ne_eqb _ _ tests.before.if1.false, not-false (has_last kind) tests.if3.false, e)
 
   is-good : (b : Bool) → c.field_at.result.good ≡ b → (field_of (number_at 4 22 body)).good ≡ b
   is-good b e = sym (ap (λ (x : Field). x.good) c.field_at.ensures) ∙ e
@@ -71,14 +71,14 @@ module _ (c : tie.After-field-at) where
 returns-5 : tie.Need-returns-5
 returns-5 c =
     let f = c.before.before in
-    rw (has_last f, last-bad (last_of (kind f)) (number_at 4 22 (body f)) (is-good f false (not-true _ c.if5.true)))
+    rw (has_last f, last_bad (last_of (kind f)) (number_at 4 22 (body f)) (is-good f false (not-true _ c.if5.true)))
 
 returns-6 : tie.Need-returns-6
 returns-6 c =
     let f = c.before.before.before in
     rw (
       has_last f,
-      last-good (last_of (kind f)) (number_at 4 22 (body f)) (is-good f true (not-false _ c.before.if5.false)),
+      last_good (last_of (kind f)) (number_at 4 22 (body f)) (is-good f true (not-false _ c.before.if5.false)),
       eq-eqb _ _ c.if6.true,
       f.field_at.ensures,
     )
@@ -88,7 +88,7 @@ returns-7 c =
     let f = c.before.before.before in
     rw (
       has_last f,
-      last-good (last_of (kind f)) (number_at 4 22 (body f)) (is-good f true (not-false _ c.before.if5.false)),
+      last_good (last_of (kind f)) (number_at 4 22 (body f)) (is-good f true (not-false _ c.before.if5.false)),
       ne_eqb _ _ c.if6.false,
       f.field_at.ensures,
     )

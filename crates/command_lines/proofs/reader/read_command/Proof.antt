@@ -10,19 +10,19 @@ use borrow.Author.Rules.{rules}
 use borrow.Author.Tests.{not-true, not-false}
 use Rattle.digits.specs.declared.Field.{Field}
 use Rattle.digits.specs.Digits.{number_at}
-use Rattle.digits.proofs.LawsDigits.{numberAt-short}
+use Rattle.digits.proofs.LawsDigits.{number_at_short}
 use Rattle.rules.specs.declared.BodyReading.{BodyReading}
 use Rattle.rules.specs.declared.BodyReading.TheVariants as body
-use Rattle.rules.specs.CommandLines.{are, numbersFrom, headerForm, bodyIn, commandIn}
-use Rattle.rules.proofs.LawsFields.{fieldsFrom, numbersIn, numbers-good, numbers-bad, also-none}
+use Rattle.rules.specs.CommandLines.{are, numbers_from, header_form, body_in, command_in}
+use Rattle.rules.proofs.LawsFields.{fields_from, numbers_in, numbers_good, numbers_bad, also_none}
 use Rattle.command_lines.proofs.reader.read_command.Statement.{statement}
 use Rattle.command_lines.proofs.reader.read_command.Tie as tie
 
 returns : tie.Need-returns
-unfolding commandIn numbersFrom
+unfolding command_in numbers_from
 returns c =
     let s = c.before.before.args.s.now in
-    rw (numberAt-short 4 10 s (omega arith) c.if1.true, also-none (number_at 4 2 s), also-none (number_at 1 0 s))
+    rw (number_at_short 4 10 s (omega arith) c.if1.true, also_none (number_at 4 2 s), also_none (number_at 1 0 s))
 
 field-at-requires : tie.Need-field-at-requires
 field-at-requires c κs = search rules
@@ -41,14 +41,14 @@ module _ (c : tie.After-field-at3) where
   abbrev read : List Field
   read = c.before.before.field_at.result ∷ c.before.field-at2.result ∷ c.field-at3.result ∷ []
 
-  are-read : fieldsFrom 0 headerForm whole ≡ read
+  are-read : fields_from 0 header_form whole ≡ read
   are-read = rw (c.before.before.field_at.ensures, c.before.field-at2.ensures, c.field-at3.ensures) refl
 
 returns-2 : tie.Need-returns-2
-unfolding commandIn
+unfolding command_in
 returns-2 c =
     let f = c.before.before.before.before in
-    rw (numbers-bad 0 headerForm (whole f) (read f) (are-read f) (not-true _ c.if2.true))
+    rw (numbers_bad 0 header_form (whole f) (read f) (are-read f) (not-true _ c.if2.true))
 
 sub-read-body : tie.Need-overflow-sub-read-body
 sub-read-body c = search rules
@@ -73,25 +73,25 @@ module _ (c : tie.After-read-body) where
   abbrev header : tie.After-field-at3
   header = c.before.before.before.before.before.before
 
-  is_read : numbersFrom 0 headerForm (whole header) ≡ are (numbersIn (read header))
-  is_read = numbers-good 0 headerForm (whole header) (read header) (are-read header) (not-false _ c.before.before.if2.false)
+  is_read : numbers_from 0 header_form (whole header) ≡ are (numbers_in (read header))
+  is_read = numbers_good 0 header_form (whole header) (read header) (are-read header) (not-false _ c.before.before.if2.false)
 
-  body_is : (r : BodyReading) → c.read-body.result ≡ r → bodyIn header.before.before.field_at.result.number (drop 18 (whole header)) ≡ r
+  body_is : (r : BodyReading) → c.read-body.result ≡ r → body_in header.before.before.field_at.result.number (drop 18 (whole header)) ≡ r
   body_is r e =
       let s = whole header in
       let kind = header.before.before.field_at.result.number in
       let l : length (drop 18 s) ≤ length s - 18 = simp length-drop (omega arith) in
-      let found : c.read-body.result ≡ bodyIn kind (take (length s - 18) (drop 18 s)) = c.read-body.ensures in
-      sym (ap (bodyIn kind) (take_all (length s - 18) (drop 18 s) l)) ∙ sym found ∙ e
+      let found : c.read-body.result ≡ body_in kind (take (length s - 18) (drop 18 s)) = c.read-body.ensures in
+      sym (ap (body_in kind) (take_all (length s - 18) (drop 18 s) l)) ∙ sym found ∙ e
 
 returns-3 : tie.Need-returns-3
-unfolding commandIn
+unfolding command_in
 returns-3 c =
     let b = c.before.before in
     rw (is_read b, body_is b body.Bad c.enum_told.given.1)
 
 returns-4 : tie.Need-returns-4
-unfolding commandIn
+unfolding command_in
 returns-4 c =
     let b = c.before.before.before in
     rw (is_read b, body_is b (body.Is c.before.body.given.0.0) c.before.body.given.1)

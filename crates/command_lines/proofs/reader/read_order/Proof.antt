@@ -8,12 +8,12 @@ use borrow.Author.Rules.{rules}
 use borrow.Author.Tests.{not-true, not-false}
 use Rattle.digits.specs.declared.Field.{Field}
 use Rattle.digits.proofs.LawsDigits.{field_fits}
-use Rattle.rules.specs.CommandLines.{orderForm}
-use Rattle.rules.proofs.LawsFields.{fieldsFrom, numbers-good, numbers-bad}
+use Rattle.rules.specs.CommandLines.{order_form}
+use Rattle.rules.proofs.LawsFields.{fields_from, numbers_good, numbers_bad}
 use Rattle.command_lines.specs.declared.reader.CarriedReading.{CarriedReading}
 use Rattle.command_lines.specs.declared.reader.CarriedReading.TheVariants.{Is, Bad}
-use Rattle.command_lines.specs.Reading.{carriedIn}
-use Rattle.command_lines.proofs.reader.LawsOrder.{withCarried, order-body}
+use Rattle.command_lines.specs.Reading.{carried_in}
+use Rattle.command_lines.proofs.reader.LawsOrder.{with_carried, order_body}
 use Rattle.command_lines.proofs.reader.read_order.Statement.{statement}
 use Rattle.command_lines.proofs.reader.read_order.Tie as tie
 
@@ -31,14 +31,14 @@ module _ (c : tie.After-read-carried) where
   abbrev body : List ℕ
   body = c.before.before.args.s.now
 
-  carries : (r : CarriedReading) → c.read-carried.result ≡ r → carriedIn c.before.before.args.kind body ≡ r
+  carries : (r : CarriedReading) → c.read-carried.result ≡ r → carried_in c.before.before.args.kind body ≡ r
   carries r e = sym c.read-carried.ensures ∙ e
 
 returns : tie.Need-returns
-unfolding withCarried
+unfolding with_carried
 returns c =
     let f = c.before.before in
-    rw (order-body (body f) f.before.before.args.kind, carries f Bad c.enum_told.given.1)
+    rw (order_body (body f) f.before.before.args.kind, carries f Bad c.enum_told.given.1)
 
 field-at-requires : tie.Need-field-at-requires
 field-at-requires c κs = search rules
@@ -60,7 +60,7 @@ module _ (c : tie.After-field-at4) where
   abbrev read : List Field
   read = c.before.before.before.field_at.result ∷ c.before.before.field-at2.result ∷ c.before.field-at3.result ∷ c.field-at4.result ∷ []
 
-  are-read : fieldsFrom 0 orderForm (body end) ≡ read
+  are-read : fields_from 0 order_form (body end) ≡ read
   are-read =
       let side = c.before.before.before.field_at.ensures in
       let word = c.before.before.field-at2.ensures in
@@ -69,14 +69,14 @@ module _ (c : tie.After-field-at4) where
       λ i. sym side i ∷ sym word i ∷ sym price i ∷ sym count i ∷ []
 
 returns-2 : tie.Need-returns-2
-unfolding withCarried
+unfolding with_carried
 returns-2 c =
     let f = c.before.before.before.before.before in
     let e = end f in
     rw (
-      order-body (body e) e.before.before.args.kind,
+      order_body (body e) e.before.before.args.kind,
       carries e (Is f.before.before.before.before.before.carried.given.0.0) f.before.before.before.before.before.carried.given.1,
-      numbers-bad 0 orderForm (body e) (read f) (are-read f) (not-true _ c.if1.true),
+      numbers_bad 0 order_form (body e) (read f) (are-read f) (not-true _ c.if1.true),
     )
 
 cast-t13 : tie.Need-overflow-cast-t13
@@ -90,14 +90,14 @@ cast-t14 c =
     omega (arith, field_fits 2 2 (body (end f)) f.before.before.field-at2.ensures)
 
 returns-3 : tie.Need-returns-3
-unfolding withCarried
+unfolding with_carried
 returns-3 c =
     let f = c.before.before.before.before.before.before.before in
     let e = end f in
     rw (
-      order-body (body e) e.before.before.args.kind,
+      order_body (body e) e.before.before.args.kind,
       carries e (Is f.before.before.before.before.before.carried.given.0.0) f.before.before.before.before.before.carried.given.1,
-      numbers-good 0 orderForm (body e) (read f) (are-read f) (not-false _ c.before.before.if1.false),
+      numbers_good 0 order_form (body e) (read f) (are-read f) (not-false _ c.before.before.if1.false),
     )
 
 pub read-order-spec : {M : Type 1} → statement M

@@ -1,7 +1,7 @@
 -- `command_lines::writer::write_body` meets its contract: an arm for each body. Assumes nothing.
 use native.Mathlib.Omega.{arith}
 use borrow.Author.Rules.{rules}
-use Rattle.rules.proofs.LawsWriting.{nothing, wrote-line}
+use Rattle.rules.proofs.LawsWriting.{nothing, wrote_line}
 use Rattle.command_lines.proofs.writer.write_body.Statement.{statement}
 use Rattle.command_lines.proofs.writer.write_body.Tie as tie
 
@@ -51,7 +51,7 @@ same-length-4 : tie.Need-same-length-4
 same-length-4 c = search rules
 
 returns-4 : tie.Need-returns-4
-returns-4 c = rw c.enum_told.given.1 (wrote-line nothing (omega arith))
+returns-4 c = rw c.enum_told.given.1 (wrote_line nothing (omega arith))
 
 pub write-body-spec : {M : Type 1} → statement M
 write-body-spec =

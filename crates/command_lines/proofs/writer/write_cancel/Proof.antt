@@ -2,7 +2,7 @@
 use lib.ListN.{length-set}
 use native.Mathlib.Omega.{arith}
 use borrow.Author.Rules.{rules}
-use Rattle.rules.proofs.LawsWriting.{nothing, field, wrote-line}
+use Rattle.rules.proofs.LawsWriting.{nothing, field, wrote_line}
 use Rattle.command_lines.proofs.writer.write_cancel.Statement.{statement}
 use Rattle.command_lines.proofs.writer.write_cancel.Tie as tie
 
@@ -20,7 +20,7 @@ returns c =
     let at-number = c.before.before in
     let a = at-number.before.before.before.args in
     let number = field 4 a.number.0 nothing at-number.write-four.ensures in
-    wrote-line number (omega arith)
+    wrote_line number (omega arith)
 
 pub write-cancel-spec : {M : Type 1} → statement M
 write-cancel-spec = tie.close (tie.spec write-four-requires slice-write-out same_length returns)

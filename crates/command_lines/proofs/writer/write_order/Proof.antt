@@ -8,23 +8,23 @@ use native.Mathlib.Omega.{arith}
 use borrow.Author.Rules.{rules}
 use Rattle.rules.specs.declared.Carried.{Carried}
 use Rattle.rules.specs.declared.Carried.TheVariants.{Nothing, MaxFloor, Minimum}
-use Rattle.rules.specs.CommandLines.{digitsIn, orderForm, orderFormOf, reserveForm, minimumForm}
-use Rattle.rules.proofs.LawsWriting.{Wrote, nothing, field, wrote-line}
+use Rattle.rules.specs.CommandLines.{digits_in, order_form, order_form_of, reserve_form, minimum_form}
+use Rattle.rules.proofs.LawsWriting.{Wrote, nothing, field, wrote_line}
 use Rattle.command_lines.proofs.writer.write_order.Statement.{statement}
 use Rattle.command_lines.proofs.writer.write_order.Tie as tie
 
 -- ── The room ──
 
 -- an order has the digits of one that carries nothing at least
-long : (x : Carried) → digitsIn orderForm ≤ digitsIn (orderFormOf x)
+long : (x : Carried) → digits_in order_form ≤ digits_in (order_form_of x)
 long Nothing = omega arith
 long (MaxFloor floor) = omega arith
 long (Minimum least) = omega arith
 
-as-carried : {x y : Carried} → x ≡ y → (n : ℕ) → digitsIn (orderFormOf x) < n → digitsIn (orderFormOf y) < n
+as-carried : {x y : Carried} → x ≡ y → (n : ℕ) → digits_in (order_form_of x) < n → digits_in (order_form_of y) < n
 as-carried e n l = rw e at l
 
-roomy : (c : tie.Start) → digitsIn orderForm < length c.args.out.now
+roomy : (c : tie.Start) → digits_in order_form < length c.args.out.now
 roomy c = omega (arith, long c.args.order.carried, c.requires)
 
 -- ── The fields that every order has ──
@@ -58,7 +58,7 @@ write-four-requires-2 : tie.Need-write-four-requires-2
 write-four-requires-2 c κs = omega (arith, roomy (entry (at_side (at-word c.before.before.before))))
 
 fields-written : (c : tie.After-write-four2) → (let o = (start c).args.order in
-    Wrote (start c).args.out.now orderForm (o.side ∷ o.word ∷ o.price.0 ∷ o.shares.0 ∷ []) c.write-four2.new.0)
+    Wrote (start c).args.out.now order_form (o.side ∷ o.word ∷ o.price.0 ∷ o.shares.0 ∷ []) c.write-four2.new.0)
 fields-written c =
     let o = (start c).args.order in
     let side = field 1 o.side nothing (at_side (at-word (at-price c))).write-one.ensures in
@@ -81,7 +81,7 @@ returns : tie.Need-returns
 returns c =
     let f = c.before.before.before.before in
     let none = c.enum_told.given.1 in
-    rw none (wrote-line (fields-written f) (as-carried none _ (start f).requires))
+    rw none (wrote_line (fields-written f) (as-carried none _ (start f).requires))
 
 -- ── A Max Floor ──
 
@@ -91,7 +91,7 @@ enum-known-carried c = search rules
 abbrev before-floor : tie.After-carried → tie.After-write-four2
 before-floor c = c.before.before.before.before
 
-reserve-roomy : (c : tie.After-carried) → digitsIn reserveForm < length (start (before-floor c)).args.out.now
+reserve-roomy : (c : tie.After-carried) → digits_in reserve_form < length (start (before-floor c)).args.out.now
 reserve-roomy c = as-carried c.carried.given.1 _ (start (before-floor c)).requires
 
 write-four-requires-3 : tie.Need-write-four-requires-3
@@ -108,7 +108,7 @@ returns-2 c =
     let f = c.before.before.before.before.before in
     let floor = f.carried.given.0.0 in
     rw f.carried.given.1
-    (wrote-line (field 4 floor.0 (fields-written (before-floor f)) c.before.before.write-four3.ensures) (reserve-roomy f))
+    (wrote_line (field 4 floor.0 (fields-written (before-floor f)) c.before.before.write-four3.ensures) (reserve-roomy f))
 
 -- ── A minimum ──
 
@@ -118,7 +118,7 @@ enum-known-carried-2 c = search rules
 abbrev before-minimum : tie.After-carried2 → tie.After-write-four2
 before-minimum c = c.before.before.before.before
 
-minimum-roomy : (c : tie.After-carried2) → digitsIn minimumForm < length (start (before-minimum c)).args.out.now
+minimum-roomy : (c : tie.After-carried2) → digits_in minimum_form < length (start (before-minimum c)).args.out.now
 minimum-roomy c = as-carried c.carried2.given.1 _ (start (before-minimum c)).requires
 
 write-four-requires-4 : tie.Need-write-four-requires-4
@@ -135,7 +135,7 @@ returns-3 c =
     let f = c.before.before.before.before.before in
     let least = f.carried2.given.0.0 in
     rw f.carried2.given.1
-    (wrote-line (field 4 least.0 (fields-written (before-minimum f)) c.before.before.write-four4.ensures) (minimum-roomy f))
+    (wrote_line (field 4 least.0 (fields-written (before-minimum f)) c.before.before.write-four4.ensures) (minimum-roomy f))
 
 pub write-order-spec : {M : Type 1} → statement M
 write-order-spec =

@@ -2,7 +2,7 @@
 use lib.ListN.{length-set}
 use native.Mathlib.Omega.{arith}
 use borrow.Author.Rules.{rules}
-use Rattle.rules.proofs.LawsWriting.{nothing, field, wrote-line}
+use Rattle.rules.proofs.LawsWriting.{nothing, field, wrote_line}
 use Rattle.command_lines.proofs.writer.write_quote.Statement.{statement}
 use Rattle.command_lines.proofs.writer.write_quote.Tie as tie
 
@@ -25,7 +25,7 @@ returns c =
     let a = at-bid.before.before.before.args in
     let bid = field 4 a.away.bid.0 nothing at-bid.write-four.ensures in
     let offer = field 4 a.away.offer.0 bid at-offer.write-four2.ensures in
-    wrote-line offer (omega arith)
+    wrote_line offer (omega arith)
 
 pub write-quote-spec : {M : Type 1} → statement M
 write-quote-spec = tie.close (tie.spec write-four-requires write-four-requires-2 slice-write-out same_length returns)

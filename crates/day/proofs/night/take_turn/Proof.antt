@@ -9,9 +9,9 @@ use lib.Seq.{length-take-le}
 use native.Mathlib.Omega.{arith}
 use borrow.Author.Rules.{rules}
 use Rattle.basics.specs.Choice.{if◌then◌else◌}
-use Rattle.command_lines.specs.Pieces.{partKept}
-use Rattle.rules.specs.Refusals.{leastRoom}
-use Rattle.side.specs.Tables.{bookOn}
+use Rattle.command_lines.specs.Pieces.{part_kept}
+use Rattle.rules.specs.Refusals.{least_room}
+use Rattle.side.specs.Tables.{book_on}
 use Rattle.day.specs.Turns.{turned}
 use Rattle.day.proofs.night.LawsTurn.{turn_is}
 use Rattle.day.proofs.night.take_turn.Statement.{statement}
@@ -51,14 +51,14 @@ returns c =
     let f = c.before.before.before.before.before.before.before.before.feed in
     let k = c.before.before.carry in
     let j = c.before.before.before.before.if1 in
-    let b = bookOn a.h a.x.now a.buys.now a.y.now a.sells.now in
+    let b = book_on a.h a.x.now a.buys.now a.y.now a.sells.now in
     let room = length a.out.now in
     let long : length f.new.1.1.1.1.1.1.1.0 ≡ room = f.auto.1.1.1.1.1.1.1.0 in
-    let isShort : Bool = ltb (room - f.result.length) leastRoom in
-    let most : j.most ≡ (if isShort then a.have else partKept) =
+    let is_short : Bool = ltb (room - f.result.length) least_room in
+    let most : j.most ≡ (if is_short then a.have else part_kept) =
     ⊎_elim
-    (λ w. let t : isShort ≡ true = rw long at w.0.taken in rw t w.1)
-    (λ w. let t : isShort ≡ false = rw long at w.0.left in rw t w.1)
+    (λ w. let t : is_short ≡ true = rw long at w.0.taken in rw t w.1)
+    (λ w. let t : is_short ≡ false = rw long at w.0.left in rw t w.1)
     j.branch in
     let (turn, input, left) =
     turn_is room b a.input.now a.have f.result f.ensures.0 j.most most k.result k.new.0 k.ensures.0 k.ensures.1 in

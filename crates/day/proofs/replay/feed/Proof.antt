@@ -7,14 +7,14 @@ use lib.ListN.{length, take, drop}
 use native.Mathlib.Omega.{arith}
 use borrow.Author.Rules.{rules}
 use Rattle.rules.specs.Book.{Book}
-use Rattle.side.specs.Tables.{bookOn}
-use Rattle.day.proofs.replay.LawsFeed.{Feeding, feeding-start, feeding-line, ends-full, ends_found, left_end}
+use Rattle.side.specs.Tables.{book_on}
+use Rattle.day.proofs.replay.LawsFeed.{Feeding, feeding_start, feeding_line, ends_full, ends_found, left_end}
 use Rattle.day.proofs.replay.feed.Statement.{statement}
 use Rattle.day.proofs.replay.feed.Tie as tie
 
 abbrev invariant-loop : tie.invariant-loop
 invariant-loop input x₀ buys₀ y₀ sells₀ took₀ out₀ head₀ at₀ len₀ x buys y sells took out head at len =
-    Feeding input out₀ (bookOn head₀ x₀ buys₀ y₀ sells₀) x buys y sells out head at len
+    Feeding input out₀ (book_on head₀ x₀ buys₀ y₀ sells₀) x buys y sells out head at len
 
 abbrev decreases-loop : tie.decreases-loop
 decreases-loop input x₀ buys₀ y₀ sells₀ took₀ out₀ head₀ at₀ len₀ x buys y sells took out head at len = length input - at
@@ -22,7 +22,7 @@ decreases-loop input x₀ buys₀ y₀ sells₀ took₀ out₀ head₀ at₀ len
 loop-holds : tie.Need-loop-init invariant-loop decreases-loop
 loop-holds c =
     let a = c.before.before.args in
-    feeding-start a.input.now a.out.now a.h a.x.now a.buys.now a.y.now a.sells.now c.before.before.requires
+    feeding_start a.input.now a.out.now a.h a.x.now a.buys.now a.y.now a.sells.now c.before.before.requires
 
 sub-loop : tie.Need-overflow-sub-loop invariant-loop decreases-loop
 sub-loop c = search rules
@@ -67,7 +67,7 @@ Turned c =
     let a = c.before.before.before.before.before.before.before.before.before.before.before.before.before.before.before.before.before.before.before.args in
     let l = c.before.before.before.before.before.before.before.before.before.before.before.before.before.before.before.before.loop in
     let p = c.before.before.before.before.print-line in
-    Feeding a.input.now a.out.now (bookOn a.h a.x.now a.buys.now a.y.now a.sells.now)
+    Feeding a.input.now a.out.now (book_on a.h a.x.now a.buys.now a.y.now a.sells.now)
     p.new.1.1.0 p.new.1.1.1.0 p.new.1.1.1.1.0 p.new.1.1.1.1.1.0
     (take l.length l.out ++ (p.new.1.1.1.1.1.1.1.0 ++ drop (length l.out - l.length) (drop l.length l.out))) p.result.head
     (l.at + (c.before.before.before.before.before.before.before.before.before.before.before.before.before.first-line.result.digits + 1)) (l.length + p.result.length)
@@ -78,7 +78,7 @@ turned c =
     let l = c.before.before.before.before.before.before.before.before.before.before.before.before.before.before.before.before.loop in
     let p = c.before.before.before.before.print-line in
     let found = c.before.before.before.before.before.before.before.before.before.before.before.before.before.first-line in
-    feeding-line a.input.now a.out.now (bookOn a.h a.x.now a.buys.now a.y.now a.sells.now)
+    feeding_line a.input.now a.out.now (book_on a.h a.x.now a.buys.now a.y.now a.sells.now)
     l.x l.buys l.y l.sells l.out l.head l.at l.length l.invariant
     c.before.before.before.before.before.before.before.before.before.before.before.before.before.before.before.loop-test.false found.result found.ensures (omega (arith, c.before.before.before.before.before.before.before.before.before.before.before.if1.false))
     p.result.head p.new.1.1.0 p.new.1.1.1.0 p.new.1.1.1.1.0 p.new.1.1.1.1.1.0 p.result.length p.new.1.1.1.1.1.1.1.0
@@ -107,7 +107,7 @@ same_length c = search rules
 
 -- what is left where nothing more is worked
 abbrev start-book : tie.Start invariant-loop decreases-loop → Book
-start-book s = let a = s.args in bookOn a.h a.x.now a.buys.now a.y.now a.sells.now
+start-book s = let a = s.args in book_on a.h a.x.now a.buys.now a.y.now a.sells.now
 
 returns : tie.Need-returns invariant-loop decreases-loop
 returns c =
@@ -116,7 +116,7 @@ returns c =
     let f = l.invariant in
     let b = start-book c.before.before.before.before in
     let k = left_end a.input.now a.out.now b l.x l.buys l.y l.sells l.out l.head l.at l.length f
-    (ends-full a.input.now a.out.now b l.x l.buys l.y l.sells l.out l.head l.at l.length f c.loop-test.true) in
+    (ends_full a.input.now a.out.now b l.x l.buys l.y l.sells l.out l.head l.at l.length f c.loop-test.true) in
     (k.0, (k.1.0, (k.1.1.0, (k.1.1.1, ((f.within, f.fits), f.stands)))))
 
 same-length-2 : tie.Need-same-length-2 invariant-loop decreases-loop

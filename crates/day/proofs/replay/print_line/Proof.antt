@@ -2,7 +2,7 @@
 -- or of its refusal. Assumes nothing.
 use native.Mathlib.Omega.{arith}
 use borrow.Author.Rules.{rules}
-use Rattle.day.proofs.replay.LawsPrinted.{shown-bad, shown-refusal, shown-done}
+use Rattle.day.proofs.replay.LawsPrinted.{shown_bad, shown_refusal, shown_done}
 use Rattle.day.proofs.replay.print_line.Statement.{statement}
 use Rattle.day.proofs.replay.print_line.Tie as tie
 
@@ -24,7 +24,7 @@ returns c =
     let start = c.before.before.before.before.before.before.before in
     let a = start.args in
     let w = c.before.before.write-refusal in
-    shown-bad a.h a.x.now a.buys.now a.y.now a.sells.now start.requires.0 a.reading a.out.now c.before.before.before.before.enum_told.given.1
+    shown_bad a.h a.x.now a.buys.now a.y.now a.sells.now start.requires.0 a.reading a.out.now c.before.before.before.before.enum_told.given.1
     w.result w.new.0 w.ensures.0 w.ensures.1
 
 apply-requires : tie.Need-apply-requires
@@ -39,7 +39,7 @@ returns-2 c =
     let start = c.before.before.before.before.before.before.before.before.before.before.before.before.before.before.before.before in
     let a = start.args in
     let s = c.before.before.before.before.before.apply in
-    shown-done a.h a.x.now a.buys.now a.y.now a.sells.now start.requires.0 a.reading a.out.now _ c.before.before.before.before.before.before.before.before.before.before.before.before.before.reading.given.1
+    shown_done a.h a.x.now a.buys.now a.y.now a.sells.now start.requires.0 a.reading a.out.now _ c.before.before.before.before.before.before.before.before.before.before.before.before.before.reading.given.1
     s.result _ _ _ _ _ s.ensures (omega (arith, c.before.if1.true))
 
 write-refusal-requires-2 : tie.Need-write-refusal-requires-2
@@ -55,7 +55,7 @@ returns-3 c =
     let a = start.args in
     let s = c.before.before.before.before.before.before.before.before.apply in
     let w = c.before.before.write-refusal2 in
-    shown-refusal a.h a.x.now a.buys.now a.y.now a.sells.now start.requires.0 a.reading a.out.now _ c.before.before.before.before.before.before.before.before.before.before.before.before.before.before.before.before.reading.given.1
+    shown_refusal a.h a.x.now a.buys.now a.y.now a.sells.now start.requires.0 a.reading a.out.now _ c.before.before.before.before.before.before.before.before.before.before.before.before.before.before.before.before.reading.given.1
     s.result _ _ _ _ _ s.ensures (λ z. omega (arith, z, c.before.before.before.before.if1.false)) w.result w.new.0 w.ensures.0 w.ensures.1
 
 pub print-line-spec : {M : Type 1} → statement M

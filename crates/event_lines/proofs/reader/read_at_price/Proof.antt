@@ -5,8 +5,8 @@ use mathlib.Core.Path.{◌≡◌, refl}
 use borrow.Author.Rules.{rules}
 use borrow.Author.Tests.{not-true, not-false}
 use Rattle.digits.specs.declared.Field.{Field}
-use Rattle.rules.specs.EventLines.{restedFields}
-use Rattle.rules.proofs.LawsFields.{fieldsFrom, numbers-good, numbers-bad}
+use Rattle.rules.specs.EventLines.{rested_fields}
+use Rattle.rules.proofs.LawsFields.{fields_from, numbers_good, numbers_bad}
 use Rattle.event_lines.proofs.reader.read_at_price.Statement.{statement}
 use Rattle.event_lines.proofs.reader.read_at_price.Tie as tie
 
@@ -27,23 +27,23 @@ module _ (c : tie.After-field-at3) where
   abbrev read : List Field
   read = c.before.before.field_at.result ∷ c.before.field-at2.result ∷ c.field-at3.result ∷ []
 
-  are-read : fieldsFrom 2 restedFields whole ≡ read
+  are-read : fields_from 2 rested_fields whole ≡ read
   are-read = rw (c.before.before.field_at.ensures, c.before.field-at2.ensures, c.field-at3.ensures) refl
 
 returns : tie.Need-returns
 returns c =
     let f = c.before.before.before.before in
-    rw (numbers-bad 2 restedFields (whole f) (read f) (are-read f) (not-true _ c.if1.true))
+    rw (numbers_bad 2 rested_fields (whole f) (read f) (are-read f) (not-true _ c.if1.true))
 
 returns-2 : tie.Need-returns-2
 returns-2 c =
     let f = c.before.before.before.before.before in
-    rw (c.if2.true, numbers-good 2 restedFields (whole f) (read f) (are-read f) (not-false _ c.before.if1.false))
+    rw (c.if2.true, numbers_good 2 rested_fields (whole f) (read f) (are-read f) (not-false _ c.before.if1.false))
 
 returns-3 : tie.Need-returns-3
 returns-3 c =
     let f = c.before.before.before.before.before in
-    rw (c.if2.false, numbers-good 2 restedFields (whole f) (read f) (are-read f) (not-false _ c.before.if1.false))
+    rw (c.if2.false, numbers_good 2 rested_fields (whole f) (read f) (are-read f) (not-false _ c.before.if1.false))
 
 pub read-at-price-spec : {M : Type 1} → statement M
 read-at-price-spec = tie.close (tie.spec field-at-requires field-at-requires-2 field-at-requires-3 returns returns-2 returns-3)

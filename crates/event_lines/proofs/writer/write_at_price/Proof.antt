@@ -3,7 +3,7 @@ use mathlib.Core.Path.{refl}
 use lib.ListN.{length-set}
 use native.Mathlib.Omega.{arith}
 use borrow.Author.Rules.{rules}
-use Rattle.rules.proofs.LawsWriting.{nothing, field, wrote-line}
+use Rattle.rules.proofs.LawsWriting.{nothing, field, wrote_line}
 use Rattle.event_lines.proofs.writer.write_at_price.Statement.{statement}
 use Rattle.event_lines.proofs.writer.write_at_price.Tie as tie
 
@@ -36,7 +36,7 @@ returns c =
     let number = field 4 a.number.0 kind at-number.write-four.ensures in
     let price = field 4 a.price.0 number at-price.write-four2.ensures in
     let shares = field 4 a.shares.0 price at-shares.write-four3.ensures in
-    (refl, wrote-line shares (omega arith))
+    (refl, wrote_line shares (omega arith))
 
 pub write-at-price-spec : {M : Type 1} → statement M
 write-at-price-spec =

@@ -3,8 +3,8 @@ use mathlib.Core.Path.{refl}
 use lib.ListN.{length-set}
 use native.Mathlib.Omega.{arith}
 use borrow.Author.Rules.{rules}
-use Rattle.rules.specs.EventLines.{eventLine}
-use Rattle.rules.proofs.LawsWriting.{nothing, field, wrote-line}
+use Rattle.rules.specs.EventLines.{event_line}
+use Rattle.rules.proofs.LawsWriting.{nothing, field, wrote_line}
 use Rattle.event_lines.proofs.writer.write_cancelled.Statement.{statement}
 use Rattle.event_lines.proofs.writer.write_cancelled.Tie as tie
 
@@ -27,7 +27,7 @@ same_length : tie.Need-same-length
 same_length c = simp length-set (omega arith)
 
 returns : tie.Need-returns
-unfolding eventLine
+unfolding event_line
 returns c =
     let at-reason = c.before.before in
     let at-shares = at-reason.before.before.before.before in
@@ -38,7 +38,7 @@ returns c =
     let number = field 4 a.number.0 kind at-number.write-four.ensures in
     let shares = field 4 a.shares.0 number at-shares.write-four2.ensures in
     let reason = field 1 a.reason shares at-reason.write-one2.ensures in
-    (refl, wrote-line reason (omega arith))
+    (refl, wrote_line reason (omega arith))
 
 pub write-cancelled-spec : {M : Type 1} → statement M
 write-cancelled-spec =

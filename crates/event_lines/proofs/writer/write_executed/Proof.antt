@@ -3,8 +3,8 @@ use mathlib.Core.Path.{refl}
 use lib.ListN.{length-set}
 use native.Mathlib.Omega.{arith}
 use borrow.Author.Rules.{rules}
-use Rattle.rules.specs.EventLines.{eventLine}
-use Rattle.rules.proofs.LawsWriting.{nothing, field, wrote-line}
+use Rattle.rules.specs.EventLines.{event_line}
+use Rattle.rules.proofs.LawsWriting.{nothing, field, wrote_line}
 use Rattle.event_lines.proofs.writer.write_executed.Statement.{statement}
 use Rattle.event_lines.proofs.writer.write_executed.Tie as tie
 
@@ -30,7 +30,7 @@ same_length : tie.Need-same-length
 same_length c = simp length-set (omega arith)
 
 returns : tie.Need-returns
-unfolding eventLine
+unfolding event_line
 returns c =
     let at-shares = c.before.before in
     let at-price = at-shares.before.before.before.before in
@@ -43,7 +43,7 @@ returns c =
     let resting = field 4 a.resting.0 incoming at-resting.write-four2.ensures in
     let price = field 4 a.price.0 resting at-price.write-four3.ensures in
     let shares = field 4 a.shares.0 price at-shares.write-four4.ensures in
-    (refl, wrote-line shares (omega arith))
+    (refl, wrote_line shares (omega arith))
 
 pub write-executed-spec : {M : Type 1} → statement M
 write-executed-spec =

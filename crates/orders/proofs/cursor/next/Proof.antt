@@ -11,9 +11,9 @@ use borrow.Author.Rules.{rules}
 use Rattle.basics.proofs.LawsChoice.{and_left, and_right}
 use Rattle.rules.specs.Book.{unused}
 use Rattle.side.specs.Table.{side}
-use Rattle.side.proofs.rows.LawsShown.{length-side}
-use Rattle.orders.specs.Cursor.{firstWaiting}
-use Rattle.orders.proofs.cursor.LawsAhead.{ends-with-side, ends-at-price, next-shown, reached-behind, reached-waits, ahead-end}
+use Rattle.side.proofs.rows.LawsShown.{length_side}
+use Rattle.orders.specs.Cursor.{first_waiting}
+use Rattle.orders.proofs.cursor.LawsAhead.{ends_with_side, ends_at_price, next_shown, reached_behind, reached_waits, ahead_end}
 use Rattle.orders.proofs.cursor.next.Statement.{statement}
 use Rattle.orders.proofs.cursor.next.Tie as tie
 
@@ -22,8 +22,8 @@ next-reserve-requires c κs =
     let start = c.before.before.before in
     let a = start.args in
     let s = side a.n a.x.now a.t.now in
-    let k : length s ≡ a.n = length-side a.n a.x.now a.t.now in
-    (start.requires.0, start.requires.1, c.if2.true, ends-with-side s a.c (omega (arith, c.before.if1.true)))
+    let k : length s ≡ a.n = length_side a.n a.x.now a.t.now in
+    (start.requires.0, start.requires.1, c.if2.true, ends_with_side s a.c (omega (arith, c.before.if1.true)))
 
 returns : tie.Need-returns
 returns c = search rules
@@ -33,8 +33,8 @@ returns-2 c =
     let start = c.before.before.before in
     let a = start.args in
     let s = side a.n a.x.now a.t.now in
-    let k : length s ≡ a.n = length-side a.n a.x.now a.t.now in
-    ahead-end s a.c (omega (arith, c.before.if1.true)) c.if2.false
+    let k : length s ≡ a.n = length_side a.n a.x.now a.t.now in
+    ahead_end s a.c (omega (arith, c.before.if1.true)) c.if2.false
 
 at-requires : tie.Need-at-requires
 at-requires c κs = search rules
@@ -45,7 +45,7 @@ next-reserve-requires-2 c κs =
     let start = c.before.before.before.before.before.before.before.before.before in
     let a = start.args in
     let s = side a.n a.x.now a.t.now in
-    let k : length s ≡ a.n = length-side a.n a.x.now a.t.now in
+    let k : length s ≡ a.n = length_side a.n a.x.now a.t.now in
     let o : r.result ≡ get_or s a.c.at unused = r.ensures in
     let test = c.if3.true in
     let w : ltb a.c.waits a.c.at ≡ true = and_left (ltb a.c.waits a.c.at) (not (eqb r.result.price.0 a.c.level.0)) test in
@@ -53,7 +53,7 @@ next-reserve-requires-2 c κs =
     not-true _ (and_right (ltb a.c.waits a.c.at) (not (eqb r.result.price.0 a.c.level.0)) test) in
     let e : eqb (get_or s a.c.at unused).price.0 a.c.level.0 ≡ false = rw o at d in
     let l : a.c.at < length s = omega (arith, c.before.before.before.before.before.before.before.if1.false) in
-    (start.requires.0, start.requires.1, ltb-true _ _ w, ends-at-price s a.c l (eqb-false _ _ e))
+    (start.requires.0, start.requires.1, ltb-true _ _ w, ends_at_price s a.c l (eqb-false _ _ e))
 
 returns-3 : tie.Need-returns-3
 returns-3 c = search rules
@@ -75,21 +75,21 @@ returns-4 c =
     let a = start.args in
     let is_at = start.requires.1 in
     let s = side a.n a.x.now a.t.now in
-    let k : length s ≡ a.n = length-side a.n a.x.now a.t.now in
+    let k : length s ≡ a.n = length_side a.n a.x.now a.t.now in
     let l : a.c.at < length s = omega (arith, c.before.before.before.before.before.before.before.before.if1.false) in
     let o : r.result ≡ get_or s a.c.at unused = r.ensures in
     let level : a.c.waits < a.c.at → (get_or s a.c.at unused).price.0 ≡ a.c.level.0 =
     λ p. rw (← o) (same-level _ _ _ _ c.before.if3.false p) in
-    let w : c.first-waiting.result ≡ firstWaiting a.c.at a.c.waits (get_or s a.c.at unused).reserve.0 =
+    let w : c.first-waiting.result ≡ first_waiting a.c.at a.c.waits (get_or s a.c.at unused).reserve.0 =
     c.first-waiting.ensures ∙ rw o in
     record {
-      list = rw (w, o) (next-shown s a.c l is_at.behind level);
+      list = rw (w, o) (next_shown s a.c l is_at.behind level);
       place = l;
       at = omega arith;
       stands = record {
         within = omega arith;
-        behind = rw w (reached-behind s a.c.waits a.c.at is_at.behind l);
-        waits = rw w (reached-waits s a.c.waits a.c.at is_at.behind l is_at.waits);
+        behind = rw w (reached_behind s a.c.waits a.c.at is_at.behind l);
+        waits = rw w (reached_waits s a.c.waits a.c.at is_at.behind l is_at.waits);
       };
     }
   where

@@ -8,9 +8,9 @@ use borrow.Author.Rules.{rules}
 use Rattle.rules.specs.declared.Resting.{Resting}
 use Rattle.rules.specs.Book.{unused}
 use Rattle.side.specs.Table.{side}
-use Rattle.side.proofs.rows.LawsShown.{length-side}
+use Rattle.side.proofs.rows.LawsShown.{length_side}
 use Rattle.orders.specs.Cursor.{waiting}
-use Rattle.orders.proofs.cursor.LawsAhead.{waiting-skip}
+use Rattle.orders.proofs.cursor.LawsAhead.{waiting_skip}
 use Rattle.orders.proofs.cursor.skip.Statement.{statement}
 use Rattle.orders.proofs.cursor.skip.Tie as tie
 
@@ -39,10 +39,10 @@ loop-again c =
     let start = c.before.before.before.before.before in
     let a = start.args in
     let s = side a.n a.x.now a.t.now in
-    let k : length s ≡ a.n = length-side a.n a.x.now a.t.now in
+    let k : length s ≡ a.n = length_side a.n a.x.now a.t.now in
     let o : r.result ≡ get_or s l.i unused = r.ensures in
     let z : (get_or s l.i unused).reserve.0 ≡ 0 = ap (λ (h : Resting). h.reserve.0) (sym o) ∙ omega arith in
-    (omega arith, omega arith, sym (waiting-skip s l.i a.to (omega arith) (omega arith) z) ∙ l.invariant.2)
+    (omega arith, omega arith, sym (waiting_skip s l.i a.to (omega arith) (omega arith) z) ∙ l.invariant.2)
 
 returns : tie.Need-returns invariant-loop decreases-loop
 returns c =

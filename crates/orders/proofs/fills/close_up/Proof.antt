@@ -8,9 +8,9 @@ use native.Mathlib.Omega.{arith}
 use borrow.Author.Rules.{rules}
 use Rattle.basics.specs.Choice.{if◌then◌else◌}
 use Rattle.side.specs.Table.{order_of}
-use Rattle.side.proofs.rows.LawsIndex.{names-below}
+use Rattle.side.proofs.rows.LawsIndex.{names_below}
 use Rattle.orders.specs.Fills.{keeps}
-use Rattle.orders.proofs.fills.LawsClosing.{Closing, closing-start, closing-on, closing_end, slot_same}
+use Rattle.orders.proofs.fills.LawsClosing.{Closing, closing_start, closing_on, closing_end, slot_same}
 use Rattle.orders.proofs.fills.close_up.Statement.{statement}
 use Rattle.orders.proofs.fills.close_up.Tie as tie
 
@@ -27,7 +27,7 @@ loop-holds : tie.Need-loop-init invariant-loop decreases-loop
 loop-holds c =
     let start = c in
     let a = start.args in
-    closing-start a.n a.x.now a.t.now a.reached start.requires.0 start.requires.1 start.requires.2
+    closing_start a.n a.x.now a.t.now a.reached start.requires.0 start.requires.1 start.requires.2
 
 element-copy-out-slot : tie.Need-element-copy-out-slot invariant-loop decreases-loop
 element-copy-out-slot c = search rules
@@ -51,7 +51,7 @@ row-requires c κs =
     let start = tested.before.before in
     let e : c.wide.result ≡ get_or l.x l.i 0 = c.wide.ensures in
     let f = start.requires.0.fits in
-    rw (e, slot_same start.requires.0 l.invariant tested.loop-test.true) (names-below start.args.x.now start.requires.0.names l.i (omega arith))
+    rw (e, slot_same start.requires.0 l.invariant tested.loop-test.true) (names_below start.args.x.now start.requires.0.names l.i (omega arith))
 
 has-shares-requires : tie.Need-has-shares-requires invariant-loop decreases-loop
 has-shares-requires c κs = search rules
@@ -75,7 +75,7 @@ loop-again c =
     let o : read.row.result ≡ order_of (get_or start.args.t.now (get_or l.x l.i 0) []) = read.row.ensures ∙ rw v in
     let k : c.counted.result ≡ (if keeps read.row.result then l.to + 1 else l.to) =
     c.counted.ensures ∙ ap (λ (b : Bool). if b then l.to + 1 else l.to) c.before.has-shares.ensures in
-    rw k (closing-on start.requires.0 l.invariant tested.loop-test.true read.row.result o)
+    rw k (closing_on start.requires.0 l.invariant tested.loop-test.true read.row.result o)
 
 returns : tie.Need-returns invariant-loop decreases-loop
 returns c =

@@ -6,18 +6,18 @@ use lib.Seq.{take_all}
 use native.Mathlib.Omega.{arith}
 use borrow.Author.Rules.{rules}
 use Rattle.side.specs.Table.{side, Shows}
-use Rattle.side.proofs.rows.LawsShown.{holds-shows}
+use Rattle.side.proofs.rows.LawsShown.{holds_shows}
 use Rattle.rules.specs.Book.{unused}
 use Rattle.side.specs.Shifts.{less_by}
-use Rattle.orders.specs.Walk.{mostTakings, takingsIn}
-use Rattle.orders.proofs.walk.LawsTaken.{noTaking, length-takings, taking-read, taking-all}
+use Rattle.orders.specs.Walk.{most_takings, takings_in}
+use Rattle.orders.proofs.walk.LawsTaken.{no_taking, length_takings, taking_read, taking_all}
 use Rattle.orders.specs.Fills.{lessened}
-use Rattle.orders.proofs.fills.LawsTakenOff.{lessened-none, lessened-next, lessened-holds, lessened-side}
+use Rattle.orders.proofs.fills.LawsTakenOff.{lessened_none, lessened_next, lessened_holds, lessened_side}
 use Rattle.orders.proofs.fills.subtract.Statement.{statement}
 use Rattle.orders.proofs.fills.subtract.Tie as tie
 
 abbrev invariant-loop : tie.invariant-loop
-invariant-loop x t₀ n took count i₀ t i = (i ≤ count) × Shows (lessened 0 (take i (takingsIn count took)) (side n x t₀)) x t
+invariant-loop x t₀ n took count i₀ t i = (i ≤ count) × Shows (lessened 0 (take i (takings_in count took)) (side n x t₀)) x t
 
 abbrev decreases-loop : tie.decreases-loop
 decreases-loop x t₀ n took count i₀ t i = count - i
@@ -29,7 +29,7 @@ loop-holds : tie.Need-loop-init invariant-loop decreases-loop
 loop-holds c =
     let start = c.before in
     let a = start.args in
-    (omega arith, rw (lessened-none 0 start.requires.3) (holds-shows a.n a.x.now a.t.now start.requires.0))
+    (omega arith, rw (lessened_none 0 start.requires.3) (holds_shows a.n a.x.now a.t.now start.requires.0))
 
 taking-at-requires : tie.Need-taking-at-requires invariant-loop decreases-loop
 taking-at-requires c κs = search rules
@@ -40,9 +40,9 @@ reduce-requires c κs =
     let l = read.before.before.loop in
     let start = read.before.before.before.before in
     let a = start.args in
-    let f : length a.took.now ≡ mostTakings = read.before.before.before.whole.ensures in (
-      lessened-holds a.n a.x.now a.t.now l.t (take l.i (takingsIn a.count a.took.now)) l.invariant.1,
-      rw read.taking-at.ensures (taking-all a.count a.took.now (omega arith) l.i (omega arith) start.requires.2),
+    let f : length a.took.now ≡ most_takings = read.before.before.before.whole.ensures in (
+      lessened_holds a.n a.x.now a.t.now l.t (take l.i (takings_in a.count a.took.now)) l.invariant.1,
+      rw read.taking-at.ensures (taking_all a.count a.took.now (omega arith) l.i (omega arith) start.requires.2),
     )
 
 add-i : tie.Need-overflow-add-i invariant-loop decreases-loop
@@ -57,24 +57,24 @@ loop-again c =
     let l = read.before.before.loop in
     let start = read.before.before.before.before in
     let a = start.args in
-    let f : length a.took.now ≡ mostTakings = read.before.before.before.whole.ensures in
+    let f : length a.took.now ≡ most_takings = read.before.before.before.whole.ensures in
     let room : a.count ≤ length a.took.now = omega (arith, start.requires.1) in
     let s = side a.n a.x.now a.t.now in
-    let ks = takingsIn a.count a.took.now in
+    let ks = takings_in a.count a.took.now in
     let k = read.taking-at.result in
-    let e : k ≡ get_or ks l.i noTaking = read.taking-at.ensures ∙ taking-read a.count a.took.now room l.i (omega arith) in
-    let m : l.i < length ks = omega (arith, length-takings a.count a.took.now room) in
+    let e : k ≡ get_or ks l.i no_taking = read.taking-at.ensures ∙ taking_read a.count a.took.now room l.i (omega arith) in
+    let m : l.i < length ks = omega (arith, length_takings a.count a.took.now room) in
     let u = side a.n a.x.now l.t in
     let d : Shows (set u k.place (less_by k.shares.0 (get_or u k.place unused))) a.x.now c.reduce.new.1.0 = c.reduce.ensures in
-    (omega arith, rw (lessened-side a.n a.x.now a.t.now l.t (take l.i ks) l.invariant.1, lessened-next ks l.i k s m e) at d)
+    (omega arith, rw (lessened_side a.n a.x.now a.t.now l.t (take l.i ks) l.invariant.1, lessened_next ks l.i k s m e) at d)
 
 returns : tie.Need-returns invariant-loop decreases-loop
 returns c =
     let l = c.before.loop in
     let a = c.before.before.before.args in
-    let f : length a.took.now ≡ mostTakings = c.before.before.whole.ensures in
-    let ks = takingsIn a.count a.took.now in
-    let all : take l.i ks ≡ ks = take_all l.i ks (omega (arith, length-takings a.count a.took.now (omega arith))) in
+    let f : length a.took.now ≡ most_takings = c.before.before.whole.ensures in
+    let ks = takings_in a.count a.took.now in
+    let all : take l.i ks ≡ ks = take_all l.i ks (omega (arith, length_takings a.count a.took.now (omega arith))) in
     rw all at l.invariant.1
 
 pub subtract-spec : {M : Type 1} → statement M

@@ -4,9 +4,9 @@ use lib.ListN.{length}
 use native.Mathlib.Omega.{arith}
 use Rattle.basics.proofs.LawsLists.{all_alike}
 use Rattle.side.specs.Table.{side, Shows}
-use Rattle.orders.specs.Walk.{takingsIn}
+use Rattle.orders.specs.Walk.{takings_in}
 use Rattle.orders.specs.Fills.{lessened, keepers}
-use Rattle.orders.proofs.fills.LawsTakenOff.{lessened-holds, lessened-side, keep-behind}
+use Rattle.orders.proofs.fills.LawsTakenOff.{lessened_holds, lessened_side, keep_behind}
 use Rattle.orders.proofs.fills.take_off.Statement.{statement}
 use Rattle.orders.proofs.fills.take_off.Tie as tie
 
@@ -22,12 +22,12 @@ close-up-requires c κs =
     let a = start.args in
     let p = start.requires in
     let s = side a.n a.x.now a.t.now in
-    let ks = takingsIn a.count a.took.now in
+    let ks = takings_in a.count a.took.now in
     let t = taken.subtract.new.1.0 in
     let shows : Shows (lessened 0 ks s) a.x.now t = taken.subtract.ensures in (
-      lessened-holds a.n a.x.now a.t.now t ks shows,
+      lessened_holds a.n a.x.now a.t.now t ks shows,
       p.1,
-      rw (lessened-side a.n a.x.now a.t.now t ks shows) (keep-behind 0 a.at ks p.5 (all_alike (λ k l. omega (arith, l)) p.3) p.4),
+      rw (lessened_side a.n a.x.now a.t.now t ks shows) (keep_behind 0 a.at ks p.5 (all_alike (λ k l. omega (arith, l)) p.3) p.4),
     )
 
 returns : tie.Need-returns
@@ -35,10 +35,10 @@ returns c =
     let taken = c.before.before.before in
     let a = taken.before.before.before.args in
     let s = side a.n a.x.now a.t.now in
-    let ks = takingsIn a.count a.took.now in
+    let ks = takings_in a.count a.took.now in
     let t = taken.subtract.new.1.0 in
     let shows : Shows (lessened 0 ks s) a.x.now t = taken.subtract.ensures in
-    let e = lessened-side a.n a.x.now a.t.now t ks shows in
+    let e = lessened_side a.n a.x.now a.t.now t ks shows in
     let n : c.close_up.result ≡ length (keepers (side a.n a.x.now t)) = c.close_up.ensures.0 in
     let d : Shows (keepers (side a.n a.x.now t)) c.close_up.new.0 t = c.close_up.ensures.1 in
     (rw e at n, rw e at d)

@@ -5,18 +5,18 @@ use mathlib.Core.Path.{◌≡◌, refl, sym, ap, subst, ◌∙◌}
 use lib.ListN.{length}
 use borrow.Author.Rules.{rules}
 use Rattle.basics.specs.Bytes.{onto}
-use Rattle.basics.proofs.LawsBytes.{onto-none}
+use Rattle.basics.proofs.LawsBytes.{onto_none}
 use Rattle.side.specs.Table.{side, Shows}
-use Rattle.side.proofs.rows.LawsShown.{holds-shows}
+use Rattle.side.proofs.rows.LawsShown.{holds_shows}
 use Rattle.rules.specs.declared.Event.{Event}
 use Rattle.rules.specs.declared.Event.TheVariants.{Cancelled, Rested}
 use Rattle.rules.specs.declared.Resting.{Resting}
-use Rattle.rules.specs.EventLines.{eventLines}
+use Rattle.rules.specs.EventLines.{event_lines}
 use Rattle.rules.specs.Settling.{insert}
-use Rattle.rules.specs.Working.{buying, remainderOf}
-use Rattle.rules.proofs.LawsEvents.{cancelled-length, rested-length, eventLines-one}
-use Rattle.side.specs.Looking.{priceBound}
-use Rattle.orders.specs.Matching.{restsBelow}
+use Rattle.rules.specs.Working.{buying, remainder_of}
+use Rattle.rules.proofs.LawsEvents.{cancelled_length, rested_length, event_lines_one}
+use Rattle.side.specs.Looking.{price_bound}
+use Rattle.orders.specs.Matching.{rests_below}
 use Rattle.orders.proofs.matching.conclude.Statement.{statement}
 use Rattle.orders.proofs.matching.conclude.Tie as tie
 
@@ -41,8 +41,8 @@ rest-requires c κs =
     let a = start.args in
     let p = start.requires in
     let told = c.before.before.before.before.before.end2.given in
-    let made : c.before.before.before.remainder_of.result ≡ remainderOf a.number a.o a.left.0 told.0.0 = c.before.before.before.remainder_of.ensures in
-    let priced : told.0.0.0 < priceBound = subst restsBelow told.1 p.3.priced in
+    let made : c.before.before.before.remainder_of.result ≡ remainder_of a.number a.o a.left.0 told.0.0 = c.before.before.before.remainder_of.ensures in
+    let priced : told.0.0.0 < price_bound = subst rests_below told.1 p.3.priced in
     (p.0, p.1 (rw told.1 refl), p.3.ranked, rw made (record { priced = priced; others = p.3.older }))
 
 write-rested-requires : tie.Need-write-rested-requires
@@ -50,11 +50,11 @@ write-rested-requires c κs = search rules
 
 -- nothing is left
 returns : tie.Need-returns
-unfolding eventLines
+unfolding event_lines
 returns c =
     let start = c.before.before.before in
     let a = start.args in
-    rw c.enum_told.given.1 (refl, (holds-shows a.n a.x.now a.t.now start.requires.0, onto-none a.out.now))
+    rw c.enum_told.given.1 (refl, (holds_shows a.n a.x.now a.t.now start.requires.0, onto_none a.out.now))
 
 same_length : tie.Need-same-length
 same_length c = search rules
@@ -68,8 +68,8 @@ returns-2 c =
     let w = c.before.before.write-cancelled in
     let e : Event = Cancelled a.number a.left told.0.0 in
     rw told.1 (
-      w.ensures.0 ∙ sym (ap length (eventLines-one e) ∙ cancelled-length a.number a.left told.0.0),
-      (holds-shows a.n a.x.now a.t.now start.requires.0, w.ensures.1 ∙ ap (λ (l : List ℕ). onto l a.out.now) (sym (eventLines-one e))),
+      w.ensures.0 ∙ sym (ap length (event_lines_one e) ∙ cancelled_length a.number a.left told.0.0),
+      (holds_shows a.n a.x.now a.t.now start.requires.0, w.ensures.1 ∙ ap (λ (l : List ℕ). onto l a.out.now) (sym (event_lines_one e))),
     )
 
 same-length-2 : tie.Need-same-length-2
@@ -84,13 +84,13 @@ returns-3 c =
     let w = c.before.before.write-rested in
     let r = c.before.before.before.before.rest in
     let s = side a.n a.x.now a.t.now in
-    let made : c.before.before.before.before.before.before.before.before.remainder_of.result ≡ remainderOf a.number a.o a.left.0 told.0.0 = c.before.before.before.before.before.before.before.before.remainder_of.ensures in
+    let made : c.before.before.before.before.before.before.before.before.remainder_of.result ≡ remainder_of a.number a.o a.left.0 told.0.0 = c.before.before.before.before.before.before.before.before.remainder_of.ensures in
     let e : Event = Rested a.number told.0.0 a.left in
     rw told.1 (
-      w.ensures.0 ∙ sym (ap length (eventLines-one e) ∙ rested-length a.number told.0.0 a.left),
+      w.ensures.0 ∙ sym (ap length (event_lines_one e) ∙ rested_length a.number told.0.0 a.left),
       (
         subst (λ (o : Resting). Shows (insert (buying a.o) o s) r.new.0 r.new.1.0) made r.ensures,
-        w.ensures.1 ∙ ap (λ (l : List ℕ). onto l a.out.now) (sym (eventLines-one e)),
+        w.ensures.1 ∙ ap (λ (l : List ℕ). onto l a.out.now) (sym (event_lines_one e)),
       ),
     )
 

@@ -8,15 +8,15 @@ use native.Mathlib.Omega.{arith}
 use borrow.Author.Rules.{rules}
 use Rattle.basics.specs.Bytes.{onto}
 use Rattle.side.specs.Table.{side}
-use Rattle.side.proofs.rows.LawsShown.{length-side}
+use Rattle.side.proofs.rows.LawsShown.{length_side}
 use Rattle.rules.specs.declared.Event.{Event}
 use Rattle.rules.specs.declared.Resting.{Resting}
-use Rattle.rules.specs.EventLines.{eventLines}
-use Rattle.rules.specs.Settling.{firstMove, told, settledSide}
-use Rattle.rules.specs.Working.{buying, lastLine, refillFate}
-use Rattle.rules.proofs.LawsEvents.{eventLines-append, lines-behind, last-long, told-long}
+use Rattle.rules.specs.EventLines.{event_lines}
+use Rattle.rules.specs.Settling.{first_move, told, settled_side}
+use Rattle.rules.specs.Working.{buying, last_line, refill_fate}
+use Rattle.rules.proofs.LawsEvents.{event_lines_append, lines_behind, last_long, told_long}
 use Rattle.settling.specs.declared.Settled.{Settled}
-use Rattle.settling.specs.OneByOne.{settledIn}
+use Rattle.settling.specs.OneByOne.{settled_in}
 use Rattle.orders.specs.declared.matching.Finished.{Finished}
 use Rattle.orders.proofs.matching.finish.Statement.{statement}
 use Rattle.orders.proofs.matching.finish.Tie as tie
@@ -33,7 +33,7 @@ module _ (c : tie.After-conclude) where
   opposite = side start.args.m start.args.y.now start.args.opposite.now
 
   abbrev last : List Event
-  last = lastLine start.args.number start.args.left.0 start.args.end
+  last = last_line start.args.number start.args.left.0 start.args.end
 
   abbrev out : List ℕ
   out = c.conclude.new.1.1.1.1.1.1.1.0
@@ -43,7 +43,7 @@ module _ (c : tie.After-conclude) where
       omega (
         arith,
         c.conclude.ensures.0,
-        last-long start.args.number start.args.left.0 start.args.end,
+        last_long start.args.number start.args.left.0 start.args.end,
         c.conclude.auto.1.1.1.1.1.1.1.0,
         start.pre.5,
       )
@@ -63,23 +63,23 @@ refill-requires c κs =
     let p = (start k).requires in
     let len = k.conclude.result in
     let g : 27 * (start k).args.m ≤ length (take (length (out k) - len) (drop len (out k))) = simp (length-take, length-drop) (omega (arith, room k)) in
-    let long = length-side (start k).args.m (start k).args.y.now (start k).args.opposite.now in
-    (p.3, p.4, omega (arith, g, told-long refillFate (opposite k), long))
+    let long = length_side (start k).args.m (start k).args.y.now (start k).args.opposite.now in
+    (p.3, p.4, omega (arith, g, told_long refill_fate (opposite k), long))
 
 add-t24 : tie.Need-overflow-add-t24
 add-t24 c =
     let k = c.before.before.before.before.before.before.before.before.before.before in
-    let r : c.before.before.before.refill.result ≡ settledIn (start k).args.number firstMove (not (buying (start k).args.o)) refillFate (opposite k) = c.before.before.before.refill.ensures.0 in
-    let l : c.before.before.before.refill.result.length ≡ length (eventLines (told refillFate (opposite k))) = ap (λ (m : Settled). m.length) r in
-    let long = length-side (start k).args.m (start k).args.y.now (start k).args.opposite.now in
+    let r : c.before.before.before.refill.result ≡ settled_in (start k).args.number first_move (not (buying (start k).args.o)) refill_fate (opposite k) = c.before.before.before.refill.ensures.0 in
+    let l : c.before.before.before.refill.result.length ≡ length (event_lines (told refill_fate (opposite k))) = ap (λ (m : Settled). m.length) r in
+    let long = length_side (start k).args.m (start k).args.y.now (start k).args.opposite.now in
     omega (
       arith,
       l,
-      told-long refillFate (opposite k),
+      told_long refill_fate (opposite k),
       long,
       (start k).requires.3.fits,
       k.conclude.ensures.0,
-      last-long (start k).args.number (start k).args.left.0 (start k).args.end,
+      last_long (start k).args.number (start k).args.left.0 (start k).args.end,
     )
 
 same_length : tie.Need-same-length
@@ -91,18 +91,18 @@ returns c =
     let a = (start k).args in
     let l = k.conclude in
     let f = c.before.before.before.refill in
-    let r : f.result ≡ settledIn a.number firstMove (not (buying a.o)) refillFate (opposite k) = f.ensures.0 in
-    let held : f.result.held ≡ length (settledSide a.number firstMove (not (buying a.o)) refillFate (opposite k)) = ap (λ (m : Settled). m.held) r in
-    let told_is : f.result.length ≡ length (eventLines (told refillFate (opposite k))) = ap (λ (m : Settled). m.length) r in
-    let long : l.result + f.result.length ≡ length (eventLines (last k ++ told refillFate (opposite k))) =
-    rw (eventLines-append (last k) (told refillFate (opposite k)))
-    (omega (arith, length-append (eventLines (last k)) (eventLines (told refillFate (opposite k))), l.ensures.0, told_is)) in (
+    let r : f.result ≡ settled_in a.number first_move (not (buying a.o)) refill_fate (opposite k) = f.ensures.0 in
+    let held : f.result.held ≡ length (settled_side a.number first_move (not (buying a.o)) refill_fate (opposite k)) = ap (λ (m : Settled). m.held) r in
+    let told_is : f.result.length ≡ length (event_lines (told refill_fate (opposite k))) = ap (λ (m : Settled). m.length) r in
+    let long : l.result + f.result.length ≡ length (event_lines (last k ++ told refill_fate (opposite k))) =
+    rw (event_lines_append (last k) (told refill_fate (opposite k)))
+    (omega (arith, length-append (event_lines (last k)) (event_lines (told refill_fate (opposite k))), l.ensures.0, told_is)) in (
       same_numbers held long,
       (
         l.ensures.1.0,
         (
           f.ensures.1.0,
-          lines-behind (last k) (told refillFate (opposite k)) l.result (out k) a.out.now f.new.1.1.1.1.1.1.0 l.ensures.0 l.ensures.1.1 f.ensures.1.1,
+          lines_behind (last k) (told refill_fate (opposite k)) l.result (out k) a.out.now f.new.1.1.1.1.1.1.0 l.ensures.0 l.ensures.1.1 f.ensures.1.1,
         ),
       ),
     )

@@ -5,10 +5,10 @@ use mathlib.Core.Path.{◌≡◌}
 use native.Mathlib.Omega.{arith}
 use borrow.Author.Rules.{rules}
 use Rattle.kinds.specs.Kinds.{shares}
-use Rattle.rules.specs.Instructions.{has, displayed, cancelBack}
-use Rattle.rules.specs.Settling.{shownOf}
-use Rattle.rules.specs.Working.{floorOf, minimumOf}
-use Rattle.rules.proofs.LawsFloors.{shown-at-most}
+use Rattle.rules.specs.Instructions.{has, displayed, cancel_back}
+use Rattle.rules.specs.Settling.{shown_of}
+use Rattle.rules.specs.Working.{floor_of, minimum_of}
+use Rattle.rules.proofs.LawsFloors.{shown_at_most}
 use Rattle.orders.proofs.matching.remainder_of.Statement.{statement}
 use Rattle.orders.proofs.matching.remainder_of.Tie as tie
 
@@ -34,18 +34,18 @@ sub-reserve : tie.Need-overflow-sub-reserve
 sub-reserve c =
     let k = c.before.before in
     let a = k.before.before.before.before.before.before.args in
-    rw k.Shown-of.ensures (omega (arith, shown-at-most k.before.before.before.floor-of.result.0 a.left.0))
+    rw k.Shown-of.ensures (omega (arith, shown_at_most k.before.before.before.floor-of.result.0 a.left.0))
 
 returns : tie.Need-returns
 returns c =
     let k = c.before.before in
     let a = k.before.before.before.before.before.before.args in
     let shown : k.before.before.before.before.before.has.result ≡ has a.o.word displayed = k.before.before.before.before.before.has.ensures in
-    let back : k.before.before.before.before.has2.result ≡ has a.o.word cancelBack = k.before.before.before.before.has2.ensures in
-    let floor : k.before.before.before.floor-of.result ≡ shares (floorOf a.o.carried) = k.before.before.before.floor-of.ensures in
-    let minimum : k.before.before.minimum-of.result ≡ shares (minimumOf a.o.carried) = k.before.before.minimum-of.ensures in
+    let back : k.before.before.before.before.has2.result ≡ has a.o.word cancel_back = k.before.before.before.before.has2.ensures in
+    let floor : k.before.before.before.floor-of.result ≡ shares (floor_of a.o.carried) = k.before.before.before.floor-of.ensures in
+    let minimum : k.before.before.minimum-of.result ≡ shares (minimum_of a.o.carried) = k.before.before.minimum-of.ensures in
     let least : k.before.smaller.result ≡ shares (min k.before.before.minimum-of.result.0 a.left.0) = k.before.smaller.ensures in
-    let part : k.Shown-of.result ≡ shares (shownOf k.before.before.before.floor-of.result.0 a.left.0) = k.Shown-of.ensures in
+    let part : k.Shown-of.result ≡ shares (shown_of k.before.before.before.floor-of.result.0 a.left.0) = k.Shown-of.ensures in
     rw (part, floor, least, minimum, shown, back)
 
 pub remainder-of-spec : {M : Type 1} → statement M

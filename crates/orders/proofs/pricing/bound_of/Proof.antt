@@ -3,8 +3,8 @@ use mathlib.Core.Bool.{true, false, not, ◌||◌}
 use mathlib.Core.Path.{◌≡◌, sym, ◌∙◌}
 use borrow.Author.Rules.{rules}
 use Rattle.rules.specs.Instructions.{has, iso}
-use Rattle.rules.specs.Working.{buying, beyond, lockingPrice, absent}
-use Rattle.orders.specs.Bound.{farthest, boundOf}
+use Rattle.rules.specs.Working.{buying, beyond, locking_price, absent}
+use Rattle.orders.specs.Bound.{farthest, bound_of}
 use Rattle.orders.proofs.pricing.bound_of.Statement.{statement}
 use Rattle.orders.proofs.pricing.bound_of.Tie as tie
 
@@ -22,43 +22,43 @@ module _ (c : tie.After-struct-known2) where
   limit_is : c.before.before.before.limit-of.result ≡ farthest c.before.before.before.before.before.args.o
   limit_is = c.before.before.before.limit-of.ensures
 
-  locking-is : c.before.before.locking-price.result
-      ≡ lockingPrice (buying c.before.before.before.before.before.args.o) c.before.before.before.before.before.args.away
-  locking-is = c.before.before.locking-price.ensures
+  locking_is : c.before.before.locking-price.result
+      ≡ locking_price (buying c.before.before.before.before.before.args.o) c.before.before.before.before.before.args.away
+  locking_is = c.before.before.locking-price.ensures
 
   iso-is : c.before.has.result ≡ has c.before.before.before.before.before.args.o.word iso
   iso-is = c.before.has.ensures
 
 returns : tie.Need-returns
-unfolding boundOf
+unfolding bound_of
 returns c =
     let k = c.before in
     let a = k.before.before.before.before.before.args in
-    let free : (has a.o.word iso || absent (lockingPrice (buying a.o) a.away)) ≡ true = rw (iso-is k, locking-is k) at c.if1.true in
+    let free : (has a.o.word iso || absent (locking_price (buying a.o) a.away)) ≡ true = rw (iso-is k, locking_is k) at c.if1.true in
     rw free (limit_is k)
 
 within-requires : tie.Need-within-requires
 within-requires c κs = search rules
 
 returns-2 : tie.Need-returns-2
-unfolding boundOf
+unfolding bound_of
 returns-2 c =
     let k = c.before.before.before in
     let a = k.before.before.before.before.before.args in
-    let bound : (has a.o.word iso || absent (lockingPrice (buying a.o) a.away)) ≡ false = rw (iso-is k, locking-is k) at c.before.before.if1.false in
-    let within : not (beyond (buying a.o) (lockingPrice (buying a.o) a.away) (farthest a.o)) ≡ true =
-    rw (locking-is k, limit_is k) at (sym c.before.within.ensures ∙ c.if2.true) in
+    let bound : (has a.o.word iso || absent (locking_price (buying a.o) a.away)) ≡ false = rw (iso-is k, locking_is k) at c.before.before.if1.false in
+    let within : not (beyond (buying a.o) (locking_price (buying a.o) a.away) (farthest a.o)) ≡ true =
+    rw (locking_is k, limit_is k) at (sym c.before.within.ensures ∙ c.if2.true) in
     rw (bound, within) (limit_is k)
 
 returns-3 : tie.Need-returns-3
-unfolding boundOf
+unfolding bound_of
 returns-3 c =
     let k = c.before.before.before in
     let a = k.before.before.before.before.before.args in
-    let bound : (has a.o.word iso || absent (lockingPrice (buying a.o) a.away)) ≡ false = rw (iso-is k, locking-is k) at c.before.before.if1.false in
-    let within : not (beyond (buying a.o) (lockingPrice (buying a.o) a.away) (farthest a.o)) ≡ false =
-    rw (locking-is k, limit_is k) at (sym c.before.within.ensures ∙ c.if2.false) in
-    rw (bound, within) (locking-is k)
+    let bound : (has a.o.word iso || absent (locking_price (buying a.o) a.away)) ≡ false = rw (iso-is k, locking_is k) at c.before.before.if1.false in
+    let within : not (beyond (buying a.o) (locking_price (buying a.o) a.away) (farthest a.o)) ≡ false =
+    rw (locking_is k, limit_is k) at (sym c.before.within.ensures ∙ c.if2.false) in
+    rw (bound, within) (locking_is k)
 
 pub bound-of-spec : {M : Type 1} → statement M
 bound-of-spec =

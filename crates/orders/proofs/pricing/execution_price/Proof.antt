@@ -8,7 +8,7 @@ half-a-cent-requires : tie.Need-half-a-cent-requires
 half-a-cent-requires c κs = omega (arith, c.if1.true, c.before.before.before.requires)
 
 returns : tie.Need-returns
-returns c = rw (eq-eqb _ _ c.before.if1.true) c.half-a-cent.ensures
+returns c = rw (eq-eqb _ _ c.before.if1.true) c.half_a_cent.ensures
 
 returns-2 : tie.Need-returns-2
 returns-2 c = rw (ne_eqb _ _ c.if1.false)

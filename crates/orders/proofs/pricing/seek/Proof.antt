@@ -8,8 +8,8 @@ use borrow.Author.Rules.{rules}
 use Rattle.kinds.specs.Kinds.{largest}
 use Rattle.rules.specs.declared.Ending.TheVariants.{Rests}
 use Rattle.rules.specs.Instructions.{has, iso, displayed}
-use Rattle.rules.specs.Working.{buying, beyond, limitOf, lockingPrice, absent, adjusted, oneCentLessAggressive, seeks}
-use Rattle.orders.proofs.pricing.LawsBound.{not-not}
+use Rattle.rules.specs.Working.{buying, beyond, limit_of, locking_price, absent, adjusted, one_cent_less_aggressive, seeks}
+use Rattle.orders.proofs.pricing.LawsBound.{not_not}
 use Rattle.orders.proofs.pricing.seek.Statement.{statement}
 use Rattle.orders.proofs.pricing.seek.Tie as tie
 
@@ -24,11 +24,11 @@ has-requires c κs = search rules
 
 -- what the first calls gave: the Locking Price, and whether it is of account
 module _ (c : tie.After-struct-known2) where
-  locking-is : c.before.before.locking-price.result
-      ≡ lockingPrice (buying c.before.before.before.before.before.args.o) c.before.before.before.before.before.args.away
-  locking-is = c.before.before.locking-price.ensures
+  locking_is : c.before.before.locking-price.result
+      ≡ locking_price (buying c.before.before.before.before.before.args.o) c.before.before.before.before.before.args.away
+  locking_is = c.before.before.locking-price.ensures
 
-  limit_is : c.before.before.before.in-half-cents.result ≡ limitOf c.before.before.before.before.before.args.o
+  limit_is : c.before.before.before.in-half-cents.result ≡ limit_of c.before.before.before.before.before.args.o
   limit_is = c.before.before.before.in-half-cents.ensures
 
   iso-is : c.before.has.result ≡ has c.before.before.before.before.before.args.o.word iso
@@ -39,7 +39,7 @@ unfolding seeks
 returns c =
     let k = c.before in
     let a = k.before.before.before.before.before.args in
-    let free : (has a.o.word iso || absent (lockingPrice (buying a.o) a.away)) ≡ true = rw (iso-is k, locking-is k) at c.if1.true in
+    let free : (has a.o.word iso || absent (locking_price (buying a.o) a.away)) ≡ true = rw (iso-is k, locking_is k) at c.if1.true in
     rw free (ap Rests (limit_is k))
 
 within-requires : tie.Need-within-requires
@@ -51,17 +51,17 @@ has-requires-2 c κs = search rules
 -- what the next calls gave: the away price is of account, whether the limit crosses it, whether the order is displayed
 module _ (c : tie.After-has2) where
   bound-is : (has c.before.before.before.before.before.before.before.before.args.o.word iso
-      || absent (lockingPrice (buying c.before.before.before.before.before.before.before.before.args.o) c.before.before.before.before.before.before.before.before.args.away)) ≡ false
-  bound-is = let k = c.before.before.before in rw (iso-is k, locking-is k) at c.before.before.if1.false
+      || absent (locking_price (buying c.before.before.before.before.before.before.before.before.args.o) c.before.before.before.before.before.before.before.before.args.away)) ≡ false
+  bound-is = let k = c.before.before.before in rw (iso-is k, locking_is k) at c.before.before.if1.false
 
   crosses-is : not c.before.within.result
-      ≡ beyond (buying c.before.before.before.before.before.before.before.before.args.o) (lockingPrice (buying c.before.before.before.before.before.before.before.before.args.o) c.before.before.before.before.before.before.before.before.args.away)
-      (limitOf c.before.before.before.before.before.before.before.before.args.o)
+      ≡ beyond (buying c.before.before.before.before.before.before.before.before.args.o) (locking_price (buying c.before.before.before.before.before.before.before.before.args.o) c.before.before.before.before.before.before.before.before.args.away)
+      (limit_of c.before.before.before.before.before.before.before.before.args.o)
   crosses-is =
       let k = c.before.before.before in
       let e = ap not c.before.within.ensures in
-      let f = not-not (beyond (buying k.before.before.before.before.before.args.o) k.before.before.locking-price.result k.before.before.before.in-half-cents.result) in
-      rw (locking-is k, limit_is k) at (e ∙ f)
+      let f = not_not (beyond (buying k.before.before.before.before.before.args.o) k.before.before.locking-price.result k.before.before.before.in-half-cents.result) in
+      rw (locking_is k, limit_is k) at (e ∙ f)
 
   displayed-is : c.has2.result ≡ has c.before.before.before.before.before.before.before.before.args.o.word displayed
   displayed-is = c.has2.ensures
@@ -69,7 +69,7 @@ module _ (c : tie.After-has2) where
 less-aggressive-requires : tie.Need-less-aggressive-requires
 less-aggressive-requires c κs =
     let k = c.before.before.before.before.before.before in
-    let below : k.before.before.locking-price.result.0 < largest - 1 = rw (locking-is k) k.before.before.before.before.before.requires.1 in
+    let below : k.before.before.locking-price.result.0 < largest - 1 = rw (locking_is k) k.before.before.before.before.before.requires.1 in
     below
 
 adjust-requires : tie.Need-adjust-requires
@@ -81,10 +81,10 @@ returns-2 c =
     let h = c.before.before.before.before.before in
     let k = h.before.before.before in
     let a = k.before.before.before.before.before.args in
-    let l = lockingPrice (buying a.o) a.away in
-    let t : (has a.o.word displayed && (eqb (limitOf a.o).0 l.0 || beyond (buying a.o) l (limitOf a.o))) ≡ true =
-    rw (displayed-is h, crosses-is h, locking-is k, limit_is k) at c.before.before.if2.true in
-    rw (bound-is h, t) (c.adjust.ensures ∙ ap (adjusted a.o) (c.before.less-aggressive.ensures ∙ ap (oneCentLessAggressive (buying a.o)) (locking-is k)))
+    let l = locking_price (buying a.o) a.away in
+    let t : (has a.o.word displayed && (eqb (limit_of a.o).0 l.0 || beyond (buying a.o) l (limit_of a.o))) ≡ true =
+    rw (displayed-is h, crosses-is h, locking_is k, limit_is k) at c.before.before.if2.true in
+    rw (bound-is h, t) (c.adjust.ensures ∙ ap (adjusted a.o) (c.before.less-aggressive.ensures ∙ ap (one_cent_less_aggressive (buying a.o)) (locking_is k)))
 
 adjust-requires-2 : tie.Need-adjust-requires-2
 adjust-requires-2 c κs = search rules
@@ -95,12 +95,12 @@ returns-3 c =
     let h = c.before.before.before.before.before in
     let k = h.before.before.before in
     let a = k.before.before.before.before.before.args in
-    let l = lockingPrice (buying a.o) a.away in
-    let t : (has a.o.word displayed && (eqb (limitOf a.o).0 l.0 || beyond (buying a.o) l (limitOf a.o))) ≡ false =
-    rw (displayed-is h, crosses-is h, locking-is k, limit_is k) at c.before.before.if2.false in
-    let u : (not (has a.o.word displayed) && beyond (buying a.o) l (limitOf a.o)) ≡ true =
+    let l = locking_price (buying a.o) a.away in
+    let t : (has a.o.word displayed && (eqb (limit_of a.o).0 l.0 || beyond (buying a.o) l (limit_of a.o))) ≡ false =
+    rw (displayed-is h, crosses-is h, locking_is k, limit_is k) at c.before.before.if2.false in
+    let u : (not (has a.o.word displayed) && beyond (buying a.o) l (limit_of a.o)) ≡ true =
     rw (displayed-is h, crosses-is h) at c.before.if3.true in
-    rw (bound-is h, t, u) (c.adjust2.ensures ∙ ap (adjusted a.o) (locking-is k))
+    rw (bound-is h, t, u) (c.adjust2.ensures ∙ ap (adjusted a.o) (locking_is k))
 
 returns-4 : tie.Need-returns-4
 unfolding seeks
@@ -108,10 +108,10 @@ returns-4 c =
     let h = c.before.before.before.before in
     let k = h.before.before.before in
     let a = k.before.before.before.before.before.args in
-    let l = lockingPrice (buying a.o) a.away in
-    let t : (has a.o.word displayed && (eqb (limitOf a.o).0 l.0 || beyond (buying a.o) l (limitOf a.o))) ≡ false =
-    rw (displayed-is h, crosses-is h, locking-is k, limit_is k) at c.before.if2.false in
-    let u : (not (has a.o.word displayed) && beyond (buying a.o) l (limitOf a.o)) ≡ false =
+    let l = locking_price (buying a.o) a.away in
+    let t : (has a.o.word displayed && (eqb (limit_of a.o).0 l.0 || beyond (buying a.o) l (limit_of a.o))) ≡ false =
+    rw (displayed-is h, crosses-is h, locking_is k, limit_is k) at c.before.if2.false in
+    let u : (not (has a.o.word displayed) && beyond (buying a.o) l (limit_of a.o)) ≡ false =
     rw (displayed-is h, crosses-is h) at c.if3.false in
     rw (bound-is h, t, u) (ap Rests (limit_is k))
 

@@ -9,26 +9,26 @@ use native.Mathlib.Omega.{arith}
 use borrow.Author.Rules.{rules}
 use Rattle.basics.specs.Bytes.{onto}
 use Rattle.side.specs.Table.{side}
-use Rattle.side.proofs.rows.LawsShown.{length-side}
-use Rattle.basics.proofs.LawsLists.{all-at}
+use Rattle.side.proofs.rows.LawsShown.{length_side}
+use Rattle.basics.proofs.LawsLists.{all_at}
 use Rattle.kinds.specs.Kinds.{shares}
-use Rattle.rules.specs.Book.{unused, sharesLeft}
-use Rattle.rules.specs.EventLines.{eventLine, eventLines}
-use Rattle.rules.proofs.LawsEvents.{cancelled-length}
-use Rattle.orders.specs.Reports.{cancelledFor}
-use Rattle.orders.proofs.reports.LawsReports.{lines-turn}
+use Rattle.rules.specs.Book.{unused, shares_left}
+use Rattle.rules.specs.EventLines.{event_line, event_lines}
+use Rattle.rules.proofs.LawsEvents.{cancelled_length}
+use Rattle.orders.specs.Reports.{cancelled_for}
+use Rattle.orders.proofs.reports.LawsReports.{lines_turn}
 use Rattle.orders.proofs.reports.report_cancelled.Statement.{statement}
 use Rattle.orders.proofs.reports.report_cancelled.Tie as tie
 
 abbrev invariant-loop : tie.invariant-loop
 invariant-loop x t n reason out₀ len₀ i₀ out len i =
-    (i ≤ n) × (len ≡ 21 * i) × (length out ≡ length out₀) × (out ≡ onto (eventLines (map (cancelledFor reason) (take i (side n x t)))) out₀)
+    (i ≤ n) × (len ≡ 21 * i) × (length out ≡ length out₀) × (out ≡ onto (event_lines (map (cancelled_for reason) (take i (side n x t)))) out₀)
 
 abbrev decreases-loop : tie.decreases-loop
 decreases-loop x t n reason out₀ len₀ i₀ out len i = n - i
 
 loop-holds : tie.Need-loop-init invariant-loop decreases-loop
-unfolding onto eventLines
+unfolding onto event_lines
 loop-holds c = (omega arith, omega arith, refl, refl)
 
 at-requires : tie.Need-at-requires invariant-loop decreases-loop
@@ -39,8 +39,8 @@ shares-left-requires c κs =
     let l = c.before.before.loop in
     let start = c.before.before.before.before in
     let a = start.args in
-    let long = length-side a.n a.x.now a.t.now in
-    rw c.at.ensures (all-at unused l.i start.requires.2 (omega (arith, c.before.loop-test.true)))
+    let long = length_side a.n a.x.now a.t.now in
+    rw c.at.ensures (all_at unused l.i start.requires.2 (omega (arith, c.before.loop-test.true)))
 
 sub-write-cancelled : tie.Need-overflow-sub-write-cancelled invariant-loop decreases-loop
 sub-write-cancelled c = search rules
@@ -71,14 +71,14 @@ loop-again c =
     let l = read.before.before.loop in
     let a = read.before.before.before.before.args in
     let s = side a.n a.x.now a.t.now in
-    let long = length-side a.n a.x.now a.t.now in
+    let long = length_side a.n a.x.now a.t.now in
     let n : w.result ≡ 21 = w.ensures.0 in
-    let p : w.new.0 ≡ onto (eventLine (cancelledFor a.reason (get_or s l.i unused))) (take (length l.out - l.len) (drop l.len l.out)) =
+    let p : w.new.0 ≡ onto (event_line (cancelled_for a.reason (get_or s l.i unused))) (take (length l.out - l.len) (drop l.len l.out)) =
     w.ensures.1 ∙ rw (left.shares_left.ensures, read.at.ensures) in (
       omega arith,
       omega arith,
       search rules,
-      lines-turn (cancelledFor a.reason) 21 (λ h. cancelled-length h.number (shares (sharesLeft h)) a.reason)
+      lines_turn (cancelled_for a.reason) 21 (λ h. cancelled_length h.number (shares (shares_left h)) a.reason)
           unused s l.i (omega arith) l.len l.out a.out.now w.new.0 l.invariant.1 l.invariant.3 p,
     )
 
@@ -90,7 +90,7 @@ returns c =
     let l = c.before.loop in
     let a = c.before.before.before.args in
     let s = side a.n a.x.now a.t.now in
-    let all : take l.i s ≡ s = take_all l.i s (omega (arith, length-side a.n a.x.now a.t.now)) in
+    let all : take l.i s ≡ s = take_all l.i s (omega (arith, length_side a.n a.x.now a.t.now)) in
     (omega arith, rw all at l.invariant.3)
 
 pub report-cancelled-spec : {M : Type 1} → statement M

@@ -10,16 +10,16 @@ use borrow.Author.Rules.{rules}
 use borrow.Author.Tests.{not-true, not-false}
 use Rattle.kinds.specs.Kinds.{shares}
 use Rattle.side.specs.Table.{side}
-use Rattle.side.proofs.rows.LawsShown.{length-side}
+use Rattle.side.proofs.rows.LawsShown.{length_side}
 use Rattle.orders.specs.Cursor.{ahead, Gives}
-use Rattle.orders.specs.Walk.{isWithin, isPassed, partGives, taking, takingRow, laidAt}
-use Rattle.orders.proofs.walk.LawsWalk.{Underway, underway-start, underway-on, underway-past, less, ended-side, ended-none, ended-beyond}
+use Rattle.orders.specs.Walk.{is_within, is_passed, part_gives, taking, taking_row, laid_at}
+use Rattle.orders.proofs.walk.LawsWalk.{Underway, underway_start, underway_on, underway_past, less, ended_side, ended_none, ended_beyond}
 use Rattle.orders.proofs.walk.walk.Statement.{statement}
 use Rattle.orders.proofs.walk.walk.Tie as tie
 
 abbrev invariant-loop : tie.invariant-loop
 invariant-loop x t n buying bound took₀ c₀ count₀ left₀ skipped₀ took c count left skipped =
-    Underway (isWithin buying bound) left₀.0 (side n x t) took₀ took c count left.0 skipped
+    Underway (is_within buying bound) left₀.0 (side n x t) took₀ took c count left.0 skipped
 
 abbrev decreases-loop : tie.decreases-loop
 decreases-loop x t n buying bound took₀ c₀ count₀ left₀ skipped₀ took c count left skipped = length (ahead (side n x t) c)
@@ -27,8 +27,8 @@ decreases-loop x t n buying bound took₀ c₀ count₀ left₀ skipped₀ took 
 loop-holds : tie.Need-loop-init invariant-loop decreases-loop
 loop-holds c =
     let a = c.args in
-    underway-start (isWithin a.buying a.bound) a.want.0 (side a.n a.x.now a.t.now) a.took.now
-    (omega (arith, length-side a.n a.x.now a.t.now, c.requires.fits))
+    underway_start (is_within a.buying a.bound) a.want.0 (side a.n a.x.now a.t.now) a.took.now
+    (omega (arith, length_side a.n a.x.now a.t.now, c.requires.fits))
 
 next-requires : tie.Need-next-requires invariant-loop decreases-loop
 next-requires c κs = (c.before.before.before.requires, c.before.before.loop.invariant.is_at)
@@ -62,8 +62,8 @@ take-from-requires c κs =
     let a = start.args in
     let g = gave d in
     let k = less g in
-    let passes : isPassed l.left.0 d.before.part.given.0.0 ≡ false = sym c.before.before.is-passed.ensures ∙ c.before.if3.false in
-    (omega (arith, l.invariant.room, k), omega (arith, g.place, length-side a.n a.x.now a.t.now, start.requires.fits), passes)
+    let passes : is_passed l.left.0 d.before.part.given.0.0 ≡ false = sym c.before.before.is-passed.ensures ∙ c.before.if3.false in
+    (omega (arith, l.invariant.room, k), omega (arith, g.place, length_side a.n a.x.now a.t.now, start.requires.fits), passes)
 
 loop-less : tie.Need-loop-smaller invariant-loop decreases-loop
 loop-less c = less (gave c.before.before.before.before.before)
@@ -74,9 +74,9 @@ loop-again c =
     let l = d.before.before.before.before.before.before.loop in
     let a = d.before.before.before.before.before.before.before.args in
     let p = d.before.part.given.0.0 in
-    let m : isWithin a.buying a.bound p ≡ true = sym c.before.before.before.before.within.ensures ∙ not-false _ c.before.before.before.if2.false in
-    let passed : isPassed l.left.0 p ≡ true = sym c.before.before.is-passed.ensures ∙ c.before.if3.true in
-    rw c.first_of.ensures (underway-past l.invariant (omega arith) (gave d) m passed)
+    let m : is_within a.buying a.bound p ≡ true = sym c.before.before.before.before.within.ensures ∙ not-false _ c.before.before.before.if2.false in
+    let passed : is_passed l.left.0 p ≡ true = sym c.before.before.is-passed.ensures ∙ c.before.if3.true in
+    rw c.first_of.ensures (underway_past l.invariant (omega arith) (gave d) m passed)
 
 loop-less-2 : tie.Need-loop-smaller-2 invariant-loop decreases-loop
 loop-less-2 c = less (gave c.before.before.before.before.before.before.before)
@@ -87,35 +87,35 @@ loop-again-2 c =
     let l = d.before.before.before.before.before.before.loop in
     let a = d.before.before.before.before.before.before.before.args in
     let p = d.before.part.given.0.0 in
-    let g = partGives l.left.0 p in
+    let g = part_gives l.left.0 p in
     let taken = c.before.take-from in
-    let m : isWithin a.buying a.bound p ≡ true = sym c.before.before.before.before.before.before.within.ensures ∙ not-false _ c.before.before.before.before.before.if2.false in
-    let passes : isPassed l.left.0 p ≡ false = sym c.before.before.before.before.is-passed.ensures ∙ c.before.before.before.if3.false in
+    let m : is_within a.buying a.bound p ≡ true = sym c.before.before.before.before.before.before.within.ensures ∙ not-false _ c.before.before.before.before.before.if2.false in
+    let passes : is_passed l.left.0 p ≡ false = sym c.before.before.before.before.is-passed.ensures ∙ c.before.before.before.if3.false in
     let r : taken.result ≡ record { count = l.count + length (taking p g); left = shares (l.left.0 - g) } = taken.ensures.0 in
-    let t : taken.new.0 ≡ laidAt l.count (map takingRow (taking p g)) l.took = taken.ensures.1 in
-    let on = underway-on l.invariant (omega arith) (gave d) m in
-    rw (r, t) (subst (λ (k : ℕ). Underway (isWithin a.buying a.bound) a.want.0 (side a.n a.x.now a.t.now) a.took.now
-    (laidAt l.count (map takingRow (taking p g)) l.took) d.before.part.given.0.1.0 (l.count + length (taking p g)) (l.left.0 - g) k)
+    let t : taken.new.0 ≡ laid_at l.count (map taking_row (taking p g)) l.took = taken.ensures.1 in
+    let on = underway_on l.invariant (omega arith) (gave d) m in
+    rw (r, t) (subst (λ (k : ℕ). Underway (is_within a.buying a.bound) a.want.0 (side a.n a.x.now a.t.now) a.took.now
+    (laid_at l.count (map taking_row (taking p g)) l.took) d.before.part.given.0.1.0 (l.count + length (taking p g)) (l.left.0 - g) k)
     (rw passes refl) on)
 
 returns : tie.Need-returns invariant-loop decreases-loop
-returns c = ended-none c.before.before.loop.invariant c.if1.true
+returns c = ended_none c.before.before.loop.invariant c.if1.true
 
 returns-2 : tie.Need-returns-2 invariant-loop decreases-loop
 returns-2 c =
     let l = c.before.before.before.before.before.loop in
     let a = c.before.before.before.before.before.before.args in
     let e : ahead (side a.n a.x.now a.t.now) l.c ≡ [] = rw c.enum_told.given.1 at c.before.before.next.ensures in
-    ended-side l.invariant e
+    ended_side l.invariant e
 
 returns-3 : tie.Need-returns-3 invariant-loop decreases-loop
 returns-3 c =
     let d = c.before.before in
     let l = d.before.before.before.before.before.before.loop in
     let a = d.before.before.before.before.before.before.before.args in
-    let m : isWithin a.buying a.bound d.before.part.given.0.0 ≡ false =
+    let m : is_within a.buying a.bound d.before.part.given.0.0 ≡ false =
     sym c.before.within.ensures ∙ not-true _ c.if2.true in
-    ended-beyond l.invariant (omega arith) (gave d) m
+    ended_beyond l.invariant (omega arith) (gave d) m
 
 pub walk-spec : {M : Type 1} → statement M
 walk-spec =

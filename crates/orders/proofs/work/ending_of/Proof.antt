@@ -6,19 +6,19 @@ use borrow.Author.Tests.{eq-eqb, ne_eqb}
 use Rattle.rules.specs.Instructions.{ioc, fok, has}
 use Rattle.rules.specs.declared.Ending.TheVariants.{Filled, Rests, Cancels}
 use Rattle.rules.specs.Working.{seeks}
-use Rattle.orders.specs.Walking.{endingByBest}
+use Rattle.orders.specs.Walking.{ending_by_best}
 use Rattle.orders.proofs.work.ending_of.Statement.{statement}
 use Rattle.orders.proofs.work.ending_of.Tie as tie
 
 returns : tie.Need-returns
-unfolding endingByBest
+unfolding ending_by_best
 returns c = rw (eq-eqb _ _ c.if1.true)
 
 has-requires : tie.Need-has-requires
 has-requires c κs = search rules
 
 returns-2 : tie.Need-returns-2
-unfolding endingByBest
+unfolding ending_by_best
 returns-2 c =
     let kill : has c.before.before.before.before.args.o.word fok ≡ true = sym c.before.has.ensures ∙ c.if2.true in
     rw (ne_eqb _ _ c.before.before.if1.false, kill)
@@ -32,7 +32,7 @@ module _ (c : tie.Else2) where
   not-fok = sym c.before.has.ensures ∙ c.if2.false
 
 returns-3 : tie.Need-returns-3
-unfolding endingByBest
+unfolding ending_by_best
 returns-3 c =
     let e = c.before.before in
     let now-or-never : has e.before.before.before.before.args.o.word ioc ≡ true = sym c.before.has2.ensures ∙ c.if3.true in
@@ -59,7 +59,7 @@ rest-unless-meets-requires : tie.Need-rest-unless-meets-requires
 rest-unless-meets-requires c κs = let p = c.before.before.before.before.before.before.before.before.before.before.requires in (p.0, p.1)
 
 returns-4 : tie.Need-returns-4
-unfolding endingByBest
+unfolding ending_by_best
 returns-4 c =
     let d = c.before.before.before in
     let e = d.before.before in
@@ -68,7 +68,7 @@ returns-4 c =
     rw (ne_eqb _ _ e.before.before.if1.false, not-fok e, not-ioc d, sought)
 
 returns-5 : tie.Need-returns-5
-unfolding endingByBest
+unfolding ending_by_best
 returns-5 c =
     let d = c.before.before.before.before in
     let e = d.before.before in
@@ -77,7 +77,7 @@ returns-5 c =
     rw (ne_eqb _ _ e.before.before.if1.false, not-fok e, not-ioc d, sought)
 
 returns-6 : tie.Need-returns-6
-unfolding endingByBest
+unfolding ending_by_best
 returns-6 c =
     let d = c.before.before.before.before.before in
     let e = d.before.before in

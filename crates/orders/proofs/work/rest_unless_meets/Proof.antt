@@ -8,13 +8,13 @@ use lib.ListN.{length, get_or, drop, drop_of_length-le}
 use native.Mathlib.Omega.{arith}
 use borrow.Author.Rules.{rules}
 use Rattle.side.specs.Table.{side}
-use Rattle.side.proofs.rows.LawsShown.{length-side}
+use Rattle.side.proofs.rows.LawsShown.{length_side}
 use Rattle.rules.specs.declared.Resting.{Resting}
 use Rattle.rules.specs.Book.{unused}
-use Rattle.rules.specs.Instructions.{has, postOnly}
-use Rattle.rules.specs.Working.{buying, reaches, meetsOrPasses}
-use Rattle.rules.proofs.LawsRank.{reaches-is}
-use Rattle.orders.specs.Walking.{restsUnlessBestMeets}
+use Rattle.rules.specs.Instructions.{has, post_only}
+use Rattle.rules.specs.Working.{buying, reaches, meets_or_passes}
+use Rattle.rules.proofs.LawsRank.{reaches_is}
+use Rattle.orders.specs.Walking.{rests_unless_best_meets}
 use Rattle.orders.proofs.work.rest_unless_meets.Statement.{statement}
 use Rattle.orders.proofs.work.rest_unless_meets.Tie as tie
 
@@ -25,11 +25,11 @@ left-from zero (h ∷ s) l best is = ap (λ (x : Resting). x ∷ s) (sym is)
 left-from (suc k) (h ∷ s) l best is = left-from k s (omega (arith, l)) best is
 
 returns : tie.Need-returns
-unfolding restsUnlessBestMeets
+unfolding rests_unless_best_meets
 returns c =
     let a = c.before.args in
     let s = side a.n a.x.now a.t.now in
-    let past : length s ≤ a.kept = omega (arith, length-side a.n a.x.now a.t.now, c.if1.true) in
+    let past : length s ≤ a.kept = omega (arith, length_side a.n a.x.now a.t.now, c.if1.true) in
     let none : drop a.kept s ≡ [] = drop_of_length-le s past in
     rw none refl
 
@@ -49,50 +49,50 @@ module _ (c : tie.After-has) where
   best-left =
       let a = c.before.before.before.before.args in
       left-from a.kept (side a.n a.x.now a.t.now)
-      (omega (arith, length-side a.n a.x.now a.t.now, c.before.before.before.if1.false)) c.before.at.result c.before.at.ensures
+      (omega (arith, length_side a.n a.x.now a.t.now, c.before.before.before.if1.false)) c.before.at.result c.before.at.ensures
 
 returns-2 : tie.Need-returns-2
-unfolding restsUnlessBestMeets
+unfolding rests_unless_best_meets
 returns-2 c =
     let k = c.before.before.before in
     let a = k.before.before.before.before.args in
-    let post : has a.o.word postOnly ≡ true = sym k.has.ensures ∙ c.before.before.if2.true in
-    let met : meetsOrPasses (buying a.o) a.price k.before.at.result ≡ true = sym c.before.meets.ensures ∙ c.if3.true in
+    let post : has a.o.word post_only ≡ true = sym k.has.ensures ∙ c.before.before.if2.true in
+    let met : meets_or_passes (buying a.o) a.price k.before.at.result ≡ true = sym c.before.meets.ensures ∙ c.if3.true in
     rw (best-left k, post, met) refl
 
 returns-3 : tie.Need-returns-3
-unfolding restsUnlessBestMeets
+unfolding rests_unless_best_meets
 returns-3 c =
     let k = c.before.before.before in
     let a = k.before.before.before.before.args in
-    let post : has a.o.word postOnly ≡ true = sym k.has.ensures ∙ c.before.before.if2.true in
-    let met : meetsOrPasses (buying a.o) a.price k.before.at.result ≡ false = sym c.before.meets.ensures ∙ c.if3.false in
+    let post : has a.o.word post_only ≡ true = sym k.has.ensures ∙ c.before.before.if2.true in
+    let met : meets_or_passes (buying a.o) a.price k.before.at.result ≡ false = sym c.before.meets.ensures ∙ c.if3.false in
     rw (best-left k, post, met) refl
 
 within-requires : tie.Need-within-requires
 within-requires c κs = search rules
 
 returns-4 : tie.Need-returns-4
-unfolding restsUnlessBestMeets
+unfolding rests_unless_best_meets
 returns-4 c =
     let k = c.before.before.before.before.before in
     let a = k.before.before.before.before.args in
     let h = k.before.at.result in
-    let other : has a.o.word postOnly ≡ false = sym k.has.ensures ∙ c.before.before.before.before.if2.false in
+    let other : has a.o.word post_only ≡ false = sym k.has.ensures ∙ c.before.before.before.before.if2.false in
     let reached : c.before.before.before.within.result ≡ reaches (buying a.o) a.price h.price =
-    c.before.before.before.within.ensures ∙ sym (reaches-is (buying a.o) a.price h.price) in
+    c.before.before.before.within.ensures ∙ sym (reaches_is (buying a.o) a.price h.price) in
     let still : (reaches (buying a.o) a.price h.price && not (eqb a.price.0 a.locked.0)) ≡ true = rw reached at c.if4.true in
     rw (best-left k, other, still) refl
 
 returns-5 : tie.Need-returns-5
-unfolding restsUnlessBestMeets
+unfolding rests_unless_best_meets
 returns-5 c =
     let k = c.before.before.before.before.before in
     let a = k.before.before.before.before.args in
     let h = k.before.at.result in
-    let other : has a.o.word postOnly ≡ false = sym k.has.ensures ∙ c.before.before.before.before.if2.false in
+    let other : has a.o.word post_only ≡ false = sym k.has.ensures ∙ c.before.before.before.before.if2.false in
     let reached : c.before.before.before.within.result ≡ reaches (buying a.o) a.price h.price =
-    c.before.before.before.within.ensures ∙ sym (reaches-is (buying a.o) a.price h.price) in
+    c.before.before.before.within.ensures ∙ sym (reaches_is (buying a.o) a.price h.price) in
     let still : (reaches (buying a.o) a.price h.price && not (eqb a.price.0 a.locked.0)) ≡ false = rw reached at c.if4.false in
     rw (best-left k, other, still) refl
 

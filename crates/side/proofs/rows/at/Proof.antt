@@ -5,7 +5,7 @@ use mathlib.Core.Path.{ap, ◌∙◌}
 use lib.ListN.{get_or}
 use borrow.Author.Rules.{rules}
 use Rattle.side.specs.Table.{order_of}
-use Rattle.side.proofs.rows.LawsShown.{order-at}
+use Rattle.side.proofs.rows.LawsShown.{order_at}
 use Rattle.side.proofs.rows.at.Statement.{statement}
 use Rattle.side.proofs.rows.at.Tie as tie
 
@@ -21,7 +21,7 @@ returns c =
     let a = start.args in
     c.row.ensures
     ∙ ap (λ (j : ℕ). order_of (get_or a.t.now j [])) c.before.slot_at.ensures.0
-    ∙ order-at a.n a.x.now a.t.now a.i start.requires.1
+    ∙ order_at a.n a.x.now a.t.now a.i start.requires.1
 
 pub at-spec : {M : Type 1} → statement M
 at-spec = tie.close (tie.spec slot-at-requires row-requires returns)

@@ -4,9 +4,9 @@ use mathlib.Core.Path.{◌≡◌}
 use lib.ListN.{get_or, set}
 use native.Mathlib.Omega.{arith}
 use borrow.Author.Rules.{rules}
-use Rattle.side.specs.Table.{row_of, hintOf, rotated}
-use Rattle.side.proofs.rows.LawsIndex.{names-below}
-use Rattle.side.proofs.shifts.LawsShifts.{shows-inserted}
+use Rattle.side.specs.Table.{row_of, hint_of, rotated}
+use Rattle.side.proofs.rows.LawsIndex.{names_below}
+use Rattle.side.proofs.shifts.LawsShifts.{shows_inserted}
 use Rattle.side.proofs.shifts.insert.Statement.{statement}
 use Rattle.side.proofs.shifts.insert.Tie as tie
 
@@ -36,7 +36,7 @@ put-row-requires c κs =
     let start = c.before.before.before.before.before.before.before.before in
     let a = start.args in
     let w : c.wide.result ≡ get_or a.x.now a.n 0 = c.wide.ensures in
-    omega (arith, names-below a.x.now start.requires.0.names a.n start.requires.2)
+    omega (arith, names_below a.x.now start.requires.0.names a.n start.requires.2)
 
 returns : tie.Need-returns
 returns c =
@@ -46,11 +46,11 @@ returns c =
     let slot = get_or x a.n 0 in
     let long = start.requires.0.names.long in
     let turn : c.before.before.before.before.raise.new.0 ≡ rotated a.n (a.n - a.at) x = c.before.before.before.before.raise.ensures in
-    let hint : c.before.before.before.hint-of.result ≡ hintOf a.o.number.0 = c.before.before.before.hint-of.ensures in
+    let hint : c.before.before.before.hint-of.result ≡ hint_of a.o.number.0 = c.before.before.before.hint-of.ensures in
     let wide : c.before.wide.result ≡ slot = c.before.wide.ensures in
     let put : c.put-row.new.0 ≡ set a.t.now c.before.wide.result (row_of a.o) = c.put-row.ensures in
     rw (turn, hint, put, wide)
-    (shows-inserted a.n x a.t.now start.requires.0 a.at (hintOf a.o.number.0) a.o start.requires.1 start.requires.2 (omega arith))
+    (shows_inserted a.n x a.t.now start.requires.0 a.at (hint_of a.o.number.0) a.o start.requires.1 start.requires.2 (omega arith))
 
 pub insert-spec : {M : Type 1} → statement M
 insert-spec =

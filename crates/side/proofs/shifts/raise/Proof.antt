@@ -9,25 +9,25 @@ use lib.ListN.{length, get_or, length-set}
 use native.Mathlib.Omega.{arith}
 use borrow.Author.Rules.{rules}
 use Rattle.basics.specs.Choice.{if◌then◌else◌}
-use Rattle.side.specs.Table.{indexSize, placesAPart}
-use Rattle.side.proofs.rows.LawsSteps.{counted, steps, step-at}
-use Rattle.side.proofs.shifts.LawsRotated.{Raising, raising-step, filled-end, within-le, within-lt}
+use Rattle.side.specs.Table.{index_size, places_aPart}
+use Rattle.side.proofs.rows.LawsSteps.{counted, steps, step_at}
+use Rattle.side.proofs.shifts.LawsRotated.{Raising, raising_step, filled_end, within_le, within_lt}
 use Rattle.side.proofs.shifts.raise.Statement.{statement}
 use Rattle.side.proofs.shifts.raise.Tie as tie
 
 -- within a part: whatever it was that had come so far when the part began has come further
 abbrev invariant-loop2 : tie.invariant-loop2
 invariant-loop2 y from to v steps last₀ part lo hi i₀ x last i =
-    (i ≤ placesAPart) × (length x ≡ length y) × ((z : List ℕ) → length z ≡ indexSize → Raising from to z part last₀ y → Raising from to z (part + i) last x)
+    (i ≤ places_aPart) × (length x ≡ length y) × ((z : List ℕ) → length z ≡ index_size → Raising from to z part last₀ y → Raising from to z (part + i) last x)
 
 abbrev decreases-loop2 : tie.decreases-loop2
-decreases-loop2 y from to v steps last₀ part lo hi i₀ x last i = placesAPart - i
+decreases-loop2 y from to v steps last₀ part lo hi i₀ x last i = places_aPart - i
 
 abbrev invariant-loop : tie.invariant-loop
-invariant-loop x₀ from to v steps last₀ part₀ x last part = (part ≤ from + placesAPart) × Raising from to x₀ part last x
+invariant-loop x₀ from to v steps last₀ part₀ x last part = (part ≤ from + places_aPart) × Raising from to x₀ part last x
 
 abbrev decreases-loop : tie.decreases-loop
-decreases-loop x₀ from to v steps last₀ part₀ x last part = from + placesAPart - part
+decreases-loop x₀ from to v steps last₀ part₀ x last part = from + places_aPart - part
 
 whole-index-requires : tie.Need-whole-index-requires invariant-loop2 decreases-loop2 invariant-loop decreases-loop
 whole-index-requires c κs = search rules
@@ -94,18 +94,18 @@ loop2-again c =
     let e : c.turned.result ≡ (if leb (a.to + 1) k && ltb k (a.from + 1) then m.last else get_or m.x k 0) =
     r
     ∙ rw (
-      step-at m.i (omega arith),
+      step_at m.i (omega arith),
       lo.ensures,
       hi.ensures,
-      within-le (a.to + 1) l.part m.i (omega arith),
-      within-lt (a.from + 1) l.part m.i (omega arith),
+      within_le (a.to + 1) l.part m.i (omega arith),
+      within_lt (a.from + 1) l.part m.i (omega arith),
     ) in
     let further : l.part + (m.i + 1) ≡ k + 1 = omega arith in (
       omega arith,
       length-set m.x k c.turned.result ∙ m.invariant.1,
       λ z long began.
           rw (further, e)
-          (raising-step a.from a.to z k m.last m.x (omega (arith, long)) (omega (arith, long)) (omega (arith, long)) (omega arith) (m.invariant.2 z long began)),
+          (raising_step a.from a.to z k m.last m.x (omega (arith, long)) (omega (arith, long)) (omega (arith, long)) (omega arith) (m.invariant.2 z long began)),
     )
 
 add-part : tie.Need-overflow-add-part invariant-loop2 decreases-loop2 invariant-loop decreases-loop
@@ -119,8 +119,8 @@ loop-again c =
     let l = c.before.before.before.before.before.loop in
     let m = c.before.loop2 in
     let x₀ = c.before.before.before.before.before.before.before.before.before.args.x.now in
-    let long : length x₀ ≡ indexSize = c.before.before.before.before.before.before.before.whole-index.ensures in
-    let all : l.part + m.i ≡ l.part + placesAPart = omega arith in
+    let long : length x₀ ≡ index_size = c.before.before.before.before.before.before.before.whole-index.ensures in
+    let all : l.part + m.i ≡ l.part + places_aPart = omega arith in
     (omega arith, rw all at (m.invariant.2 x₀ long l.invariant.1))
 
 element-write-x-2 : tie.Need-element-write-x-2 invariant-loop2 decreases-loop2 invariant-loop decreases-loop
@@ -131,8 +131,8 @@ returns c =
     let l = c.before.loop in
     let a = c.before.before.before.before.before.args in
     let x₀ = a.x.now in
-    let long : length x₀ ≡ indexSize = c.before.before.before.whole-index.ensures in
-    filled-end a.from a.to x₀ l.part l.x l.invariant.1.0 (omega arith) (omega arith) (omega arith) (omega arith)
+    let long : length x₀ ≡ index_size = c.before.before.before.whole-index.ensures in
+    filled_end a.from a.to x₀ l.part l.x l.invariant.1.0 (omega arith) (omega arith) (omega arith) (omega arith)
 
 pub raise-spec : {M : Type 1} → statement M
 raise-spec =

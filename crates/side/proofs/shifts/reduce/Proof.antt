@@ -8,7 +8,7 @@ use Rattle.rules.specs.Book.{unused}
 use Rattle.rules.specs.Settling.{amended}
 use Rattle.side.specs.Shifts.{less_by}
 use Rattle.side.specs.Table.{order_of, row_of, ranked, side}
-use Rattle.side.proofs.rows.LawsShown.{order-at, side-put}
+use Rattle.side.proofs.rows.LawsShown.{order_at, side_put}
 use Rattle.side.proofs.shifts.reduce.Statement.{statement}
 use Rattle.side.proofs.shifts.reduce.Tie as tie
 
@@ -47,7 +47,7 @@ returns c =
     let h = r.row.result in
     let o = get_or (side a.n x t) a.at unused in
     let slot : r.before.before.slot_at.result ≡ get_or (ranked a.n x) a.at 0 = r.before.before.slot_at.ensures.0 in
-    let read : h ≡ o = r.row.ensures ∙ ap (λ (j : ℕ). order_of (get_or t j [])) slot ∙ order-at a.n x t a.at start.requires.1 in
+    let read : h ≡ o = r.row.ensures ∙ ap (λ (j : ℕ). order_of (get_or t j [])) slot ∙ order_at a.n x t a.at start.requires.1 in
     let shown : first.without.result ≡ h.shares.0 - a.part.0 = first.without.ensures in
     let more : second.without2.result ≡ a.part.0 - h.shares.0 = second.without2.ensures in
     let reserve : third.without3.result ≡ h.reserve.0 - second.without2.result = third.without3.ensures in
@@ -56,7 +56,7 @@ returns c =
     ≡ set t r.before.before.slot_at.result
     (row_of (amended h.price h.stamp first.without.result third.without3.result last.cut.result h)) =
     c.put-row.ensures in
-    rw (put, least, reserve, more, shown, slot, read) (side-put a.n x t start.requires.0 a.at (less_by a.part.0 o) start.requires.1)
+    rw (put, least, reserve, more, shown, slot, read) (side_put a.n x t start.requires.0 a.at (less_by a.part.0 o) start.requires.1)
 
 pub reduce-spec : {M : Type 1} → statement M
 reduce-spec =

@@ -1,6 +1,6 @@
 -- `side::tables::clear` meets its contract. Assumes nothing.
 use borrow.Author.Rules.{rules}
-use Rattle.side.proofs.tables.LawsNumbered.{numbered-none}
+use Rattle.side.proofs.tables.LawsNumbered.{numbered_none}
 use Rattle.side.proofs.tables.clear.Statement.{statement}
 use Rattle.side.proofs.tables.clear.Tie as tie
 
@@ -12,7 +12,7 @@ number-requires c κs = search rules
 
 returns : tie.Need-returns
 returns c = (
-  numbered-none c.number.new.0 c.before.before.before.args.t.now c.number.ensures c.before.before.whole.ensures,
+  numbered_none c.number.new.0 c.before.before.before.args.t.now c.number.ensures c.before.before.whole.ensures,
   c.number.ensures,
 )
 

@@ -7,18 +7,18 @@ use lib.ListN.{length, get_or, set, length-set}
 use lib.Seq.{get_or-set_same, get_or-set_other}
 use native.Mathlib.Omega.{arith}
 use borrow.Author.Rules.{rules}
-use Rattle.basics.proofs.LawsChoice.{lt-or-le}
-use Rattle.rules.specs.Book.{placesASide}
-use Rattle.side.specs.Table.{indexSize}
-use Rattle.side.specs.Tables.{numberedAt}
+use Rattle.basics.proofs.LawsChoice.{lt_or_le}
+use Rattle.rules.specs.Book.{places_aSide}
+use Rattle.side.specs.Table.{index_size}
+use Rattle.side.specs.Tables.{numbered_at}
 use Rattle.side.proofs.tables.number.Statement.{statement}
 use Rattle.side.proofs.tables.number.Tie as tie
 
 abbrev invariant-loop : tie.invariant-loop
-invariant-loop x₀ n i₀ x i = (i ≤ placesASide) × (length x ≡ indexSize) × ((k : ℕ) → k < i → get_or x k 0 ≡ numberedAt n k)
+invariant-loop x₀ n i₀ x i = (i ≤ places_aSide) × (length x ≡ index_size) × ((k : ℕ) → k < i → get_or x k 0 ≡ numbered_at n k)
 
 abbrev decreases-loop : tie.decreases-loop
-decreases-loop x₀ n i₀ x i = placesASide - i
+decreases-loop x₀ n i₀ x i = places_aSide - i
 
 whole-index-requires : tie.Need-whole-index-requires invariant-loop decreases-loop
 whole-index-requires c κs = search rules
@@ -42,15 +42,15 @@ loop-less : tie.Need-loop-smaller invariant-loop decreases-loop
 loop-less c = search rules
 
 -- one place more
-one_more : (n i v : ℕ) (x : List ℕ) → i < length x → v ≡ numberedAt n i → ((k : ℕ) → k < i → get_or x k 0 ≡ numberedAt n k)
-    → (k : ℕ) → k < i + 1 → get_or (set x i v) k 0 ≡ numberedAt n k
+one_more : (n i v : ℕ) (x : List ℕ) → i < length x → v ≡ numbered_at n i → ((k : ℕ) → k < i → get_or x k 0 ≡ numbered_at n k)
+    → (k : ℕ) → k < i + 1 → get_or (set x i v) k 0 ≡ numbered_at n k
 one_more n i v x l e before k m =
     ⊎_elim
     (λ (p : k < i). get_or-set_other x i k v 0 (λ (q : k ≡ i). omega (arith, q, p)) ∙ before k p)
     (λ (p : i ≤ k).
     let is : k ≡ i = omega arith in
     rw is (get_or-set_same x i v 0 l ∙ e))
-    (lt-or-le k i)
+    (lt_or_le k i)
 
 loop-again : tie.Need-loop-preserved invariant-loop decreases-loop
 loop-again c =
