@@ -1,1 +1,3 @@
 // The customer's three demands as theorems: laws only.
+
+#![tactic(auto)]

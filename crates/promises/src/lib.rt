@@ -1,1 +1,3 @@
 // The front door: what the customer asked for, sentence by sentence, and a night worked through it. Laws only.
+
+#![tactic(auto)]

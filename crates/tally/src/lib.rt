@@ -1,5 +1,6 @@
 // The tally of one order over a day's event lines (02, W1): the shares executed and cancelled of it, line by line, on pieces of bounded
 // size.
+#![tactic(auto)]
 ghost use Rattle.std.specs.Prelude.{◌≡◌};
 ghost use Rattle.demands.specs.Told.{cancelled_by};
 ghost use Rattle.digits.specs.Digits.{number_at};
