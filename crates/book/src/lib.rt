@@ -1,6 +1,8 @@
 // The book, handed in by value and handed back (01, The book): fresh, sound, and what it responds to a reading, whatever the book and
 // the output.
+
 #![tactic(auto)]
+
 ghost use Rattle.std.specs.Prelude.{true, map, ◌≡◌, ◌≤◌, length};
 ghost use Rattle.side.specs.Table.{row_of, Holds};
 ghost use Rattle.rules.specs.Book.{fresh, record_of, record_sound};

@@ -1,5 +1,7 @@
 // Command lines (01, Command lines): read, written, and found in an input that comes in pieces.
+
 #![tactic(auto)]
+
 pub mod lines;
 pub mod reader;
 pub mod writer;

@@ -1,6 +1,8 @@
 // A command on a sound book that stands in a header and two sides that are lent, worked in place (01, How an order is worked). It is judged
 // by its header first and then by its body; a refusal leaves the header, both sides and every byte as they were.
+
 #![tactic(auto)]
+
 mod cancels;
 
 ghost use Rattle.std.specs.Prelude.{◌≤◌, length};

@@ -46,7 +46,7 @@ use Rattle.demands.proofs.LawsEventLines.{event_line_read}
 use Rattle.demands.proofs.LawsExecutes.{acts_accepted, acts_lines}
 use Rattle.demands.proofs.LawsFairly.{every_last}
 use Rattle.demands.proofs.LawsLinesTell.{every_refill}
-use Rattle.demands.proofs.LawsOnce.{refused_book, next_acts, by_line_keeps, end_is, by_call_keeps, repeat_refused}
+use Rattle.demands.proofs.LawsOnce.{refused_book, next_acts, by_line_keeps, end_is_lem, by_call_keeps, repeat_refused}
 use Rattle.demands.proofs.LawsRun.{accepted_does, run_conserved}
 use Rattle.demands.proofs.LawsRuns.{Keeps}
 use Rattle.demands.proofs.LawsWalked.{taken}
@@ -189,7 +189,7 @@ acting_on {a = a} {last = last} k b (c ∷ cs) =
 -- the numbers that act in a day of lines are 1, 2, 3 .. to the last
 pub numbers_follow : (lines : List (List ℕ)) → acting_numbers by_line fresh lines ≡ one_to (book_after fresh lines).held.last.0
 unfolding one_to
-numbers_follow lines = acting_on by_line_keeps fresh lines ∙ ap (λ (b : Book). one_to b.held.last.0) (end_is fresh lines)
+numbers_follow lines = acting_on by_line_keeps fresh lines ∙ ap (λ (b : Book). one_to b.held.last.0) (end_is_lem fresh lines)
 
 -- .. and in a day of calls
 pub numbers_follow_by_call : (calls : List Call) → acting_numbers by_call (record_of fresh) calls ≡ one_to (end_of by_call (record_of fresh) calls).held.last.0

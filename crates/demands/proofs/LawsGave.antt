@@ -90,8 +90,8 @@ floor_there h f l =
 
 module _ {es : List Event} (h : Resting) (t r : ℕ) (took : Took es h t r) where
   -- what is left of it, with what it gave, is what it held
-  pub left_is : shares_left (reduced_by t r h) + gave es h ≡ shares_left h
-  left_is = omega (arith, took.told, took.gives.shown, took.gives.reserve)
+  pub left_is_lem : shares_left (reduced_by t r h) + gave es h ≡ shares_left h
+  left_is_lem = omega (arith, took.told, took.gives.shown, took.gives.reserve)
 
   -- its shown part is used up exactly if it gave as much
   pub shown_left : gave es h < h.shares.0 → (t < h.shares.0) × (r ≡ 0)
@@ -124,13 +124,13 @@ module _ {es : List Event} (h : Resting) (t r : ℕ) (took : Took es h t r) wher
       omega (arith, less, took.told, took.gives.shown_first took.alone less)
 
   pub is_due_lem : shares_left (reduced_by t r h) ≢ 0 → (reduced_by t r h).shares.0 ≡ 0 → Due es h
-  is_due_lem some used = record { used_up = omega (arith, used, took.told); is_left = omega (arith, some, left_is) }
+  is_due_lem some used = record { used_up = omega (arith, used, took.told); is_left = omega (arith, some, left_is_lem) }
 
   -- .. and is refilled
   shown_again : Due es h → (refilled (reduced_by t r h)).shares.0 ≡ refilled_to es h
   shown_again due =
       let reserve : 0 < h.reserve.0 = omega (arith, due.used_up, due.is_left) in
-      let left : shares_left (reduced_by t r h) ≡ shares_left h - gave es h = omega (arith, left_is) in
+      let left : shares_left (reduced_by t r h) ≡ shares_left h - gave es h = omega (arith, left_is_lem) in
       rw (floor_there h took.floored reserve) (ap (min h.floor.0) left)
 
   pub is_refilled : (n : Number) (k : ℕ) → Due es h → IsRefilled n es h (stamped_as (stamp n k) (refilled (reduced_by t r h)))
@@ -148,7 +148,7 @@ module _ {es : List Event} (h : Resting) (t r : ℕ) (took : Took es h t r) wher
         };
         stamp = refl;
         shown = shown_again due;
-        in_all = omega (arith, left_is, whole);
+        in_all = omega (arith, left_is_lem, whole);
       }
 
 -- ── The lines of the refills ──
@@ -161,7 +161,7 @@ refill_lines {es = es} (Parts.also {o = h} {t = t} {r = r} {s = s} {ts = ts} {rs
     ⊎_elim
     (λ (z : eqb (shares_left x) 0 ≡ true).
     let gone = eqb-true (shares_left x) 0 z in
-    rw z (of_none (λ (due : Due es h). omega (arith, gone, left_is h t r took, due.is_left)) (refill_lines a)))
+    rw z (of_none (λ (due : Due es h). omega (arith, gone, left_is_lem h t r took, due.is_left)) (refill_lines a)))
     (λ (z : eqb (shares_left x) 0 ≡ false).
     rw z
     (⊎_elim

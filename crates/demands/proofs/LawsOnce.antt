@@ -115,10 +115,10 @@ by_line_keeps = record {
 }
 
 -- a run of lines ends with the book after it
-pub end_is : (b : Book) (lines : List (List ℕ)) → end_of by_line b lines ≡ book_after b lines
+pub end_is_lem : (b : Book) (lines : List (List ℕ)) → end_of by_line b lines ≡ book_after b lines
 unfolding end_of book_after
-end_is b [] = refl
-end_is b (l ∷ ls) = end_is (answer_to b l).book ls
+end_is_lem b [] = refl
+end_is_lem b (l ∷ ls) = end_is_lem (answer_to b l).book ls
 
 -- where no line is refused, all that is printed is event lines
 prints_events : (b : Book) (lines : List (List ℕ)) → none_refused by_line b lines ≡ true → printed_of b lines ≡ event_lines_of by_line b lines
@@ -135,7 +135,7 @@ lines_once = each_once by_line_keeps
 
 -- the day with its refused commands struck out ends with the same book
 pub lines_end : (b : Book) (lines : List (List ℕ)) → book_after b (struck_out by_line b lines) ≡ book_after b lines
-lines_end b lines = sym (end_is b (struck_out by_line b lines)) ∙ struck_out_end by_line_keeps b lines ∙ end_is b lines
+lines_end b lines = sym (end_is_lem b (struck_out by_line b lines)) ∙ struck_out_end by_line_keeps b lines ∙ end_is_lem b lines
 
 -- .. and the same event lines
 pub lines_tell : (b : Book) (lines : List (List ℕ)) → event_lines_of by_line b (struck_out by_line b lines) ≡ event_lines_of by_line b lines

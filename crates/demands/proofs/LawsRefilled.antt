@@ -47,7 +47,7 @@ use Rattle.demands.proofs.LawsLinesTell.{once_each, opposite_once, stands_before
 use Rattle.demands.proofs.LawsOrigins.{same_order_lem}
 use Rattle.demands.proofs.LawsRun.{accepted_does}
 use Rattle.demands.proofs.LawsTold.{line_told}
-use Rattle.demands.proofs.LawsGave.{Took, left_is, shown_left, shown_used, is_kept, stays_shown, is_due_lem, is_refilled, lines_took}
+use Rattle.demands.proofs.LawsGave.{Took, left_is_lem, shown_left, shown_used, is_kept, stays_shown, is_due_lem, is_refilled, lines_took}
 
 -- ── Rank ──
 
@@ -172,7 +172,7 @@ module _ (buy : Bool) (n : Number) (k : ℕ) {es : List Event} {last : Number} {
     refills = λ h p due.
         let x = keeping_has took p in
         let y = reduced_by x.of_shown x.of_reserve h in
-        let there = x.there (λ z. omega (arith, left_is h x.of_shown x.of_reserve x.is, due.is_left, z)) in
+        let there = x.there (λ z. omega (arith, left_is_lem h x.of_shown x.of_reserve x.is, due.is_left, z)) in
         record {
           order = stamped_as (stamp n (set_place refill_fate k there)) (refilled y);
           there =

@@ -2,7 +2,9 @@
 // with it. A line that begins with `#` names the day whose lines come next; tools/gather-days writes the input and the output.
 // A day is run as the program runs it, but in pieces so short that its lines are cut anywhere, and with so little room for output
 // that it runs short.
+
 #![tactic(auto)]
+
 ghost use Rattle.std.specs.Prelude.{◌≡◌, ◌+◌, ◌≤◌, ◌<◌, length};
 ghost use Rattle.rules.specs.Refusals.{least_room};
 

@@ -1,5 +1,7 @@
 // Whether a book is sound (01, The book), decided on its header and two lent tables of rows, whatever they hold.
+
 #![tactic(auto)]
+
 ghost use Rattle.std.specs.Prelude.{[], map, ◌≡◌, ◌+◌, ◌-◌, ◌≤◌, ◌<◌, eqb, get_or, drop};
 ghost use Rattle.basics.specs.Lists.{any};
 ghost use Rattle.kinds.specs.Kinds.{shares, shares_in_range};

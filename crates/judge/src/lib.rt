@@ -1,6 +1,8 @@
 // Which refusal a command's own fields get, against what the book last accepted (01, What the machine says back): 4 to 7 by the
 // header, 8 and 9 by an order's body, 9 by a quote's.
+
 #![tactic(auto)]
+
 pub mod instructions;
 
 ghost use Rattle.std.specs.Prelude.{◌≡◌};

@@ -1,6 +1,8 @@
 // One side as a lent slice of resting-order records (01, The book: "one side as a lent table of resting-order records"), a thin layer
 // over the book by value: the table is put into the book, the book answers, and what it leaves is taken apart again.
+
 #![tactic(auto)]
+
 ghost use Rattle.std.specs.Prelude.{true, false, ◌≡◌, ◌<◌, length, get_or, set, replicate};
 ghost use Rattle.basics.specs.Lists.{first_where};
 ghost use Rattle.book.specs.Record.{record_in, book_with, places_on, side_with, reply_of};

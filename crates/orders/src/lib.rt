@@ -1,6 +1,8 @@
 // An order on a sound book that stands in a header and two sides that are lent (01, How an order is worked): it is judged by its own fields
 // and then matched, on whichever side of the market it is of.
+
 #![tactic(auto)]
+
 pub mod cursor;
 mod fills;
 mod matching;

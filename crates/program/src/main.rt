@@ -1,6 +1,8 @@
 // Runs a day: command lines on standard input, event lines on standard output, to the end of the input (01, Examples from the
 // desk: the program). It reads, lets `day::night` take a turn, writes what that hands over, and stops at a read or a write that failed.
+
 #![tactic(auto)]
+
 ghost use Rattle.std.specs.Prelude.{false, ◌≡◌, ℕ, ◌≤◌, ◌<◌, length, take};
 ghost use Rattle.command_lines.specs.Pieces.{part_kept};
 ghost use Rattle.command_lines.specs.declared.lines.Read.TheVariants.{Upto};

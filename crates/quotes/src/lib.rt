@@ -1,6 +1,8 @@
 // A quote on a sound book that stands in a header and two sides that are lent: the away prices are kept, and the orders that
 // would now cross them are moved or cancelled (02, W2), buys first.
+
 #![tactic(auto)]
+
 mod moves;
 
 ghost use Rattle.std.specs.Prelude.{◌≤◌, ◌<◌, length};

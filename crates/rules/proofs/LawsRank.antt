@@ -62,8 +62,8 @@ module _ (high : Bool) (p q : ℕ) (at_one : Bool) where
   by_number : p ≢ q → ahead_or high p q at_one ≡ ahead high p q
   by_number ne = rw (ne_eqb p q ne)
 
-  pub at_one : p ≡ q → ahead_or high p q at_one ≡ at_one
-  at_one e = rw (eq-eqb p q e)
+  pub at_one_lem : p ≡ q → ahead_or high p q at_one ≡ at_one
+  at_one_lem e = rw (eq-eqb p q e)
 
 -- what holds of one number and of two holds of any
 by_numbers : {P : Type 0} (p q : ℕ) → (p ≡ q → P) → (p ≢ q → P) → P
@@ -76,7 +76,7 @@ by_numbers p q f g =
 or_total : (high : Bool) (p q : ℕ) (t u : Bool) → (t ≡ false → u ≡ true) → ahead_or high p q t ≡ false → ahead_or high q p u ≡ true
 or_total high p q t u turn f =
     by_numbers p q
-    (λ e. at_one high q p u (sym e) ∙ turn (sym (at_one high p q t e) ∙ f))
+    (λ e. at_one_lem high q p u (sym e) ∙ turn (sym (at_one_lem high p q t e) ∙ f))
     (λ n. by_number high q p u (λ e. n (sym e)) ∙ ahead_total high p q n (sym (by_number high p q t n) ∙ f))
 
 pub or_transitive : (high : Bool) (p q r : ℕ) (t u v : Bool) → (t ≡ true → u ≡ true → v ≡ true)
@@ -84,7 +84,7 @@ pub or_transitive : (high : Bool) (p q r : ℕ) (t u v : Bool) → (t ≡ true �
 or_transitive high p q r t u v both a b =
     by_numbers p q
     (λ e. by_numbers q r
-    (λ f. at_one high p r v (e ∙ f) ∙ both (sym (at_one high p q t e) ∙ a) (sym (at_one high q r u f) ∙ b))
+    (λ f. at_one_lem high p r v (e ∙ f) ∙ both (sym (at_one_lem high p q t e) ∙ a) (sym (at_one_lem high q r u f) ∙ b))
     (λ n. by_number high p r v (λ f. n (sym e ∙ f)) ∙ ap (λ (k : ℕ). ahead high k r) e ∙ sym (by_number high q r u n) ∙ b))
     (λ n. by_numbers q r
     (λ f. by_number high p r v (λ e. n (e ∙ sym f)) ∙ ap (ahead high p) (sym f) ∙ sym (by_number high p q t n) ∙ a)
@@ -96,7 +96,7 @@ or_transitive high p q r t u v both a b =
 
 -- by command, and then by place
 earlier_not_itself : (s : Stamp) → earlier s s ≡ false
-earlier_not_itself s = at_one false s.command.0 s.command.0 (ltb s.place s.place) refl ∙ le-ltb s.place s.place (omega arith)
+earlier_not_itself s = at_one_lem false s.command.0 s.command.0 (ltb s.place s.place) refl ∙ le-ltb s.place s.place (omega arith)
 
 -- a stamp is earlier than any of a command above its own, and than any at a place behind its own
 pub earlier_command : (s t : Stamp) → s.command.0 < t.command.0 → earlier s t ≡ true
@@ -104,7 +104,7 @@ earlier_command s t l =
     by_number false s.command.0 t.command.0 (ltb s.place t.place) (λ (e : s.command.0 ≡ t.command.0). omega arith) ∙ lt-ltb s.command.0 t.command.0 l
 
 pub earlier_place : (n : Number) (j k : ℕ) → j < k → earlier (stamp n j) (stamp n k) ≡ true
-earlier_place n j k l = at_one false n.0 n.0 (ltb j k) refl ∙ lt-ltb j k l
+earlier_place n j k l = at_one_lem false n.0 n.0 (ltb j k) refl ∙ lt-ltb j k l
 
 pub earlier_transitive : (s t u : Stamp) → earlier s t ≡ true → earlier t u ≡ true → earlier s u ≡ true
 earlier_transitive s t u a b =
@@ -153,7 +153,7 @@ ranks_total buy x y l f =
 
 pub ranks_not_itself : (buy : Bool) (x : Resting) → ranks_before buy x x ≡ false
 ranks_not_itself buy x =
-    by_rank buy x x ∙ at_one buy x.price.0 x.price.0 (first_at_one_price x x) refl ∙ never_itself_at_one_price x.displayed x.stamp
+    by_rank buy x x ∙ at_one_lem buy x.price.0 x.price.0 (first_at_one_price x x) refl ∙ never_itself_at_one_price x.displayed x.stamp
 
 pub ranks_transitive : (buy : Bool) (x y z : Resting) → ranks_before buy x y ≡ true → ranks_before buy y z ≡ true → ranks_before buy x z ≡ true
 ranks_transitive buy x y z a b =

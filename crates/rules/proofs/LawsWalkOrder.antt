@@ -26,7 +26,7 @@ use Rattle.rules.proofs.LawsBest.{same_no_better, all_behind, all_holdings}
 use Rattle.rules.proofs.LawsHoldings.{Parts, parts_alike, keeping_all}
 use Rattle.rules.proofs.LawsInTurn.{takings_in_turn, in_turn_parts}
 use Rattle.rules.proofs.LawsTakings.{parts_within}
-use Rattle.rules.proofs.LawsRank.{or_transitive, at_one, transitive_at_one_price, never_itself_at_one_price, ranked_first, ranked_rest}
+use Rattle.rules.proofs.LawsRank.{or_transitive, at_one_lem, transitive_at_one_price, never_itself_at_one_price, ranked_first, ranked_rest}
 
 -- ── The rank of a holding in the walk ──
 
@@ -57,7 +57,7 @@ walks_transitive buy x y z a b =
 
 pub walks_not_itself : (buy : Bool) (x : Holding) → walks_before buy x x ≡ false
 walks_not_itself buy x =
-    at_one buy x.of.price.0 x.of.price.0 (part_first x.is_reserve x.is_reserve (first_at_one_price x.of x.of)) refl
+    at_one_lem buy x.of.price.0 x.of.price.0 (part_first x.is_reserve x.is_reserve (first_at_one_price x.of x.of)) refl
     ∙ same_part x.is_reserve
   where
     same_part : (r : Bool) → part_first r r (first_at_one_price x.of x.of) ≡ false

@@ -33,10 +33,10 @@ module _ {B : Type 0} (give : Resting → List B) where
   past (also p a) h post = rw p (past a h post)
 
   -- of one more nothing is
-  one_more : {x : Resting} → give x ≡ [] → {s r : List Resting} → Added x s r → gathered give r ≡ gathered give s
+  one_more_lem : {x : Resting} → give x ≡ [] → {s r : List Resting} → Added x s r → gathered give r ≡ gathered give s
   unfolding gathered
-  one_more e here = rw e
-  one_more e (later {y = y} a) = ap (λ (l : List B). give y ++ l) (one_more e a)
+  one_more_lem e here = rw e
+  one_more_lem e (later {y = y} a) = ap (λ (l : List B). give y ++ l) (one_more_lem e a)
 
   -- of all nothing is
   silence : {s : List Resting} → All (λ (h : Resting). give h ≡ []) s → gathered give s ≡ []
@@ -113,7 +113,7 @@ module _ (fate : Resting → Fate) (n : Number) (k : ℕ) (buy : Bool) (at : ℕ
 
   staying_gone : kept_by (fate h) h ≡ [] → staying fate s ≡ staying fate others
   unfolding staying
-  staying_gone gone = one_more (λ (x : Resting). kept_by (fate x) x) gone (added_others at s h is)
+  staying_gone gone = one_more_lem (λ (x : Resting). kept_by (fate x) x) gone (added_others at s h is)
 
   -- what is gathered of none that stays
   gathered_one : {B : Type 0} (give : Resting → List B) → ((x : Resting) → fate x ≡ Stays → give x ≡ []) → (f : Fate) → fate h ≡ f → SetStays fate (stamp n k) f
@@ -123,7 +123,7 @@ module _ (fate : Resting → Fate) (n : Number) (k : ℕ) (buy : Bool) (at : ℕ
   gathered_one give silent (IsSet new) e i =
       let x = stamped_as (stamp n k) new in
       ap (gathered give) is ∙ past give (all_alike silent passed) h (drop (at + 1) s)
-      ∙ rw (one_more give (silent x i) (added_insert buy x others))
+      ∙ rw (one_more_lem give (silent x i) (added_insert buy x others))
 
   module _ (i : SetStays fate (stamp n k) (fate h)) where
     pub told_one : told fate s ≡ told_by (fate h) h ++ told fate (settled_at n k buy (fate h) at s)

@@ -1,6 +1,8 @@
 // Resting orders of one side that are settled other than by executions, in place, one after the other: each stays, is cancelled, or is set
 // anew and takes its place again (rules/specs/Settling). One function for both sides of the market, and for whatever settles them.
+
 #![tactic(auto)]
+
 ghost use Rattle.std.specs.Prelude.{true, ◌≡◌, ◌+◌, ◌≤◌, ◌<◌, length};
 ghost use Rattle.basics.specs.Bytes.{onto_from};
 ghost use Rattle.basics.specs.Lists.{remove_at, All};

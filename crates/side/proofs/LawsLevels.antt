@@ -45,19 +45,19 @@ by_level : (buy : Bool) (p q : ℕ) (d e : Bool) → p < price_bound → q < pri
     → (if not (eqb p q) then if buy then ltb q p else ltb p q else if not (beq d e) then d else false) ≡ ltb (level_at buy p d) (level_at buy q e)
 by_level buy p q d e l m =
     ⊎_elim
-    (λ (u : eqb p q ≡ true). let same = eqb-true p q u in rw (u, same) (at_one buy d e))
+    (λ (u : eqb p q ≡ true). let same = eqb-true p q u in rw (u, same) (at_one_lem buy d e))
     (λ (u : eqb p q ≡ false). rw u (apart buy (eqb-false p q u)))
     (holds_or_not (eqb p q))
   where
-    at_one : (buy d e : Bool) → (if not (beq d e) then d else false) ≡ ltb (level_at buy q d) (level_at buy q e)
-    at_one true true true = sym (le-ltb (level_at true q true) (level_at true q true) (omega arith))
-    at_one true true false = sym (lt-ltb (level_at true q true) (level_at true q false) (omega arith))
-    at_one true false true = sym (le-ltb (level_at true q false) (level_at true q true) (omega arith))
-    at_one true false false = sym (le-ltb (level_at true q false) (level_at true q false) (omega arith))
-    at_one false true true = sym (le-ltb (level_at false q true) (level_at false q true) (omega arith))
-    at_one false true false = sym (lt-ltb (level_at false q true) (level_at false q false) (omega arith))
-    at_one false false true = sym (le-ltb (level_at false q false) (level_at false q true) (omega arith))
-    at_one false false false = sym (le-ltb (level_at false q false) (level_at false q false) (omega arith))
+    at_one_lem : (buy d e : Bool) → (if not (beq d e) then d else false) ≡ ltb (level_at buy q d) (level_at buy q e)
+    at_one_lem true true true = sym (le-ltb (level_at true q true) (level_at true q true) (omega arith))
+    at_one_lem true true false = sym (lt-ltb (level_at true q true) (level_at true q false) (omega arith))
+    at_one_lem true false true = sym (le-ltb (level_at true q false) (level_at true q true) (omega arith))
+    at_one_lem true false false = sym (le-ltb (level_at true q false) (level_at true q false) (omega arith))
+    at_one_lem false true true = sym (le-ltb (level_at false q true) (level_at false q true) (omega arith))
+    at_one_lem false true false = sym (lt-ltb (level_at false q true) (level_at false q false) (omega arith))
+    at_one_lem false false true = sym (le-ltb (level_at false q false) (level_at false q true) (omega arith))
+    at_one_lem false false false = sym (le-ltb (level_at false q false) (level_at false q false) (omega arith))
 
     apart : (buy : Bool) → (p ≡ q → ⊥) → (if buy then ltb q p else ltb p q) ≡ ltb (level_at buy p d) (level_at buy q e)
     apart true ne =

@@ -1,6 +1,8 @@
 // One side of the book in place. Here what is looked for on it: the order of a number, and the place of a new order by its rank
 // (01, The book).
+
 #![tactic(auto)]
+
 pub mod places;
 pub mod prices;
 pub mod rows;

@@ -1,7 +1,9 @@
 // Runs a day from standard input twice over, line by line: through the book by value, and through the book with one side lent as a
 // slice of records (01, The book). After each line both must have said the same and left the same book; then what the line prints
 // is written, as the program writes it. At the first difference the line `differs` is written, and nothing more.
+
 #![tactic(auto)]
+
 ghost use Rattle.std.specs.Prelude.{◌≡◌, ◌≤◌, ◌<◌, length};
 
 use book::{Book, Reply, Side};

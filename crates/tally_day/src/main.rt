@@ -1,6 +1,8 @@
 // Tallies one order over a day's event lines (02, W1), for a broker's clerk: the lines on standard input, the order's number as the
 // argument, one line out. What goes wrong is told on standard error alone.
+
 #![tactic(auto)]
+
 ghost use Rattle.std.specs.Prelude.{◌≡◌, ◌≤◌, ◌<◌, length, take};
 ghost use Rattle.command_lines.specs.Pieces.{part_kept, after_lines, after_part};
 ghost use Rattle.rules.specs.Day.{cut};

@@ -274,16 +274,16 @@ in_below j i zero ts l = refl
 in_below j i (suc n) [] l = refl
 in_below j i (suc n) (t ∷ ts) l = rw (ne_eqb i j (λ e. omega arith)) (omega (arith, in_below j (i + 1) n ts (omega arith)))
 
-in_order : (i k n : ℕ) (ts : List ℕ) → length ts ≤ n → taken_in (i + k) (up_from i n) ts ≡ get_or ts k 0
+in_order_lem : (i k n : ℕ) (ts : List ℕ) → length ts ≤ n → taken_in (i + k) (up_from i n) ts ≡ get_or ts k 0
 unfolding taken_in up_from
-in_order i k zero [] l = refl
-in_order i k zero (t ∷ ts) l = let z : ⊥ = omega arith in absurd z
-in_order i k (suc n) [] l = refl
-in_order i zero (suc n) (t ∷ ts) l =
+in_order_lem i k zero [] l = refl
+in_order_lem i k zero (t ∷ ts) l = let z : ⊥ = omega arith in absurd z
+in_order_lem i k (suc n) [] l = refl
+in_order_lem i zero (suc n) (t ∷ ts) l =
     rw (eq-eqb i (i + 0) (omega arith)) (omega (arith, in_below (i + 0) (i + 1) n ts (omega arith)))
-in_order i (suc k) (suc n) (t ∷ ts) l =
+in_order_lem i (suc k) (suc n) (t ∷ ts) l =
     let e : i + suc k ≡ i + 1 + k = omega arith in
-    rw (ne_eqb i (i + suc k) (λ z. omega arith), e) (omega (arith, in_order (i + 1) k n ts (omega arith)))
+    rw (ne_eqb i (i + suc k) (λ z. omega arith), e) (omega (arith, in_order_lem (i + 1) k n ts (omega arith)))
 
 -- the shown part of an order gives before its reserve, and no more than it holds
 abbrev pub Orderly : Resting → ℕ → ℕ → Type 0
@@ -345,6 +345,6 @@ takings_after s ts orderly =
     ∙ rw (placed_holdings 0 s, placed_places false 0 s, placed_places true 0 s)
     (omega (
       arith,
-      in_order 0 k (length s) (taken_of false (holdings s) ts) (omega (arith, long.0)),
-      in_order 0 k (length s) (taken_of true (holdings s) ts) (omega (arith, long.1)),
+      in_order_lem 0 k (length s) (taken_of false (holdings s) ts) (omega (arith, long.0)),
+      in_order_lem 0 k (length s) (taken_of true (holdings s) ts) (omega (arith, long.1)),
     )))

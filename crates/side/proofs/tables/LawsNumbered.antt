@@ -60,7 +60,7 @@ module _ (n : ℕ) (x : List ℕ) (fits : n ≤ places_aSide) (numbered : Number
   numbered_names = record {
     long = numbered.long;
     in_table = λ j p. none j p;
-    once = λ j. omega (arith, named_at j places_aSide (omega arith), at_most_one (numbered_at n j) places_aSide);
+    once = λ j. omega (arith, named_at j places_aSide (omega arith), at_most_one_lem (numbered_at n j) places_aSide);
   }
     where
       none : (j : ℕ) → places_aSide ≤ j → times j (ranked places_aSide x) ≡ 0
@@ -69,8 +69,8 @@ module _ (n : ℕ) (x : List ℕ) (fits : n ≤ places_aSide) (numbered : Number
           let e : numbered_at n j ≡ j = turned_past n j (omega arith) in
           omega (arith, rw (e, le-ltb j places_aSide p) at h)
 
-      at_most_one : (k m : ℕ) → (if ltb k m then 1 else 0) ≤ 1
-      at_most_one k m =
+      at_most_one_lem : (k m : ℕ) → (if ltb k m then 1 else 0) ≤ 1
+      at_most_one_lem k m =
           ⊎_elim
           (λ (l : k < m). rw (lt-ltb k m l) (omega arith))
           (λ (l : m ≤ k). rw (le-ltb k m l) (omega arith))

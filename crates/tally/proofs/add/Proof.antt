@@ -50,7 +50,7 @@ returns-3 c =
     let a = c.before.before.before.before.before.before.before.args in
     let within : a.t.executed.0 + a.executed ≤ largest = omega arith in
     let within-too : a.t.cancelled.0 + a.cancelled ≤ largest = omega arith in
-    rw (le-ltb _ _ within, le-ltb _ _ within-too, c.before.before.one_more.ensures)
+    rw (le-ltb _ _ within, le-ltb _ _ within-too, c.before.before.one_more_lem.ensures)
 
 pub add_spec : {M : Type 1} → statement M
 add_spec =

@@ -1,8 +1,8 @@
--- `tally::one_more` meets its contract: each way out is the case that its test names. Assumes nothing.
+-- `tally::one_more_lem` meets its contract: each way out is the case that its test names. Assumes nothing.
 use borrow.Author.Rules.{rules}
 use borrow.Author.Tests.{lt-ltb, le-ltb}
-use Rattle.tally.proofs.one_more.Statement.{statement}
-use Rattle.tally.proofs.one_more.Tie as tie
+use Rattle.tally.proofs.one_more_lem.Statement.{statement}
+use Rattle.tally.proofs.one_more_lem.Tie as tie
 
 add-result : tie.Need-overflow-add-result
 add-result c = search rules

@@ -7,7 +7,7 @@ one-more-requires : tie.Need-one-more-requires
 one-more-requires c κs = search rules
 
 returns : tie.Need-returns
-returns c = rw c.before.before.one_more.ensures
+returns c = rw c.before.before.one_more_lem.ensures
 
 pub pass-over-spec : {M : Type 1} → statement M
 pass-over-spec = tie.close (tie.spec one-more-requires returns)

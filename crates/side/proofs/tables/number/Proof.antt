@@ -42,9 +42,9 @@ loop-less : tie.Need-loop-smaller invariant-loop decreases-loop
 loop-less c = search rules
 
 -- one place more
-one_more : (n i v : ℕ) (x : List ℕ) → i < length x → v ≡ numbered_at n i → ((k : ℕ) → k < i → get_or x k 0 ≡ numbered_at n k)
+one_more_lem : (n i v : ℕ) (x : List ℕ) → i < length x → v ≡ numbered_at n i → ((k : ℕ) → k < i → get_or x k 0 ≡ numbered_at n k)
     → (k : ℕ) → k < i + 1 → get_or (set x i v) k 0 ≡ numbered_at n k
-one_more n i v x l e before k m =
+one_more_lem n i v x l e before k m =
     ⊎_elim
     (λ (p : k < i). get_or-set_other x i k v 0 (λ (q : k ≡ i). omega (arith, q, p)) ∙ before k p)
     (λ (p : i ≤ k).
@@ -59,7 +59,7 @@ loop-again c =
     let i = l.invariant in (
       omega arith,
       length-set l.x l.i c.numbered.result ∙ i.1,
-      one_more a.n l.i c.numbered.result l.x (omega (arith, i.1)) c.numbered.ensures.0 i.2,
+      one_more_lem a.n l.i c.numbered.result l.x (omega (arith, i.1)) c.numbered.ensures.0 i.2,
     )
 
 returns : tie.Need-returns invariant-loop decreases-loop
