@@ -10,7 +10,7 @@ use native.Mathlib.Omega.{arith}
 use borrow.Author.Tests.{leb-true, eqb-true}
 use Rattle.basics.specs.Lists.{every}
 use Rattle.basics.proofs.LawsChoice.{and_left, and_right}
-use Rattle.rules.specs.Book.{Places, places_aSide, is_unused, places_sound, orders_in, book_in, sound, record_sound}
+use Rattle.rules.specs.Book.{Places, places_a_side, is_unused, places_sound, orders_in, book_in, sound, record_sound}
 use Rattle.side.specs.Table.{row_of, side, Holds, Shows}
 use Rattle.side.proofs.rows.LawsTable.{orders_rows}
 use Rattle.side.proofs.rows.LawsShown.{shown_holds, shown_side}
@@ -27,14 +27,14 @@ record_as b h t u e f g = rw (e, f, g, orders_rows b.buys.places, orders_rows b.
 
 -- places that are sound have orders in the first of them, and no others
 module _ (p : Places) (is_sound : places_sound p ≡ true) where
-  both : (leb p.used places_aSide && eqb (length p.places) places_aSide) ≡ true
-  both = and_left (leb p.used places_aSide && eqb (length p.places) places_aSide) (every is_unused (drop p.used p.places)) is_sound
+  both : (leb p.used places_a_side && eqb (length p.places) places_a_side) ≡ true
+  both = and_left (leb p.used places_a_side && eqb (length p.places) places_a_side) (every is_unused (drop p.used p.places)) is_sound
 
-  used_fits : p.used ≤ places_aSide
-  used_fits = leb-true p.used places_aSide (and_left (leb p.used places_aSide) (eqb (length p.places) places_aSide) both)
+  used_fits : p.used ≤ places_a_side
+  used_fits = leb-true p.used places_a_side (and_left (leb p.used places_a_side) (eqb (length p.places) places_a_side) both)
 
-  all_places : length p.places ≡ places_aSide
-  all_places = eqb-true (length p.places) places_aSide (and_right (leb p.used places_aSide) (eqb (length p.places) places_aSide) both)
+  all_places : length p.places ≡ places_a_side
+  all_places = eqb-true (length p.places) places_a_side (and_right (leb p.used places_a_side) (eqb (length p.places) places_a_side) both)
 
   -- loaded into a table, with a numbered index beside it, they are the side that stands there
   module _ (x : List ℕ) (t : List (List ℕ)) (numbered : Numbered p.used x) (loaded : t ≡ map row_of p.places) where
@@ -52,7 +52,7 @@ module _ (p : Places) (is_sound : places_sound p ≡ true) where
 
 -- the counts of a sound book fit its sides
 module _ (b : value.Book) (is_sound : record_sound (record_in b) ≡ true) (h : Head) (head : h ≡ head_in b) where
-  pub counts_fit : (h.buys ≤ places_aSide) × (h.sells ≤ places_aSide)
+  pub counts_fit : (h.buys ≤ places_a_side) × (h.sells ≤ places_a_side)
   unfolding record_sound
   counts_fit =
       let r = record_in b in

@@ -15,7 +15,7 @@ use Rattle.kinds.specs.Kinds.{half_above, half_below}
 use Rattle.rules.specs.declared.Order.{Order}
 use Rattle.rules.specs.declared.Resting.{Resting}
 use Rattle.rules.specs.Holdings.{Holding, walks_before}
-use Rattle.rules.specs.Working.{Met, buying, beyond, is_displayed_at, is_locked, half_aCent_the_incoming_way, execution_price}
+use Rattle.rules.specs.Working.{Met, buying, beyond, is_displayed_at, is_locked, half_a_cent_the_incoming_way, execution_price}
 use Rattle.rules.proofs.LawsWalkOrder.{walks_price}
 use Rattle.soundness.proofs.LawsApart.{Clear}
 use Rattle.soundness.proofs.LawsRests.{lock_beyond}
@@ -73,7 +73,7 @@ given_here o m is_side h some =
     (λ t. under_a_lock (locked_is m.own h t))
     (λ t. its_own (λ l. true≢false (sym (is_locked_lem m.own h l) ∙ t)))
   where
-    under_a_lock : Locked m.own h → PriceHere o m.own h (half_aCent_the_incoming_way (buying o) h.price)
+    under_a_lock : Locked m.own h → PriceHere o m.own h (half_a_cent_the_incoming_way (buying o) h.price)
     under_a_lock l =
         by_choice (PriceHere o m.own h) (buying o)
         (λ b. half_over {price = half_above h.price} l (eqb-true o.side 0 b) refl)

@@ -22,7 +22,7 @@ use Rattle.rules.specs.declared.Order.{Order}
 use Rattle.rules.specs.declared.Reading.{Reading}
 use Rattle.rules.specs.declared.Reading.TheVariants as reading
 use Rattle.rules.specs.declared.Resting.{Resting}
-use Rattle.rules.specs.Book.{Book, BookRecord, places_aSide, book_in, sound, places_sound, record_sound, shares_left}
+use Rattle.rules.specs.Book.{Book, BookRecord, places_a_side, book_in, sound, places_sound, record_sound, shares_left}
 use Rattle.rules.specs.CommandLines.{command_in}
 use Rattle.rules.specs.Commands.{does}
 use Rattle.rules.specs.Day.{printed}
@@ -190,7 +190,7 @@ module _ (n : Number) (time : ℕ) (b : Book) (o : Order) where
 
 -- ── A command ──
 
-opposite_fits_lem : (buy : Bool) (b : Book) → sound b ≡ true → length (opposite_side buy b) ≤ places_aSide
+opposite_fits_lem : (buy : Bool) (b : Book) → sound b ≡ true → length (opposite_side buy b) ≤ places_a_side
 opposite_fits_lem true b s = (sound_is b s).sells_fit
 opposite_fits_lem false b s = (sound_is b s).buys_fit
 

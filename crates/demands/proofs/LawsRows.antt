@@ -27,7 +27,7 @@ use Rattle.rules.specs.declared.Ending.{Ending}
 use Rattle.rules.specs.declared.Ending.TheVariants.{Filled, Rests, Cancels}
 use Rattle.rules.specs.declared.Order.{Order}
 use Rattle.rules.specs.declared.Resting.{Resting}
-use Rattle.rules.specs.Book.{Book, BookRecord, book_in, away_in_range, opening, closing, places_aSide}
+use Rattle.rules.specs.Book.{Book, BookRecord, book_in, away_in_range, opening, closing, places_a_side}
 use Rattle.rules.specs.Commands.{is_number}
 use Rattle.rules.specs.Instructions.{displayed, market, reserve, has, needs, lawful}
 use Rattle.rules.specs.Refusals.{Refusal, is_close, untimely, carries_floor, carries_minimum, order_lawful, order_price_in_range, carried_in_range, order_in_range, is_resting, is_rest, rests_on_full_side, header_refusals, body_refusals}
@@ -235,9 +235,9 @@ module _ (r : BookRecord) (c : Command) where
   body_applies (body.Order o) is (later (here t)) = range_applies r c o is (not-true (order_in_range o) t)
   body_applies (body.Order o) is (later (later (here t))) =
       let rest = is_rest (ending o (met_by o (book_in r))) in
-      let full = leb places_aSide (length (own o (book_in r))) in
+      let full = leb places_a_side (length (own o (book_in r))) in
       let at = rest_price (ending o (met_by o (book_in r))) (and_left rest full t) in
-      side_full o is at.0 at.1 (leb-true places_aSide (length (own o (book_in r))) (and_right rest full t))
+      side_full o is at.0 at.1 (leb-true places_a_side (length (own o (book_in r))) (and_right rest full t))
   body_applies (body.Cancel n) is (here t) =
       let b = book_in r in
       let neither = or_neither (any (is_number n) b.buys) (any (is_number n) b.sells) (not-true (is_resting n b) t) in
@@ -314,4 +314,4 @@ module _ (r : BookRecord) (c : Command) where
   applies_gives (offer_outside away is out) = by_away away is (rw (away_not_within away.offer out) (and_none (away_in_range away.bid)))
   applies_gives (not_resting n is a) = by_its_body (body.Cancel n) is (here (ap not (found_on_neither n (book_in r).buys (book_in r).sells a)))
   applies_gives (side_full o is price rests full) =
-      by_its_body (body.Order o) is (later (later (here (rw rests (le-leb places_aSide (length (own o (book_in r))) full)))))
+      by_its_body (body.Order o) is (later (later (here (rw rests (le-leb places_a_side (length (own o (book_in r))) full)))))

@@ -32,7 +32,7 @@ use Rattle.rules.specs.Holdings.{holdings, executions, after}
 use Rattle.rules.specs.Instructions.{fok, ioc, post_only, has}
 use Rattle.rules.specs.Settling.{stamped_as, settled_side, first_move, told}
 use Rattle.rules.specs.Step.{answer_to}
-use Rattle.rules.specs.Working.{Met, buying, met_by, refill_fate, execution_price, half_aCent_the_incoming_way, is_locked, is_displayed_at, may_touch, least_of, walked, takings, remainder, reaches, beyond}
+use Rattle.rules.specs.Working.{Met, buying, met_by, refill_fate, execution_price, half_a_cent_the_incoming_way, is_locked, is_displayed_at, may_touch, least_of, walked, takings, remainder, reaches, beyond}
 use Rattle.rules.specs.Working.{seeks, meets_or_passes, still_meets, unless_it_meets, ending_with, ending, last_line}
 use Rattle.rules.proofs.LawsRank.{reaches_is}
 use Rattle.rules.proofs.LawsWalkOrder.{RefillSays, refill_says, refill_due, refill_not_due}
@@ -328,7 +328,7 @@ module _ (o : Order) (m : Met) where
       (holds_or_not (eqb left 0))
 
 -- a price that equals or passes an order's, but not the one half a cent further, is its price
-half_short : (buy : Bool) (p q : HalfCents) → reaches buy p q ≡ true → beyond buy p (half_aCent_the_incoming_way buy q) ≡ true → q.0 ≡ p.0
+half_short : (buy : Bool) (p q : HalfCents) → reaches buy p q ≡ true → beyond buy p (half_a_cent_the_incoming_way buy q) ≡ true → q.0 ≡ p.0
 half_short true p q r b =
     let l : q.0 ≤ p.0 = leb-true q.0 p.0 r in
     let k : p.0 < q.0 + 1 = ltb-true p.0 (q.0 + 1) b in

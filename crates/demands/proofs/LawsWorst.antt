@@ -16,7 +16,7 @@ use Rattle.kinds.specs.declared.HalfCents.{HalfCents}
 use Rattle.kinds.specs.declared.Number.{Number}
 use Rattle.rules.specs.declared.Event.TheVariants.{Rested}
 use Rattle.rules.specs.declared.Resting.{Resting}
-use Rattle.rules.specs.Book.{places_aSide, opening, in_rank_order, ranks_before, resting_in_range, numbers, apart, sound}
+use Rattle.rules.specs.Book.{places_a_side, opening, in_rank_order, ranks_before, resting_in_range, numbers, apart, sound}
 use Rattle.rules.specs.CommandLines.{empty, fits, Fits, order_kind}
 use Rattle.rules.specs.Commands.{does}
 use Rattle.rules.specs.Day.{printed}
@@ -67,7 +67,7 @@ unfolding reserves_from distinct
 reserves_distinct k zero = refl
 reserves_distinct k (suc n) = rw (reserves_above k (suc k) n (omega arith)) (reserves_distinct (suc k) n)
 
-worst_sound : (n : ℕ) → n ≤ places_aSide → sound (full_of_reserves n) ≡ true
+worst_sound : (n : ℕ) → n ≤ places_a_side → sound (full_of_reserves n) ≡ true
 unfolding in_rank_order apart
 worst_sound n fit =
     is_sound_lem (full_of_reserves n)
@@ -164,7 +164,7 @@ worst_does n =
 
 -- ── Its line is accepted ──
 
-module _ (n : ℕ) (fit : n ≤ places_aSide) where
+module _ (n : ℕ) (fit : n ≤ places_a_side) where
   next_fits : Fits (next_command n)
   next_fits = record {
     header = fits 1 order_kind (omega arith) (fits 4 (n + 1) (omega arith) (fits 4 opening (omega arith) empty));
@@ -195,6 +195,6 @@ module _ (n : ℕ) (fit : n ≤ places_aSide) where
   worst_printed = rw (worst_acts, command_in_line_of (next_command n) next_fits) (worst_does n)
 
 -- so with as many orders as a side has places
-pub worst_reached : (sound (full_of_reserves places_aSide) ≡ true) × (acts (full_of_reserves places_aSide) (next_line places_aSide) ≡ true)
-    × (length (printed (answer_to (full_of_reserves places_aSide) (next_line places_aSide))) ≡ worst_lines)
-worst_reached = (worst_sound places_aSide (omega arith), worst_acts places_aSide (omega arith), worst_printed places_aSide (omega arith))
+pub worst_reached : (sound (full_of_reserves places_a_side) ≡ true) × (acts (full_of_reserves places_a_side) (next_line places_a_side) ≡ true)
+    × (length (printed (answer_to (full_of_reserves places_a_side) (next_line places_a_side))) ≡ worst_lines)
+worst_reached = (worst_sound places_a_side (omega arith), worst_acts places_a_side (omega arith), worst_printed places_a_side (omega arith))

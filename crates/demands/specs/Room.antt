@@ -7,14 +7,14 @@ use Rattle.rules.specs.declared.Carried.TheVariants.{Nothing}
 use Rattle.rules.specs.declared.Command.{Command}
 use Rattle.rules.specs.declared.Order.{Order}
 use Rattle.rules.specs.declared.Resting.{Resting}
-use Rattle.rules.specs.Book.{Book, places_aSide, opening, stamp}
+use Rattle.rules.specs.Book.{Book, places_a_side, opening, stamp}
 use Rattle.rules.specs.CommandLines.{line_of}
 use Rattle.rules.specs.Instructions.{day, displayed, price_adjust}
 
 -- the most that one command writes (02, W4): every order of a full side gives with its shown part and its reserve, an execution each, and
 -- one line more
 abbrev pub worst_lines : ℕ
-worst_lines = 70 * places_aSide + 27
+worst_lines = 70 * places_a_side + 27
 
 -- ── Where it is reached ──
 

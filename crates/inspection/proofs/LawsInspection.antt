@@ -15,7 +15,7 @@ use Rattle.basics.proofs.LawsChoice.{holds_or_not, or_neither}
 use Rattle.kinds.specs.declared.Number.{Number}
 use Rattle.side.specs.Table.{order_of, loaded}
 use Rattle.rules.specs.declared.Resting.{Resting}
-use Rattle.rules.specs.Book.{numbers, places_aSide, opening, closing, resting_in_range, is_unused, away_in_range, in_rank_order, apart, book_in, sound, record_sound}
+use Rattle.rules.specs.Book.{numbers, places_a_side, opening, closing, resting_in_range, is_unused, away_in_range, in_rank_order, apart, book_in, sound, record_sound}
 use Rattle.side.specs.declared.tables.Head.{Head}
 use Rattle.side.specs.Tables.{record_on}
 use Rattle.inspection.specs.Inspection.{none_of, ranks_before_next, place_sound, side_sound, head_sound}
@@ -124,26 +124,26 @@ regroup true true true true true true true true true true o c b w z = refl
 
 -- ── The record on a header and two tables ──
 
-pub both_fit : (n m : ℕ) → (ltb places_aSide n || ltb places_aSide m) ≡ false → (n ≤ places_aSide) × (m ≤ places_aSide)
+pub both_fit : (n m : ℕ) → (ltb places_a_side n || ltb places_a_side m) ≡ false → (n ≤ places_a_side) × (m ≤ places_a_side)
 both_fit n m fit =
-    (ltb-false places_aSide n (or_neither (ltb places_aSide n) (ltb places_aSide m) fit).0, ltb-false places_aSide m (or_neither (ltb places_aSide n) (ltb places_aSide m) fit).1)
+    (ltb-false places_a_side n (or_neither (ltb places_a_side n) (ltb places_a_side m) fit).0, ltb-false places_a_side m (or_neither (ltb places_a_side n) (ltb places_a_side m) fit).1)
 
-length_used : (n : ℕ) (t : List (List ℕ)) → length t ≡ places_aSide → n ≤ places_aSide → length (take n (map order_of t)) ≡ n
+length_used : (n : ℕ) (t : List (List ℕ)) → length t ≡ places_a_side → n ≤ places_a_side → length (take n (map order_of t)) ≡ n
 length_used n t whole fit = let e = length-map t order_of in length-take-le n (map order_of t) (omega arith)
 
 module _ (h : Head) (t u : List (List ℕ)) where
   -- a count is above the limit
-  pub over_full : (ltb places_aSide h.buys || ltb places_aSide h.sells) ≡ true → record_sound (record_on h t u) ≡ false
+  pub over_full : (ltb places_a_side h.buys || ltb places_a_side h.sells) ≡ true → record_sound (record_on h t u) ≡ false
   unfolding record_sound
   over_full over =
       ⊎_elim
-      (λ (p : ltb places_aSide h.buys ≡ true). rw (lt-leb h.buys places_aSide (ltb-true places_aSide h.buys p)))
-      (λ (p : ltb places_aSide h.buys ≡ false).
-      let q : ltb places_aSide h.sells ≡ true = sym (ap (λ (b : Bool). b || ltb places_aSide h.sells) p) ∙ over in
-      rw (lt-leb h.sells places_aSide (ltb-true places_aSide h.sells q), and-false))
-      (holds_or_not (ltb places_aSide h.buys))
+      (λ (p : ltb places_a_side h.buys ≡ true). rw (lt-leb h.buys places_a_side (ltb-true places_a_side h.buys p)))
+      (λ (p : ltb places_a_side h.buys ≡ false).
+      let q : ltb places_a_side h.sells ≡ true = sym (ap (λ (b : Bool). b || ltb places_a_side h.sells) p) ∙ over in
+      rw (lt-leb h.sells places_a_side (ltb-true places_a_side h.sells q), and-false))
+      (holds_or_not (ltb places_a_side h.buys))
 
-  module _ (whole_buys : length t ≡ places_aSide) (whole_sells : length u ≡ places_aSide) (fit : (ltb places_aSide h.buys || ltb places_aSide h.sells) ≡ false) where
+  module _ (whole_buys : length t ≡ places_a_side) (whole_sells : length u ≡ places_a_side) (fit : (ltb places_a_side h.buys || ltb places_a_side h.sells) ≡ false) where
     -- what is left once the counts are at most the limit
     pub inspected : record_sound (record_on h t u)
         ≡ (side_sound true h.held.last (numbers (loaded h.sells u)) h.buys (map order_of t)
@@ -172,8 +172,8 @@ module _ (h : Head) (t u : List (List ℕ)) where
           length-append buys sells,
           length_used h.buys t whole_buys fits.0,
           length_used h.sells u whole_sells fits.1,
-          le-leb h.buys places_aSide fits.0,
-          le-leb h.sells places_aSide fits.1,
+          le-leb h.buys places_a_side fits.0,
+          le-leb h.sells places_a_side fits.1,
           no_orders h.buys h.sells,
         )
         (regroup

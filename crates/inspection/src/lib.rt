@@ -6,7 +6,7 @@ ghost use Rattle.std.specs.Prelude.{[], map, ◌≡◌, ◌+◌, ◌-◌, ◌≤
 ghost use Rattle.basics.specs.Lists.{any};
 ghost use Rattle.kinds.specs.Kinds.{shares, shares_in_range};
 ghost use Rattle.side.specs.Table.{order_of, loaded};
-ghost use Rattle.rules.specs.Book.{numbers, places_aSide, shares_left, floor_in_range, minimum_in_range, resting_in_range, apart, record_sound};
+ghost use Rattle.rules.specs.Book.{numbers, places_a_side, shares_left, floor_in_range, minimum_in_range, resting_in_range, apart, record_sound};
 ghost use Rattle.side.specs.Tables.{record_on};
 ghost use Rattle.inspection.specs.Inspection.{ranks_before_next, place_sound, side_sound, head_sound};
 
@@ -76,7 +76,7 @@ fn in_range(last: Number, o: Resting) -> bool
 
 // Whether the order ranks before the one at place `next`, if there is one.
 fn ranks_before_next(t: &Rows, n: usize, next: usize, buying: bool, o: Resting) -> bool
-    requires { n ≤ places_aSide }
+    requires { n ≤ places_a_side }
     ensures { result ≡ ranks_before_next buying o (drop next (loaded n t.now)) }
 {
     rows::whole(t);
@@ -88,7 +88,7 @@ fn ranks_before_next(t: &Rows, n: usize, next: usize, buying: bool, o: Resting) 
 
 // Whether an order from place `from` on has the number.
 fn has_number(t: &Rows, n: usize, from: usize, number: Number) -> bool
-    requires { (n ≤ places_aSide) × (from ≤ n) }
+    requires { (n ≤ places_a_side) × (from ≤ n) }
     ensures { result ≡ any (eqb number.0) (numbers (drop from (loaded n t.now))) }
 {
     rows::whole(t);
@@ -114,7 +114,7 @@ fn place_sound(
     m: usize,
     i: usize,
 ) -> bool
-    requires { (n ≤ places_aSide) × (m ≤ places_aSide) × (i < places_aSide) }
+    requires { (n ≤ places_a_side) × (m ≤ places_a_side) × (i < places_a_side) }
     ensures { result ≡ place_sound buying last (numbers (loaded m other.now)) (n - i) (order_of (get_or t.now i []))
         (drop (i + 1) (map order_of t.now)) }
 {
@@ -133,7 +133,7 @@ fn place_sound(
 
 // The same of all places of the side.
 pub fn side_sound(t: &Rows, n: usize, buying: bool, last: Number, other: &Rows, m: usize) -> bool
-    requires { (n ≤ places_aSide) × (m ≤ places_aSide) }
+    requires { (n ≤ places_a_side) × (m ≤ places_a_side) }
     ensures { result ≡ side_sound buying last (numbers (loaded m other.now)) n (map order_of t.now) }
 {
     rows::whole(t);
@@ -151,7 +151,7 @@ pub fn side_sound(t: &Rows, n: usize, buying: bool, last: Number, other: &Rows, 
 
 // Displayed never meets displayed, and nothing crosses: the best two tell (02, W6).
 fn are_apart(buys: &Rows, n: usize, sells: &Rows, m: usize) -> bool
-    requires { (n ≤ places_aSide) × (m ≤ places_aSide) }
+    requires { (n ≤ places_a_side) × (m ≤ places_a_side) }
     ensures { result ≡ apart (loaded n buys.now) (loaded m sells.now) }
 {
     rows::whole(buys);

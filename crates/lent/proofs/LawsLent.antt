@@ -21,13 +21,13 @@ use denote.Laws.{Is}
 use denote.Memory.{lone}
 use denote.RattleType.{RattleType}
 use denote.Struct.Laws as LL
-use Rattle.rules.specs.Book.{places_aSide}
+use Rattle.rules.specs.Book.{places_a_side}
 use Rattle.rules.specs.declared.Resting.{Resting}
 use Rattle.rules.specs.contracts.Resting as T
 use Rattle.rules.proofs.Resting.TheLaws as T'
 
 abbrev pub Records : RattleType
-Records = Array T.the_row places_aSide
+Records = Array T.the_row places_a_side
 
 abbrev pub resting : Ty
 resting = lone (T.the_row).mir
@@ -43,13 +43,13 @@ module _ {M : Type 1} {𝓤 : Ura M} (𝓛 : Logic 𝓤) where
   record_typed r u is = ((LL.lawful T.the_type T'.the_laws 𝓛).typed r _ is).0
 
   pub array_typed : (zs : List Resting) (w : Val) → Is Records zs (w ∷ []) → Holds (has_ty records w) × WT w
-  array_typed zs w is = ((Array-Lawful 𝓛 T.the_row (LL.lawful T.the_type T'.the_laws 𝓛) places_aSide).typed zs _ is).0
+  array_typed zs w is = ((Array-Lawful 𝓛 T.the_row (LL.lawful T.the_type T'.the_laws 𝓛) places_a_side).typed zs _ is).0
 
 pub by_test : {X : Type 1} (z : Bool) → (z ≡ true → X) → (z ≡ false → X) → X
 by_test true held failed = held refl
 by_test false held failed = failed refl
 
-pub fits : (i : ℕ) → i ≤ places_aSide → i < 2 ^ 64
+pub fits : (i : ℕ) → i ≤ places_a_side → i < 2 ^ 64
 fits i h = lt_of_le_of_lt h (lit< tt)
 
 module _ {A : Type 0} where

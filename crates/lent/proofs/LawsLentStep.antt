@@ -11,7 +11,7 @@ use borrow.Author.Tests.{eq-eqb, ne_eqb, eqb-true, eqb-false}
 use Rattle.basics.specs.Lists.{first_where}
 use Rattle.basics.proofs.LawsChoice.{holds_or_not}
 use Rattle.rules.specs.declared.Resting.{Resting}
-use Rattle.rules.specs.Book.{BookRecord, places_aSide, is_unused}
+use Rattle.rules.specs.Book.{BookRecord, places_a_side, is_unused}
 use Rattle.rules.specs.Refusals.{first_of, fit_refusals}
 use Rattle.rules.specs.Step.{Returned, step}
 use Rattle.book.specs.declared.Book as value
@@ -29,21 +29,21 @@ module _ (buys : Bool) (r : BookRecord) (table : List Resting) (line out : List 
   unfolding lent_step fits
   lent_unfit e =
       ⊎_elim
-      (λ (t : eqb (length table) places_aSide ≡ true). rw (e, t))
-      (λ (t : eqb (length table) places_aSide ≡ false). rw (e, t))
-      (holds_or_not (eqb (length table) places_aSide))
+      (λ (t : eqb (length table) places_a_side ≡ true). rw (e, t))
+      (λ (t : eqb (length table) places_a_side ≡ false). rw (e, t))
+      (holds_or_not (eqb (length table) places_a_side))
 
-  lent_short : length table ≢ places_aSide
+  lent_short : length table ≢ places_a_side
       → lent_step buys r table line out
       ≡ record { refusal = first_of (fit_refusals (length out) false); length = 0; book = r; table = table; out = out }
   unfolding lent_step fits
-  lent_short n = rw (ne_eqb (length table) places_aSide n)
+  lent_short n = rw (ne_eqb (length table) places_a_side n)
 
-  lent_fit : length table ≡ places_aSide → is_empty (side_of buys r) ≡ true
+  lent_fit : length table ≡ places_a_side → is_empty (side_of buys r) ≡ true
       → let s = step (with_places buys (places_lent table) r) line out in
       lent_step buys r table line out ≡ without_side buys s
   unfolding lent_step fits
-  lent_fit all empty = rw (empty, eq-eqb (length table) places_aSide all) (apart_is_lem buys r table line out empty)
+  lent_fit all empty = rw (empty, eq-eqb (length table) places_a_side all) (apart_is_lem buys r table line out empty)
 
 -- ── The same as the code has it ──
 
@@ -60,7 +60,7 @@ module _ (buys : Bool) (book : value.Book) (table : List Resting) (line out : Li
   worked_unfit e reply reply_is = rw (lent_unfit buys (record_in book) table line out e, reply_is) (refl, refl)
 
   -- the whole book's reply, taken apart
-  pub worked_fit : is_empty (side_of buys (record_in book)) ≡ true → length table ≡ places_aSide
+  pub worked_fit : is_empty (side_of buys (record_in book)) ≡ true → length table ≡ places_a_side
       → let s = step (with_places buys (places_lent table) (record_in book)) line out in
       (reply : Reply) → reply ≡ reply_of s → (out' : List ℕ) → out' ≡ s.out
       → (w : GivenBack) → w ≡ apart_of buys reply
@@ -71,7 +71,7 @@ module _ (buys : Bool) (book : value.Book) (table : List Resting) (line out : Li
   -- ── The same of the entry: the reply, what is left of the table, and what is left of the room ──
 
   -- the table has not a record for each place: it is left, and so is the room
-  pub answered_short : length table ≢ places_aSide → (r : Reply) → r ≡ refused book (length out) → (r ≡ reply_in it) × (table ≡ it.table) × (out ≡ it.out)
+  pub answered_short : length table ≢ places_a_side → (r : Reply) → r ≡ refused book (length out) → (r ≡ reply_in it) × (table ≡ it.table) × (out ≡ it.out)
   answered_short n r r_is = rw (lent_short buys (record_in book) table line out n, r_is) (refl, refl, refl)
 
   -- it is: what `work` returns on its records is taken apart
@@ -103,7 +103,7 @@ module _ (buys : Bool) (book : value.Book) (line out : List ℕ) where
 
   -- it is: what came of the lent side is put together again
   pub lending_counted : is_counted (side_of buys (record_in book)) ≡ true
-      → (places : List Resting) → places ≡ (side_of buys (record_in book)).places → length places ≡ places_aSide
+      → (places : List Resting) → places ≡ (side_of buys (record_in book)).places → length places ≡ places_a_side
       → (apart : value.Book) → apart ≡ book_with (with_places buys no_places (record_in book))
       → (worked : GivenBack) (out' : List ℕ)
       → (worked ≡ worked_of (lent_step buys (record_in apart) places line out)) × (out' ≡ (lent_step buys (record_in apart) places line out).out)

@@ -14,7 +14,7 @@ use Rattle.basics.specs.Lists.{every, first_where, All, also}
 use Rattle.basics.proofs.LawsChoice.{holds_or_not, and_left, and_right}
 use Rattle.kinds.specs.declared.Number.{Number}
 use Rattle.rules.specs.declared.Resting.{Resting}
-use Rattle.rules.specs.Book.{Places, BookRecord, places_aSide, unused, is_unused, places_sound, book_in, sound, record_sound}
+use Rattle.rules.specs.Book.{Places, BookRecord, places_a_side, unused, is_unused, places_sound, book_in, sound, record_sound}
 use Rattle.rules.specs.CommandLines.{command_in}
 use Rattle.rules.specs.Refusals.{first_of, least_room, line_refusals, fit_refusals, refusals}
 use Rattle.rules.specs.Step.{Returned, step, step_on}
@@ -49,12 +49,12 @@ count_is last (suc n) (h ∷ s) l (also r a) e = rw (used last h r) (ap suc (cou
 
 places_counted : (last : Number) (p : Places) → places_sound p ≡ true → All (InRange last) (take p.used p.places) → Counted p
 places_counted last p is_sound a =
-    let few = leb p.used places_aSide in
-    let all = eqb (length p.places) places_aSide in
+    let few = leb p.used places_a_side in
+    let all = eqb (length p.places) places_a_side in
     let rest = every is_unused (drop p.used p.places) in
     let both = and_left (few && all) rest is_sound in
-    let most = leb-true p.used places_aSide (and_left few all both) in
-    let long = eqb-true (length p.places) places_aSide (and_right few all both) in
+    let most = leb-true p.used places_a_side (and_left few all both) in
+    let long = eqb-true (length p.places) places_a_side (and_right few all both) in
     count_is last p.used p.places (omega (arith, most, long)) a (and_right (few && all) rest is_sound)
 
 -- either side of a sound record is so counted
@@ -89,15 +89,15 @@ empty_is : (p : Places) → is_empty p ≡ true → p ≡ no_places
 unfolding is_empty
 empty_is p e =
     let none = eqb p.used 0 in
-    let all = eqb (length p.places) places_aSide in
+    let all = eqb (length p.places) places_a_side in
     let both = and_left (none && all) (every is_unused p.places) e in
     let used = eqb-true p.used 0 (and_left none all both) in
-    let long = eqb-true (length p.places) places_aSide (and_right none all both) in
+    let long = eqb-true (length p.places) places_a_side (and_right none all both) in
     let each = and_right (none && all) (every is_unused p.places) e in
     let zeros = all_unused p.places each ∙ ap (λ (n : ℕ). replicate n unused) long in
     made used zeros
   where
-    made : {n : ℕ} {s : List Resting} → n ≡ 0 → s ≡ replicate places_aSide unused → record { used = n; places = s } ≡ no_places
+    made : {n : ℕ} {s : List Resting} → n ≡ 0 → s ≡ replicate places_a_side unused → record { used = n; places = s } ≡ no_places
     made f g = rw (f, g)
 
 -- so a book of which that side is empty is left when what was put in is taken out
@@ -113,14 +113,14 @@ side_put_in false r p = refl
 -- ── The same answer ──
 
 -- a line to the book with its side lent is the line to the book, taken apart
-pub lent_is_answer : (buys : Bool) (r : BookRecord) (line out : List ℕ) → Counted (side_of buys r) → length (side_of buys r).places ≡ places_aSide
+pub lent_is_answer : (buys : Bool) (r : BookRecord) (line out : List ℕ) → Counted (side_of buys r) → length (side_of buys r).places ≡ places_a_side
     → lent_step buys (with_places buys no_places r) (side_of buys r).places line out
     ≡ taken_apart buys (with_places buys no_places r) (side_of buys r).places (step r line out)
 unfolding lent_step fits
 lent_is_answer buys r line out counted all =
     let apart = with_places buys no_places r in
     let table = (side_of buys r).places in
-    rw (eq-eqb (length table) places_aSide all, taken_out buys r)
+    rw (eq-eqb (length table) places_a_side all, taken_out buys r)
     (ap (λ (x : BookRecord). taken_apart buys apart table (step x line out)) (put_in buys r counted))
 
 -- refusal 1 is given, or else 2

@@ -5,7 +5,7 @@ use Rattle.std.specs.Prelude.{ℕ, Bool, false, ◌&&◌, List, ◌≡◌, eqb, 
 use Rattle.basics.specs.Choice.{if◌then◌else◌}
 use Rattle.basics.specs.Lists.{every, first_where}
 use Rattle.rules.specs.declared.Resting.{Resting}
-use Rattle.rules.specs.Book.{Places, BookRecord, places_aSide, unused, is_unused}
+use Rattle.rules.specs.Book.{Places, BookRecord, places_a_side, unused, is_unused}
 use Rattle.rules.specs.Refusals.{first_of, fit_refusals}
 use Rattle.rules.specs.Step.{Returned, step}
 use Rattle.book.specs.declared.Reply.{Reply}
@@ -18,11 +18,11 @@ places_lent table = record { used = first_where is_unused table; places = table 
 
 -- a side with all places zero
 abbrev pub no_places : Places
-no_places = record { used = 0; places = replicate places_aSide unused }
+no_places = record { used = 0; places = replicate places_a_side unused }
 
 -- .. and of no count either: a record that tells of orders where all places are zero is none that 01 would lend
 unfoldable pub is_empty : Places → Bool
-is_empty p = eqb p.used 0 && eqb (length p.places) places_aSide && every is_unused p.places
+is_empty p = eqb p.used 0 && eqb (length p.places) places_a_side && every is_unused p.places
 
 -- a side's count is that of its leading records
 abbrev pub is_counted : Places → Bool
@@ -49,7 +49,7 @@ pub record Lent : Type 0 where
 
 -- the table can stand for that side
 unfoldable pub fits : Bool → BookRecord → List Resting → Bool
-fits buys r table = eqb (length table) places_aSide && is_empty (side_of buys r)
+fits buys r table = eqb (length table) places_a_side && is_empty (side_of buys r)
 
 -- what the core leaves, taken apart again: "A refusal leaves it untouched", and so the book
 abbrev pub taken_apart : Bool → BookRecord → List Resting → Returned → Lent

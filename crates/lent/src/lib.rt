@@ -6,7 +6,7 @@
 ghost use Rattle.std.specs.Prelude.{true, false, ◌≡◌, ◌<◌, length, get_or, set, replicate};
 ghost use Rattle.basics.specs.Lists.{first_where};
 ghost use Rattle.book.specs.Record.{record_in, book_with, places_on, side_with, reply_of};
-ghost use Rattle.rules.specs.Book.{places_aSide, unused, is_unused};
+ghost use Rattle.rules.specs.Book.{places_a_side, unused, is_unused};
 ghost use Rattle.rules.specs.Refusals.{first_of, fit_refusals};
 ghost use Rattle.rules.specs.Step.{step};
 ghost use Rattle.lent.specs.Lent.{places_lent, no_places, is_empty, is_counted, side_of, with_places, lent_step, worked_of, apart_of};
@@ -37,14 +37,14 @@ fn get(s: &[Resting], i: usize) -> Resting
 
 // An array of unused places.
 fn blank() -> [Resting; PLACES]
-    ensures { result ≡ replicate places_aSide unused }
+    ensures { result ≡ replicate places_a_side unused }
 {
     [rows::UNUSED; PLACES]
 }
 
 // The record at a place of an array.
 fn at(a: [Resting; PLACES], i: usize) -> Resting
-    requires { i < places_aSide }
+    requires { i < places_a_side }
     ensures { result ≡ get_or a i unused }
 {
     a[i]
@@ -52,7 +52,7 @@ fn at(a: [Resting; PLACES], i: usize) -> Resting
 
 // An array with one record changed.
 fn with(a: [Resting; PLACES], i: usize, o: Resting) -> [Resting; PLACES]
-    requires { i < places_aSide }
+    requires { i < places_a_side }
     ensures { result ≡ set a i o }
 {
     let mut b = a;
@@ -62,7 +62,7 @@ fn with(a: [Resting; PLACES], i: usize, o: Resting) -> [Resting; PLACES]
 
 // All records of a slice that has one for each place, by value.
 fn take(s: &[Resting]) -> [Resting; PLACES]
-    requires { length s.now ≡ places_aSide }
+    requires { length s.now ≡ places_a_side }
     ensures { result ≡ s.now }
 {
     let mut a = blank();
@@ -76,7 +76,7 @@ fn take(s: &[Resting]) -> [Resting; PLACES]
 
 // All records of such a slice written over.
 fn give(s: &mut [Resting], a: [Resting; PLACES])
-    requires { length s.old ≡ places_aSide }
+    requires { length s.old ≡ places_a_side }
     ensures { s.new ≡ a }
 {
     let mut i = 0;
@@ -91,7 +91,7 @@ fn give(s: &mut [Resting], a: [Resting; PLACES])
 // How many leading records are used: the place of the first that is all zero.
 fn used_in(places: [Resting; PLACES]) -> usize
     ensures value { result ≡ first_where is_unused places }
-    ensures places_len { length places ≡ places_aSide }
+    ensures places_len { length places ≡ places_a_side }
 {
     let mut i = 0;
     while i < PLACES {
@@ -161,7 +161,7 @@ fn take_out(book: Book, buys: bool) -> Book
 
 fn put_in(book: Book, buys: bool, places: [Resting; PLACES]) -> Book
     ensures value { result ≡ book_with (with_places buys (places_lent places) (record_in book)) }
-    ensures places_len { length places ≡ places_aSide }
+    ensures places_len { length places ≡ places_a_side }
 {
     let side = Side {
         used: used_in(places),
@@ -202,7 +202,7 @@ fn answer_whole(
     ensures value { result ≡ reply_of (step (with_places buys (places_lent places) (record_in book)) line.now out.old) }
     ensures out_after { out.new
         ≡ (step (with_places buys (places_lent places) (record_in book)) line.now out.old).out }
-    ensures places_len { length places ≡ places_aSide }
+    ensures places_len { length places ≡ places_a_side }
 {
     let whole = put_in(book, buys, places);
     whole.answer(line, out)

@@ -7,7 +7,7 @@ use Rattle.kinds.specs.Kinds.{largest, half_cents}
 use Rattle.rules.specs.declared.Away.{Away}
 use Rattle.rules.specs.declared.Order.{Order}
 use Rattle.rules.specs.Instructions.{iso, market, has}
-use Rattle.rules.specs.Working.{buying, beyond, limit_of, locking_price, absent, half_aCent_the_incoming_way}
+use Rattle.rules.specs.Working.{buying, beyond, limit_of, locking_price, absent, half_a_cent_the_incoming_way}
 
 -- the limit, or for a market order the farthest price that four bytes hold
 unfoldable pub farthest : Order → HalfCents
@@ -27,4 +27,4 @@ bound_of o away =
 -- the same for the prices at which orders rest: one at the locked price would execute half a cent beyond it, so it is within the bound only
 -- where the bound is farther than that price
 abbrev pub bound_under : Bool → HalfCents → HalfCents → HalfCents
-bound_under buy locked bound = if eqb bound.0 locked.0 then half_aCent_the_incoming_way (not buy) bound else bound
+bound_under buy locked bound = if eqb bound.0 locked.0 then half_a_cent_the_incoming_way (not buy) bound else bound

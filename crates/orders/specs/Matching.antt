@@ -11,7 +11,7 @@ use Rattle.rules.specs.declared.Event.{Event}
 use Rattle.rules.specs.declared.Order.{Order}
 use Rattle.rules.specs.declared.Resting.{Resting}
 use Rattle.side.specs.Table.{Shows}
-use Rattle.rules.specs.Book.{places_aSide, stamp, in_rank_order}
+use Rattle.rules.specs.Book.{places_a_side, stamp, in_rank_order}
 use Rattle.rules.specs.EventLines.{event_lines}
 use Rattle.rules.specs.Refusals.{is_rest}
 use Rattle.rules.specs.Holdings.{holdings, executions, after}
@@ -30,7 +30,7 @@ pub record Match : Type 0 where
 
 -- "the rules would rest a remainder and that side holds 64", with W5 256
 abbrev pub is_full : Ending → List Resting → Bool
-is_full end own = is_rest end && leb places_aSide (length own)
+is_full end own = is_rest end && leb places_a_side (length own)
 
 -- the sides and the events of `Working.accept`, or refusal 11 with the same sides
 unfoldable pub match_of : Order → Number → Met → Match

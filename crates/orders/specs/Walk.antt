@@ -6,7 +6,7 @@ use Rattle.basics.specs.Choice.{if◌then◌else◌}
 use Rattle.basics.specs.Lists.{total}
 use Rattle.kinds.specs.declared.HalfCents.{HalfCents}
 use Rattle.kinds.specs.Kinds.{half_cents, shares}
-use Rattle.rules.specs.Book.{places_aSide}
+use Rattle.rules.specs.Book.{places_a_side}
 use Rattle.rules.specs.Holdings.{walk}
 use Rattle.rules.specs.Working.{beyond}
 use Rattle.orders.specs.declared.cursor.Part.{Part}
@@ -14,7 +14,7 @@ use Rattle.orders.specs.declared.walk.Taking.{Taking}
 use Rattle.orders.specs.declared.walk.Walked.{Walked}
 
 abbrev pub most_takings : ℕ
-most_takings = 2 * places_aSide
+most_takings = 2 * places_a_side
 
 -- the price of a part is not beyond a bound
 abbrev pub is_within : Bool → HalfCents → Part → Bool
@@ -67,7 +67,7 @@ walked_with ks left at skipped = record { count = length ks; left = shares left;
 abbrev pub walked_of : (Part → Bool) → ℕ → List Part → Walked
 walked_of may want s =
     walked_with (takings_of may want s) (want - total (walk may part_gives want s)) (reached may 0 want s)
-    (first_skipped may places_aSide want s)
+    (first_skipped may places_a_side want s)
 
 -- ── Takings in a table ──
 

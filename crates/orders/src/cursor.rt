@@ -2,7 +2,7 @@
 // part at its rank, each reserve behind every other order at its price. A cursor goes from one part to the next and passes the orders
 // once; only where a price has a reserve does it pass that price's orders again, and look behind them once more for each reserve.
 ghost use Rattle.std.specs.Prelude.{◌≡◌, ◌≤◌, ◌<◌};
-ghost use Rattle.rules.specs.Book.{places_aSide};
+ghost use Rattle.rules.specs.Book.{places_a_side};
 ghost use Rattle.side.specs.Table.{side, Holds};
 ghost use Rattle.orders.specs.Cursor.{IsAt, Skips, LevelEnds, first_waiting, Follows};
 
@@ -79,7 +79,7 @@ fn next_reserve(x: &Index, t: &Rows, n: usize, c: Cursor) -> Following
 
 // The first order whose reserve waits, once the one at `at` has been reached.
 fn first_waiting(at: usize, waits: usize, reserve: Shares) -> usize
-    requires { at < places_aSide }
+    requires { at < places_a_side }
     ensures { result ≡ first_waiting at waits reserve.0 }
 {
     if (waits == at) & (reserve.0 == 0) {

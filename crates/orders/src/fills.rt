@@ -3,7 +3,7 @@ ghost use Rattle.std.specs.Prelude.{true, ◌≡◌, ◌+◌, ◌≤◌, ◌<◌
 ghost use Rattle.basics.specs.Choice.{if◌then◌else◌};
 ghost use Rattle.basics.specs.Lists.{All, every};
 ghost use Rattle.side.specs.Table.{side, Holds, Shows};
-ghost use Rattle.rules.specs.Book.{places_aSide};
+ghost use Rattle.rules.specs.Book.{places_a_side};
 ghost use Rattle.orders.specs.Walk.{most_takings, is_below, takings_in};
 ghost use Rattle.orders.specs.Fills.{Least, keeps, lessened, keepers, after_takings};
 
@@ -38,7 +38,7 @@ fn has_shares(o: Resting) -> bool
 
 // One more where the test holds.
 fn counted(to: usize, one: bool) -> usize
-    requires { to < places_aSide }
+    requires { to < places_a_side }
     ensures { result ≡ (if one then to + 1 else to) }
 {
     if one { to + 1 } else { to }

@@ -4,7 +4,7 @@ ghost use Rattle.std.specs.Prelude.{true, not, ◌++◌, ◌≡◌, ◌≤◌, �
 ghost use Rattle.basics.specs.Bytes.{onto};
 ghost use Rattle.basics.specs.Choice.{if◌then◌else◌};
 ghost use Rattle.side.specs.Table.{side, Holds, Shows};
-ghost use Rattle.rules.specs.Book.{places_aSide};
+ghost use Rattle.rules.specs.Book.{places_a_side};
 ghost use Rattle.rules.specs.EventLines.{event_lines};
 ghost use Rattle.rules.specs.Refusals.{is_rest, least_room};
 ghost use Rattle.kinds.specs.Kinds.{shares};
@@ -41,7 +41,7 @@ pub struct Finished {
 
 // How many orders its own side holds after an order's ending.
 fn places_after(end: Ending, n: usize) -> usize
-    requires { n ≤ places_aSide }
+    requires { n ≤ places_a_side }
     ensures { result ≡ n + (if is_rest end then 1 else 0) }
 {
     match end {
@@ -102,7 +102,7 @@ fn conclude(
     n: usize,
     out: &mut [u8],
 ) -> usize
-    requires { Holds n x.old t.old × (is_rest end ≡ true → n < places_aSide) × (27 ≤ length out.old)
+    requires { Holds n x.old t.old × (is_rest end ≡ true → n < places_a_side) × (27 ≤ length out.old)
         × MayRest (buying o) number end (side n x.old t.old) }
     ensures value { result ≡ length (event_lines (last_line number left.0 end)) }
     ensures shows { Shows (with_remainder number o left.0 end (side n x.old t.old)) x.new
@@ -136,7 +136,7 @@ fn finish(
     reached: usize,
     out: &mut [u8],
 ) -> Finished
-    requires { Holds n x.old own.old × (is_rest end ≡ true → n < places_aSide)
+    requires { Holds n x.old own.old × (is_rest end ≡ true → n < places_a_side)
         × MayRest (buying o) number end (side n x.old own.old) × Holds m y.old opposite.old
         × MayRefill (not (buying o)) number reached (side m y.old opposite.old)
         × (27 + 27 * m ≤ length out.old) }

@@ -2,7 +2,7 @@
 // and the price that a Day remainder seeks (step 4).
 ghost use Rattle.std.specs.Prelude.{◌≡◌, ◌-◌, ◌≤◌, ◌<◌};
 ghost use Rattle.kinds.specs.Kinds.{largest};
-ghost use Rattle.rules.specs.Working.{buying, limit_of, locking_price, half_aCent_the_incoming_way, one_cent_less_aggressive, adjusted, seeks};
+ghost use Rattle.rules.specs.Working.{buying, limit_of, locking_price, half_a_cent_the_incoming_way, one_cent_less_aggressive, adjusted, seeks};
 ghost use Rattle.side.specs.Table.{side, Holds};
 ghost use Rattle.orders.specs.Bound.{farthest, bound_of, bound_under};
 ghost use Rattle.orders.specs.Locks.{locked_price, executes_at};
@@ -33,7 +33,7 @@ pub(crate) fn locked_price(x: &Index, t: &Rows, n: usize) -> HalfCents
 
 fn half_a_cent(buy: bool, p: HalfCents) -> HalfCents
     requires { p.0 < largest }
-    ensures { result ≡ half_aCent_the_incoming_way buy p }
+    ensures { result ≡ half_a_cent_the_incoming_way buy p }
 {
     if buy {
         return p.half_above();

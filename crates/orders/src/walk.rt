@@ -1,7 +1,7 @@
 // A walk over one side of the book for a number of shares: what each part of its orders gives, one taking after the other.
 ghost use Rattle.std.specs.Prelude.{false, [], map, ◌≡◌, ◌+◌, ◌-◌, ◌<◌, min, length, get_or, set};
 ghost use Rattle.side.specs.Table.{side, Holds};
-ghost use Rattle.rules.specs.Book.{places_aSide};
+ghost use Rattle.rules.specs.Book.{places_a_side};
 ghost use Rattle.orders.specs.Cursor.{parts};
 ghost use Rattle.orders.specs.Walk.{most_takings, is_within, is_passed, part_gives, taking, taking_row, taking_in, laid, laid_at, walked_of, takings_of};
 
@@ -51,7 +51,7 @@ pub(crate) fn whole(took: &Takings)
 }
 
 fn put(took: &mut Takings, i: usize, k: Taking)
-    requires { (i < most_takings) × (k.place < places_aSide) }
+    requires { (i < most_takings) × (k.place < places_a_side) }
     ensures { took.new ≡ set took.old i (taking_row k) }
 {
     let place = k.place as u32;
@@ -97,7 +97,7 @@ pub(crate) fn first_of(a: usize, b: usize) -> usize
 
 // Takes from a part that is not skipped what it gives, as the next taking. One that gives nothing is no taking.
 fn take_from(took: &mut Takings, count: usize, left: Shares, p: Part) -> Taken
-    requires { (count < most_takings) × (p.place < places_aSide) × (is_passed left.0 p ≡ false) }
+    requires { (count < most_takings) × (p.place < places_a_side) × (is_passed left.0 p ≡ false) }
     ensures value { result ≡ record {
       count = count + length (taking p (part_gives left.0 p));
       left = record { 0 = left.0 - part_gives left.0 p };

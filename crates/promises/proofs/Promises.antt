@@ -23,7 +23,7 @@ use Rattle.rules.specs.declared.EventReading.TheVariants as event
 use Rattle.rules.specs.declared.Order.{Order}
 use Rattle.rules.specs.declared.Reading.TheVariants as reading
 use Rattle.rules.specs.declared.Resting.{Resting}
-use Rattle.rules.specs.Book.{Book, BookRecord, places_aSide, fresh, in_rank_order, apart, sound, book_in, record_of, record_sound}
+use Rattle.rules.specs.Book.{Book, BookRecord, places_a_side, fresh, in_rank_order, apart, sound, book_in, record_of, record_sound}
 use Rattle.rules.specs.CommandLines.{command_in, line_of, Fits}
 use Rattle.rules.specs.Commands.{does}
 use Rattle.rules.specs.Day.{printed, book_after, printed_of, output}
@@ -416,7 +416,7 @@ the_holdings_stand_in_rank buy s ranked = (holdings_shown s, holdings_reserves s
 -- ── W5: bigger sides ──
 
 -- "Raise 64 resting orders a side to 256, output room to 32,768 bytes.": rows 11 and 1 of `refused_exactly_when` say so in these numbers
-pub the_limits : (places_aSide ≡ 256) × (least_room ≡ 32768)
+pub the_limits : (places_a_side ≡ 256) × (least_room ≡ 32768)
 the_limits = (refl, refl)
 
 -- what is printed of any line to a sound book, the event lines of a command or a refusal's, has at most `worst_lines` bytes, 70 for each
@@ -429,8 +429,8 @@ pub the_most_that_a_call_writes : (r : BookRecord) (c : Call) → (returned r c)
 the_most_that_a_call_writes r c = room.returned_long r (reading_of c.asks) c.out
 
 -- this is reached by an order that walks through a full side of reserves, on a sound book
-pub the_most_is_printed : (sound (full_of_reserves places_aSide) ≡ true) × (acts (full_of_reserves places_aSide) (next_line places_aSide) ≡ true)
-    × (length (printed (answer_to (full_of_reserves places_aSide) (next_line places_aSide))) ≡ worst_lines)
+pub the_most_is_printed : (sound (full_of_reserves places_a_side) ≡ true) × (acts (full_of_reserves places_a_side) (next_line places_a_side) ≡ true)
+    × (length (printed (answer_to (full_of_reserves places_a_side) (next_line places_a_side))) ≡ worst_lines)
 the_most_is_printed = worst.worst_reached
 
 -- so the 8,192 bytes of W4 would not do, and 32,768 do

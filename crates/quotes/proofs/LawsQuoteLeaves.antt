@@ -11,7 +11,7 @@ use Rattle.basics.specs.Lists.{All}
 use Rattle.kinds.specs.declared.Number.{Number}
 use Rattle.rules.specs.declared.Away.{Away}
 use Rattle.rules.specs.declared.Body.TheVariants as body
-use Rattle.rules.specs.Book.{Book, places_aSide, stamp, in_rank_order, away_in_range, sound}
+use Rattle.rules.specs.Book.{Book, places_a_side, stamp, in_rank_order, away_in_range, sound}
 use Rattle.rules.specs.Commands.{with_accepted, with_away, quote_fate}
 use Rattle.rules.specs.EventLines.{event_lines}
 use Rattle.rules.specs.Refusals.{first_of, body_refusals}
@@ -56,8 +56,8 @@ module _ (n : Number) (time : ℕ) (away : Away) (b : Book) where
 -- what the moves of a side ask, from place k on
 pub record Ready (buy : Bool) (b : Book) (n : Number) (k : ℕ) (away : Away) : Type 0 where
   pub ranked : in_rank_order buy (own_side buy b) ≡ true
-  pub fits : length (own_side buy b) ≤ places_aSide
-  pub lines : length (event_lines (told (quote_fate away buy) (own_side buy b))) ≤ 27 * places_aSide
+  pub fits : length (own_side buy b) ≤ places_a_side
+  pub lines : length (event_lines (told (quote_fate away buy) (own_side buy b))) ≤ 27 * places_a_side
   pub priced : (locking_price buy away).0 < price_bound
   pub older : All (Older (stamp n k)) (own_side buy b)
   pub countable : All Countable (own_side buy b)

@@ -13,7 +13,7 @@ use Rattle.basics.proofs.LawsChoice.{holds_or_not}
 use Rattle.basics.proofs.LawsLists.{all_alike}
 use Rattle.kinds.specs.declared.Cents.{Cents}
 use Rattle.kinds.specs.declared.Number.{Number}
-use Rattle.kinds.specs.Kinds.{halves_aCent, highest_price}
+use Rattle.kinds.specs.Kinds.{halves_a_cent, highest_price}
 use Rattle.kinds.proofs.LawsRanges.{price_highest, resting_highest}
 use Rattle.rules.specs.declared.Away.{Away}
 use Rattle.rules.specs.declared.Resting.{Resting}
@@ -42,6 +42,6 @@ away_at_most p e =
 
 -- so is the Locking Price, in half cents
 pub locking_at_most : (buy : Bool) (away : Away) → away_in_range away.bid ≡ true → away_in_range away.offer ≡ true
-    → (locking_price buy away).0 ≤ halves_aCent * highest_price
+    → (locking_price buy away).0 ≤ halves_a_cent * highest_price
 locking_at_most true away bid offer = omega (arith, away_at_most away.offer offer)
 locking_at_most false away bid offer = omega (arith, away_at_most away.bid bid)

@@ -4,7 +4,7 @@ use Rattle.basics.specs.Choice.{if◌then◌else◌}
 use Rattle.basics.specs.Lists.{times, insert_at, remove_at}
 use Rattle.kinds.specs.Kinds.{half_cents, shares, number}
 use Rattle.rules.specs.declared.Resting.{Resting}
-use Rattle.rules.specs.Book.{places_aSide, stamp}
+use Rattle.rules.specs.Book.{places_a_side, stamp}
 
 -- ── A row ──
 
@@ -53,15 +53,15 @@ abbrev pub hints : ℕ
 hints = 4096
 
 abbrev pub index_size : ℕ
-index_size = places_aSide + 1 + hints
+index_size = places_a_side + 1 + hints
 
 -- where the hint of an order's number stands
 abbrev pub hint_of : ℕ → ℕ
-hint_of n = places_aSide + 1 + n % hints
+hint_of n = places_a_side + 1 + n % hints
 
 -- a loop over an index passes parts of so many places
-abbrev pub places_aPart : ℕ
-places_aPart = 64
+abbrev pub places_a_part : ℕ
+places_a_part = 64
 
 -- the first n bytes of an index name the rows in use, the best order's last: the rows of the side in rank order
 unfoldable pub ranked : ℕ → List ℕ → List ℕ
@@ -83,13 +83,13 @@ side n x t = map order_of (rows_at t (ranked n x))
 -- the bytes of the places name rows of the table, and none twice: so a row that is not in use is free
 pub record Names (x : List ℕ) : Type 0 where
   pub long : length x ≡ index_size
-  pub in_table : (j : ℕ) → places_aSide ≤ j → times j (ranked places_aSide x) ≡ 0
-  pub once : (j : ℕ) → times j (ranked places_aSide x) ≤ 1
+  pub in_table : (j : ℕ) → places_a_side ≤ j → times j (ranked places_a_side x) ≡ 0
+  pub once : (j : ℕ) → times j (ranked places_a_side x) ≤ 1
 
 -- an index and a table hold a side of n orders, each in a row of its own
 pub record Holds (n : ℕ) (x : List ℕ) (t : List (List ℕ)) : Type 0 where
-  pub fits : n ≤ places_aSide
-  pub all : length t ≡ places_aSide
+  pub fits : n ≤ places_a_side
+  pub all : length t ≡ places_a_side
   pub names : Names x
   pub words : rows_at t (ranked n x) ≡ map row_of (side n x t)
 

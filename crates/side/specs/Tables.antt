@@ -1,7 +1,7 @@
 -- The book, and the record, that a header and two sides that are lent hold.
 use Rattle.std.specs.Prelude.{ℕ, ◌-◌, ◌<◌, List, map, ◌≡◌, ltb, length, get_or}
 use Rattle.basics.specs.Choice.{if◌then◌else◌}
-use Rattle.rules.specs.Book.{Book, Places, BookRecord, places_aSide}
+use Rattle.rules.specs.Book.{Book, Places, BookRecord, places_a_side}
 use Rattle.side.specs.Table.{order_of, side, index_size}
 use Rattle.side.specs.declared.tables.Head.{Head}
 
@@ -18,7 +18,7 @@ numbered_at n i = if ltb i n then n - 1 - i else i
 
 pub record Numbered (n : ℕ) (x : List ℕ) : Type 0 where
   pub long : length x ≡ index_size
-  pub each : (i : ℕ) → i < places_aSide → get_or x i 0 ≡ numbered_at n i
+  pub each : (i : ℕ) → i < places_a_side → get_or x i 0 ≡ numbered_at n i
 
 -- the book: `x` and `t` hold its buys, `y` and `u` its sells
 abbrev pub book_on : Head → List ℕ → List (List ℕ) → List ℕ → List (List ℕ) → Book

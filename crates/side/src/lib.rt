@@ -13,7 +13,7 @@ ghost use Rattle.std.specs.Prelude.{true, [], ◌≡◌, ◌≤◌, ◌<◌, max
 ghost use Rattle.basics.specs.Choice.{if◌then◌else◌};
 ghost use Rattle.basics.specs.Lists.{first_where, distinct};
 ghost use Rattle.side.specs.Table.{level_in, side, Names, Holds};
-ghost use Rattle.rules.specs.Book.{places_aSide, unused, numbers, earlier as earlierStamp, ranks_before, in_rank_order};
+ghost use Rattle.rules.specs.Book.{places_a_side, unused, numbers, earlier as earlierStamp, ranks_before, in_rank_order};
 ghost use Rattle.rules.specs.Commands.{is_number};
 ghost use Rattle.side.specs.Looking.{Newest, Hinted};
 
@@ -63,7 +63,7 @@ fn greater(a: u8, b: u8) -> u8
 // A place before `n` of an index whose byte names a row, or one that is no earlier than `n`. It looks for it part by part, with no branch
 // on a single byte and one on what a part gave; that it finds the place, if there is one, is not promised.
 fn place_of(x: &Index, n: usize, slot: u8) -> usize
-    requires { n ≤ places_aSide }
+    requires { n ≤ places_a_side }
     ensures { result < n → get_or x.now result 0 ≡ slot }
 {
     rows::whole_index(x);
@@ -128,7 +128,7 @@ pub fn ranks_before(buying: bool, x: Resting, y: Resting) -> bool
 // 1 where the new order, whose level is `mine`, ranks before the one in the row that place `i` of the index names, else 0. A
 // number and not a choice: the sum of three of them is no branch.
 fn is_passed(x: &Index, t: &Rows, i: usize, buying: bool, mine: u32) -> usize
-    requires { Names x.now × (i < places_aSide) }
+    requires { Names x.now × (i < places_a_side) }
     ensures { result ≡ (if ltb mine (level_in buying (get_or t.now (get_or x.now i 0) [])) then 1 else 0) }
 {
     rows::whole_index(x);

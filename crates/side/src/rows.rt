@@ -3,7 +3,7 @@
 // know which word of a row is which field.
 ghost use Rattle.std.specs.Prelude.{◌≡◌, [], ◌≤◌, ◌<◌, length, get_or, set};
 ghost use Rattle.kinds.specs.Kinds.{shares};
-ghost use Rattle.rules.specs.Book.{places_aSide, is_unused, unused, shares_left};
+ghost use Rattle.rules.specs.Book.{places_a_side, is_unused, unused, shares_left};
 ghost use Rattle.side.specs.Shifts.{Countable};
 ghost use Rattle.side.specs.Table.{flag_of, level_of, level_in, order_of, row_of, hint_of, ranked, side, index_size, Names, Holds};
 
@@ -135,7 +135,7 @@ fn row_of(o: Resting) -> [u32; WORDS]
 }
 
 pub fn row(t: &Rows, i: usize) -> Resting
-    requires { i < places_aSide }
+    requires { i < places_a_side }
     ensures { result ≡ order_of (get_or t.now i []) }
 {
     let r = t[i];
@@ -144,7 +144,7 @@ pub fn row(t: &Rows, i: usize) -> Resting
 
 // The level of the order in a row.
 pub(crate) fn level_at(t: &Rows, i: usize, buying: bool) -> u32
-    requires { i < places_aSide }
+    requires { i < places_a_side }
     ensures { result ≡ level_in buying (get_or t.now i []) }
 {
     let r = t[i];
@@ -152,7 +152,7 @@ pub(crate) fn level_at(t: &Rows, i: usize, buying: bool) -> u32
 }
 
 pub(crate) fn put_row(t: &mut Rows, i: usize, o: Resting)
-    requires { i < places_aSide }
+    requires { i < places_a_side }
     ensures { t.new ≡ set t.old i (row_of o) }
 {
     let r = row_of(o);
@@ -177,8 +177,8 @@ pub(crate) fn hint_of(number: Number) -> usize
 
 // The row of the order at a rank.
 pub(crate) fn slot_at(x: &Index, n: usize, i: usize) -> usize
-    requires { Names x.now × (i < n) × (n ≤ places_aSide) }
-    ensures { (result ≡ get_or (ranked n x.now) i 0) × (result < places_aSide) }
+    requires { Names x.now × (i < n) × (n ≤ places_a_side) }
+    ensures { (result ≡ get_or (ranked n x.now) i 0) × (result < places_a_side) }
 {
     whole_index(x);
     wide(x[n - 1 - i])
@@ -194,7 +194,7 @@ pub fn at(x: &Index, t: &Rows, n: usize, i: usize) -> Resting
 
 // Does nothing, and tells that a lent table has all its rows: of a lent array the length is known only once a slice is made of it.
 pub fn whole(t: &Rows)
-    ensures { length t.now ≡ places_aSide }
+    ensures { length t.now ≡ places_a_side }
 {
     let s: &[[u32; WORDS]] = t;
 }

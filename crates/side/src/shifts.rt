@@ -2,8 +2,8 @@
 ghost use Rattle.std.specs.Prelude.{◌&&◌, ◌≡◌, ◌+◌, ◌-◌, ◌≤◌, ◌<◌, min, ltb, leb, get_or, set};
 ghost use Rattle.basics.specs.Choice.{if◌then◌else◌};
 ghost use Rattle.basics.specs.Lists.{insert_at, remove_at};
-ghost use Rattle.side.specs.Table.{places_aPart, rotated, side, Holds, Shows};
-ghost use Rattle.rules.specs.Book.{places_aSide, unused};
+ghost use Rattle.side.specs.Table.{places_a_part, rotated, side, Holds, Shows};
+ghost use Rattle.rules.specs.Book.{places_a_side, unused};
 ghost use Rattle.side.specs.Shifts.{less_by};
 
 use crate::rows;
@@ -15,7 +15,7 @@ use rules::Resting;
 
 // A place of the index within the part that begins at `part`: 0 where it is no later than that, PART where it is behind the part.
 fn within(place: usize, part: usize) -> u8
-    ensures { result ≡ min (place - part) places_aPart }
+    ensures { result ≡ min (place - part) places_a_part }
 {
     if place <= part {
         return 0;
@@ -33,7 +33,7 @@ fn turned(lo: u8, hi: u8, j: u8, neighbour: u8, own: u8) -> u8
 
 // The byte at place `from` comes to stand at place `to`, which is no later, and those between move one up.
 fn raise(x: &mut Index, from: usize, to: usize)
-    requires { (to ≤ from) × (from < places_aSide) }
+    requires { (to ≤ from) × (from < places_a_side) }
     ensures { x.new ≡ rotated from to x.old }
 {
     rows::whole_index(x);
@@ -57,7 +57,7 @@ fn raise(x: &mut Index, from: usize, to: usize)
 
 // The same to a place that is no earlier: those between move one down.
 fn lower(x: &mut Index, from: usize, to: usize)
-    requires { (from ≤ to) × (to < places_aSide) }
+    requires { (from ≤ to) × (to < places_a_side) }
     ensures { x.new ≡ rotated from to x.old }
 {
     rows::whole_index(x);
@@ -83,7 +83,7 @@ fn lower(x: &mut Index, from: usize, to: usize)
 
 // The side with one more order, at rank `at`: it takes the first free row.
 pub(crate) fn insert(x: &mut Index, t: &mut Rows, n: usize, at: usize, o: Resting)
-    requires { Holds n x.old t.old × (at ≤ n) × (n < places_aSide) }
+    requires { Holds n x.old t.old × (at ≤ n) × (n < places_a_side) }
     ensures { Shows (insert_at at o (side n x.old t.old)) x.new t.new }
 {
     rows::whole_index(x);

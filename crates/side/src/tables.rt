@@ -2,7 +2,7 @@
 // worked. The places of a side are loaded once, and saved once.
 ghost use Rattle.std.specs.Prelude.{[], map, ◌≡◌, ◌≤◌, ◌<◌};
 ghost use Rattle.side.specs.Table.{row_of, side, Holds, Shows};
-ghost use Rattle.rules.specs.Book.{places_aSide, places_of};
+ghost use Rattle.rules.specs.Book.{places_a_side, places_of};
 ghost use Rattle.side.specs.Tables.{numbered_at, Numbered};
 
 use crate::rows;
@@ -49,15 +49,15 @@ pub fn load(t: &mut Rows, places: [Resting; PLACES])
 
 // The place at which a byte of a numbered index finds its row: the first `n` rows hold orders, the best in the first row.
 fn numbered(n: usize, i: usize) -> usize
-    requires { (n ≤ places_aSide) × (i < places_aSide) }
-    ensures { (result ≡ numbered_at n i) × (result < places_aSide) }
+    requires { (n ≤ places_a_side) × (i < places_a_side) }
+    ensures { (result ≡ numbered_at n i) × (result < places_a_side) }
 {
     if i < n { n - 1 - i } else { i }
 }
 
 // An index of a side whose orders stand in the first `n` rows, in rank order.
 pub fn number(x: &mut Index, n: usize)
-    requires { n ≤ places_aSide }
+    requires { n ≤ places_a_side }
     ensures { Numbered n x.new }
 {
     rows::whole_index(x);

@@ -16,7 +16,7 @@ use Rattle.basics.proofs.LawsLists.{all_alike}
 use Rattle.kinds.specs.declared.Cents.{Cents}
 use Rattle.kinds.specs.declared.Number.{Number}
 use Rattle.kinds.specs.declared.HalfCents.{HalfCents}
-use Rattle.kinds.specs.Kinds.{halves_aCent, in_half_cents, resting_price_in_range}
+use Rattle.kinds.specs.Kinds.{halves_a_cent, in_half_cents, resting_price_in_range}
 use Rattle.kinds.proofs.LawsRanges.{price_rests}
 use Rattle.rules.specs.declared.Away.{Away}
 use Rattle.rules.specs.declared.Body.{Body}
@@ -28,7 +28,7 @@ use Rattle.rules.specs.declared.Order.{Order}
 use Rattle.rules.specs.declared.Reading.{Reading}
 use Rattle.rules.specs.declared.Reading.TheVariants as reading
 use Rattle.rules.specs.declared.Resting.{Resting}
-use Rattle.rules.specs.Book.{Book, BookRecord, fresh, opening, closing, places_aSide, stamp, in_rank_order, apart, away_in_range, sound, unused, is_unused, orders_in, places_of, book_in, record_of, places_sound, record_sound}
+use Rattle.rules.specs.Book.{Book, BookRecord, fresh, opening, closing, places_a_side, stamp, in_rank_order, apart, away_in_range, sound, unused, is_unused, orders_in, places_of, book_in, record_of, places_sound, record_sound}
 use Rattle.rules.specs.CommandLines.{command_in}
 use Rattle.rules.specs.Commands.{with_accepted, with_away, shut, cancel, quote, carried_out, does}
 use Rattle.rules.specs.Day.{book_after}
@@ -56,8 +56,8 @@ present_ranged : (p : Cents) → away_in_range p ≡ true → absent (in_half_ce
 present_ranged p a e =
     ⊎_elim
     (λ (t : eqb p.0 0 ≡ true).
-    let z : halves_aCent * p.0 ≡ 0 = omega (arith, eqb-true p.0 0 t) in
-    absurd (true≢false (sym (eq-eqb (halves_aCent * p.0) 0 z) ∙ e)))
+    let z : halves_a_cent * p.0 ≡ 0 = omega (arith, eqb-true p.0 0 t) in
+    absurd (true≢false (sym (eq-eqb (halves_a_cent * p.0) 0 z) ∙ e)))
     (λ (t : eqb p.0 0 ≡ false). price_rests p (rw t at a))
     (holds_or_not (eqb p.0 0))
 
@@ -183,7 +183,7 @@ after_sound b (line ∷ lines) s = after_sound (answer_to b line).book lines (an
 -- the places of a side hold its orders, and no others
 orders_places : (s : List Resting) → orders_in (places_of s) ≡ s
 unfolding places_of
-orders_places s = take-append_seam s (replicate (places_aSide - length s) unused)
+orders_places s = take-append_seam s (replicate (places_a_side - length s) unused)
 
 pub book_record : (b : Book) → book_in (record_of b) ≡ b
 unfolding book_in record_of
@@ -194,12 +194,12 @@ unfolding every
 every_unused zero = refl
 every_unused (suc n) = every_unused n
 
-places_sound_lem : (s : List Resting) → length s ≤ places_aSide → places_sound (places_of s) ≡ true
+places_sound_lem : (s : List Resting) → length s ≤ places_a_side → places_sound (places_of s) ≡ true
 unfolding places_of
 places_sound_lem s l =
-    let unused_places = replicate (places_aSide - length s) unused in
-    let all : length (s ++ unused_places) ≡ places_aSide = simp (length-append, length-replicate) (omega arith) in
-    rw (le-leb (length s) places_aSide l, eq-eqb (length (s ++ unused_places)) places_aSide all, drop-append_seam s unused_places) (every_unused (places_aSide - length s))
+    let unused_places = replicate (places_a_side - length s) unused in
+    let all : length (s ++ unused_places) ≡ places_a_side = simp (length-append, length-replicate) (omega arith) in
+    rw (le-leb (length s) places_a_side l, eq-eqb (length (s ++ unused_places)) places_a_side all, drop-append_seam s unused_places) (every_unused (places_a_side - length s))
 
 pub record_sound_lem : (b : Book) → sound b ≡ true → record_sound (record_of b) ≡ true
 unfolding record_sound record_of

@@ -19,7 +19,7 @@ use Rattle.rules.specs.declared.Carried.TheVariants.{Nothing, MaxFloor, Minimum}
 use Rattle.rules.specs.declared.Ending.{Ending}
 use Rattle.rules.specs.declared.Ending.TheVariants.{Filled, Rests, Cancels}
 use Rattle.rules.specs.declared.Order.{Order}
-use Rattle.rules.specs.Book.{places_aSide, stamp, shares_left}
+use Rattle.rules.specs.Book.{places_a_side, stamp, shares_left}
 use Rattle.rules.specs.Holdings.{after}
 use Rattle.rules.specs.Instructions.{ioc, fok, day, displayed, non_displayed, price_adjust, cancel_back, post_only, iso, market, reserve, has, one_of, needs, lawful}
 use Rattle.rules.specs.Refusals.{is_rest, carries_floor, carries_minimum, order_price_in_range, carried_in_range, order_in_range}
@@ -119,7 +119,7 @@ refill_sound last buy opposite h r apart =
 module _ (n : Number) (o : Order) (m : Met) {last : Number} (sides : Sides (buying o) last m.own m.opposite) (next : n.0 ≡ last.0 + 1)
     (is_lawful : lawful o.word ≡ true) (carries : beq (has o.word reserve) (carries_floor o.carried) ≡ true)
     (hides : needs (carries_minimum o.carried) (not (has o.word displayed)) ≡ true) (in_range : order_in_range o ≡ true)
-    (room : (is_rest (ending o m) && leb places_aSide (length m.own)) ≡ false) where
+    (room : (is_rest (ending o m) && leb places_a_side (length m.own)) ≡ false) where
   -- the opposite side without what is taken
   taken : SidesBy shown_in shares_left (buying o) last m.own (after m.opposite (takings o m))
   taken = sides_thinned sides (thinned_after (takings o m) (all_holding last sides.opposite_in_range))
@@ -163,9 +163,9 @@ module _ (n : Number) (o : Order) (m : Met) {last : Number} (sides : Sides (buyi
   worked_sides (Rests price) q =
       let by = rests_by o m price q in
       let limited = neither_limited o.word is_lawful by.no_cancel_lem by.no_kill_lem in
-      let places : leb places_aSide (length m.own) ≡ false = rw q at room in
+      let places : leb places_a_side (length m.own) ≡ false = rw q at room in
       sides_added taken (remainder_of n o (remainder o m) price)
-      (omega (arith, next)) (remainder_in_range price by limited) (leb-false places_aSide (length m.own) places)
+      (omega (arith, next)) (remainder_in_range price by limited) (leb-false places_a_side (length m.own) places)
       (rests_clear o m.own (after m.opposite (takings o m)) price (has o.word displayed)
       (apart_flip (buying o) m.own (after m.opposite (takings o m)) taken.is_apart) (seeks o m.away) by.seeking)
 

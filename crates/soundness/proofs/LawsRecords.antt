@@ -12,7 +12,7 @@ use Rattle.basics.specs.Lists.{every}
 use Rattle.basics.proofs.LawsChoice.{and_left, and_right}
 use Rattle.kinds.specs.Kinds.{half_cents, shares, number}
 use Rattle.rules.specs.declared.Resting.{Resting}
-use Rattle.rules.specs.Book.{BookRecord, Places, places_aSide, stamp, unused, is_unused, orders_in, places_of, places_sound, book_in, record_of, sound, record_sound}
+use Rattle.rules.specs.Book.{BookRecord, Places, places_a_side, stamp, unused, is_unused, orders_in, places_of, places_sound, book_in, record_of, sound, record_sound}
 
 -- a place that passes for unused is all zero
 pub unused_is : (o : Resting) → is_unused o ≡ true → o ≡ unused
@@ -78,13 +78,13 @@ unfolding places_of
 places_whole p e =
     let n = p.used in
     let s = p.places in
-    let both = and_left (leb n places_aSide && eqb (length s) places_aSide) (every is_unused (drop n s)) e in
-    let most : n ≤ places_aSide = leb-true n places_aSide (and_left (leb n places_aSide) (eqb (length s) places_aSide) both) in
-    let all : length s ≡ places_aSide = eqb-true (length s) places_aSide (and_right (leb n places_aSide) (eqb (length s) places_aSide) both) in
+    let both = and_left (leb n places_a_side && eqb (length s) places_a_side) (every is_unused (drop n s)) e in
+    let most : n ≤ places_a_side = leb-true n places_a_side (and_left (leb n places_a_side) (eqb (length s) places_a_side) both) in
+    let all : length s ≡ places_a_side = eqb-true (length s) places_a_side (and_right (leb n places_a_side) (eqb (length s) places_a_side) both) in
     let long : length (take n s) ≡ n = length-take-le n s (omega (arith, most, all)) in
-    let rest : length (drop n s) ≡ places_aSide - length (take n s) = length-drop n s ∙ omega (arith, all, long) in
-    let zeros : drop n s ≡ replicate (places_aSide - length (take n s)) unused =
-    all_unused (drop n s) (and_right (leb n places_aSide && eqb (length s) places_aSide) (every is_unused (drop n s)) e)
+    let rest : length (drop n s) ≡ places_a_side - length (take n s) = length-drop n s ∙ omega (arith, all, long) in
+    let zeros : drop n s ≡ replicate (places_a_side - length (take n s)) unused =
+    all_unused (drop n s) (and_right (leb n places_a_side && eqb (length s) places_a_side) (every is_unused (drop n s)) e)
     ∙ ap (λ (k : ℕ). replicate k unused) rest in
     made long (ap (λ (u : List Resting). take n s ++ u) (sym zeros) ∙ take-append-drop n s)
   where

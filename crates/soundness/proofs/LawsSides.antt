@@ -18,7 +18,7 @@ use Rattle.kinds.proofs.LawsRanges.{shares_most, shares_ranged}
 use Rattle.rules.specs.declared.Held.{Held}
 use Rattle.rules.specs.declared.Resting.{Resting}
 use Rattle.rules.specs.declared.Stamp.{Stamp}
-use Rattle.rules.specs.Book.{shares_left, numbers, Book, places_aSide, opening, closing, earlier, in_rank_order, stamp_in_range, floor_in_range, minimum_in_range, resting_in_range, away_in_range}
+use Rattle.rules.specs.Book.{shares_left, numbers, Book, places_a_side, opening, closing, earlier, in_rank_order, stamp_in_range, floor_in_range, minimum_in_range, resting_in_range, away_in_range}
 use Rattle.rules.specs.Settling.{own_side, opposite_side, insert}
 use Rattle.rules.proofs.LawsFloors.{lowered_floored, lowered_least, least_within}
 use Rattle.soundness.proofs.LawsApart.{Clear, Apart, apart_all, apart_best, apart_flip}
@@ -119,8 +119,8 @@ sides_sum count false own opposite = omega (arith, sum_of_append count opposite 
 
 -- both sides, each order of which has a share, as it is counted on its side
 pub record SidesBy (mine theirs : Resting → ℕ) (buy : Bool) (last : Number) (own opposite : List Resting) : Type 0 where
-  pub own_fits : length own ≤ places_aSide
-  pub opposite_fits : length opposite ≤ places_aSide
+  pub own_fits : length own ≤ places_a_side
+  pub opposite_fits : length opposite ≤ places_a_side
   pub own_ranked : in_rank_order buy own ≡ true
   pub opposite_ranked : in_rank_order (not buy) opposite ≡ true
   pub own_in_range : All (Ranged mine last) own
@@ -293,7 +293,7 @@ module _ {mine theirs : Resting → ℕ} {buy : Bool} {last : Number} {own oppos
   }
 
   -- a new order rests: the next number, on a side that has room, apart from the opposite side
-  pub sides_added : (x : Resting) → last.0 < x.number.0 → Ranged mine x.number x → length own < places_aSide → Clear buy x.displayed x.price opposite
+  pub sides_added : (x : Resting) → last.0 < x.number.0 → Ranged mine x.number x → length own < places_a_side → Clear buy x.displayed x.price opposite
       → SidesBy mine theirs buy x.number (insert buy x own) opposite
   sides_added x above range room apart =
       let added = added_insert buy x own in

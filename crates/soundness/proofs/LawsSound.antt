@@ -8,11 +8,11 @@ use lib.ListN.{length}
 use borrow.Author.Tests.{le-leb, leb-true}
 use Rattle.basics.specs.Lists.{every, distinct}
 use Rattle.basics.proofs.LawsChoice.{and_left, and_right}
-use Rattle.rules.specs.Book.{numbers, Book, places_aSide, opening, closing, in_rank_order, resting_in_range, away_in_range, apart, sound}
+use Rattle.rules.specs.Book.{numbers, Book, places_a_side, opening, closing, in_rank_order, resting_in_range, away_in_range, apart, sound}
 
 pub record Sound (b : Book) : Type 0 where
-  pub buys_fit : length b.buys ≤ places_aSide
-  pub sells_fit : length b.sells ≤ places_aSide
+  pub buys_fit : length b.buys ≤ places_a_side
+  pub sells_fit : length b.sells ≤ places_a_side
   pub buys_ranked : in_rank_order true b.buys ≡ true
   pub sells_ranked : in_rank_order false b.sells ≡ true
   pub in_range : every (resting_in_range b.held.last) (b.buys ++ b.sells) ≡ true
@@ -44,10 +44,10 @@ twelve t1 t2 t3 t4 t5 t6 t7 t8 t9 t10 t11 t12 s12 =
 pub sound_is : (b : Book) → sound b ≡ true → Sound b
 unfolding sound
 sound_is b s =
-    let p = twelve (leb (length b.buys) places_aSide) (leb (length b.sells) places_aSide) (in_rank_order true b.buys) (in_rank_order false b.sells) (every (resting_in_range b.held.last) (b.buys ++ b.sells)) (distinct (numbers (b.buys ++ b.sells))) (apart b.buys b.sells) (leb opening b.held.time) (leb b.held.time closing) (away_in_range b.held.away.bid) (away_in_range b.held.away.offer) (not b.held.closed || eqb (length (b.buys ++ b.sells)) 0) s in
+    let p = twelve (leb (length b.buys) places_a_side) (leb (length b.sells) places_a_side) (in_rank_order true b.buys) (in_rank_order false b.sells) (every (resting_in_range b.held.last) (b.buys ++ b.sells)) (distinct (numbers (b.buys ++ b.sells))) (apart b.buys b.sells) (leb opening b.held.time) (leb b.held.time closing) (away_in_range b.held.away.bid) (away_in_range b.held.away.offer) (not b.held.closed || eqb (length (b.buys ++ b.sells)) 0) s in
     record {
-      buys_fit = leb-true (length b.buys) places_aSide p.0;
-      sells_fit = leb-true (length b.sells) places_aSide p.1;
+      buys_fit = leb-true (length b.buys) places_a_side p.0;
+      sells_fit = leb-true (length b.sells) places_a_side p.1;
       buys_ranked = p.2;
       sells_ranked = p.3;
       in_range = p.4;
@@ -63,5 +63,5 @@ sound_is b s =
 pub is_sound_lem : (b : Book) → Sound b → sound b ≡ true
 unfolding sound
 is_sound_lem b s =
-    rw (le-leb (length b.buys) places_aSide s.buys_fit, le-leb (length b.sells) places_aSide s.sells_fit, s.buys_ranked, s.sells_ranked, s.in_range, s.once, s.is_apart, s.opened, s.in_time, s.bid, s.offer)
+    rw (le-leb (length b.buys) places_a_side s.buys_fit, le-leb (length b.sells) places_a_side s.sells_fit, s.buys_ranked, s.sells_ranked, s.in_range, s.once, s.is_apart, s.opened, s.in_time, s.bid, s.offer)
     s.closed_empty

@@ -6,7 +6,7 @@ use lib.ListN.{length}
 use native.Mathlib.Omega.{arith}
 use borrow.Author.Rules.{rules}
 use Rattle.basics.specs.Choice.{if◌then◌else◌}
-use Rattle.rules.specs.Book.{places_aSide, apart}
+use Rattle.rules.specs.Book.{places_a_side, apart}
 use Rattle.side.specs.Table.{loaded}
 use Rattle.inspection.proofs.LawsInspected.{apart_none, apart_best}
 use Rattle.inspection.proofs.are_apart.Statement.{statement}
@@ -43,8 +43,8 @@ module _ (c : tie.After-row2) where
       let start = c.before.before.before.before.before in
       let a = start.args in
       let some : (eqb a.n 0 || eqb a.m 0) ≡ false = c.before.before.if1.false in
-      let f : length a.buys.now ≡ places_aSide = c.before.before.before.before.whole.ensures in
-      let g : length a.sells.now ≡ places_aSide = c.before.before.before.whole2.ensures in
+      let f : length a.buys.now ≡ places_a_side = c.before.before.before.before.whole.ensures in
+      let g : length a.sells.now ≡ places_a_side = c.before.before.before.whole2.ensures in
       apart_best a.n a.m a.buys.now a.sells.now (omega (arith, start.requires.0)) (omega (arith, start.requires.1)) some
       x.result y.result x.ensures y.ensures
 

@@ -8,7 +8,7 @@ use native.Mathlib.Omega.{arith}
 use borrow.Author.Rules.{rules}
 use borrow.Author.Tests.{eq-eqb, ne_eqb}
 use Rattle.basics.specs.Lists.{any}
-use Rattle.rules.specs.Book.{numbers, places_aSide}
+use Rattle.rules.specs.Book.{numbers, places_a_side}
 use Rattle.side.specs.Table.{loaded}
 use Rattle.inspection.proofs.LawsInspected.{any_end, any_found, any_next, from_end, from_next}
 use Rattle.inspection.proofs.has_number.Statement.{statement}
@@ -34,7 +34,7 @@ returns c =
     let r = c.before.before.before.row in
     let l = c.before.before.before.before.before.loop in
     let a = c.before.before.before.before.before.before.before.args in
-    let f : length a.t.now ≡ places_aSide = c.before.before.before.before.before.before.whole.ensures in
+    let f : length a.t.now ≡ places_a_side = c.before.before.before.before.before.before.whole.ensures in
     let next : drop l.i (loaded a.n a.t.now) ≡ r.result ∷ drop (l.i + 1) (loaded a.n a.t.now) =
     from_next a.n a.t.now l.i (omega arith) (omega arith) r.result r.ensures in
     sym (any_found (eqb a.number.0) (ap numbers next) (eq-eqb _ _ c.if1.true)) ∙ l.invariant.1
@@ -50,7 +50,7 @@ loop-again c =
     let r = c.before.before.before.row in
     let l = c.before.before.before.before.before.loop in
     let a = c.before.before.before.before.before.before.before.args in
-    let f : length a.t.now ≡ places_aSide = c.before.before.before.before.before.before.whole.ensures in
+    let f : length a.t.now ≡ places_a_side = c.before.before.before.before.before.before.whole.ensures in
     let next : drop l.i (loaded a.n a.t.now) ≡ r.result ∷ drop (l.i + 1) (loaded a.n a.t.now) =
     from_next a.n a.t.now l.i (omega arith) (omega arith) r.result r.ensures in
     (omega arith, sym (any_next (eqb a.number.0) (ap numbers next) (ne_eqb _ _ c.if1.false)) ∙ l.invariant.1)
@@ -59,7 +59,7 @@ returns-2 : tie.Need-returns-2 invariant-loop decreases-loop
 returns-2 c =
     let l = c.before.loop in
     let a = c.before.before.before.args in
-    let f : length a.t.now ≡ places_aSide = c.before.before.whole.ensures in
+    let f : length a.t.now ≡ places_a_side = c.before.before.whole.ensures in
     let end : drop l.i (loaded a.n a.t.now) ≡ [] = from_end a.n a.t.now l.i (omega arith) (omega arith) in
     sym (any_end (eqb a.number.0) (ap numbers end)) ∙ l.invariant.1
 

@@ -2,7 +2,7 @@
 use mathlib.Core.Path.{◌≡◌, sym}
 use lib.ListN.{length}
 use borrow.Author.Rules.{rules}
-use Rattle.rules.specs.Book.{places_aSide}
+use Rattle.rules.specs.Book.{places_a_side}
 use Rattle.inspection.proofs.LawsInspection.{both_fit, over_full, inspected}
 use Rattle.inspection.proofs.is_sound.Statement.{statement}
 use Rattle.inspection.proofs.is_sound.Tie as tie
@@ -42,8 +42,8 @@ returns-2 : tie.Need-returns-2
 returns-2 c =
     let fit = c.before.before.before.before in
     let a = fit.before.before.before.before.before.args in
-    let f : length a.buys.now ≡ places_aSide = fit.before.before.whole.ensures in
-    let g : length a.sells.now ≡ places_aSide = fit.before.whole2.ensures in
+    let f : length a.buys.now ≡ places_a_side = fit.before.before.whole.ensures in
+    let g : length a.sells.now ≡ places_a_side = fit.before.whole2.ensures in
     rw (
       inspected a.h a.buys.now a.sells.now f g fit.if1.false,
       c.head-sound.ensures,

@@ -5,7 +5,7 @@ use mathlib.Core.Path.{◌≡◌}
 use lib.ListN.{length, drop}
 use native.Mathlib.Omega.{arith}
 use borrow.Author.Rules.{rules}
-use Rattle.rules.specs.Book.{places_aSide}
+use Rattle.rules.specs.Book.{places_a_side}
 use Rattle.side.specs.Table.{loaded}
 use Rattle.inspection.proofs.LawsInspected.{from_end, from_next}
 use Rattle.inspection.proofs.ranks_before_next.Statement.{statement}
@@ -17,7 +17,7 @@ whole-requires c κs = search rules
 returns : tie.Need-returns
 returns c =
     let a = c.before.before.args in
-    let f : length a.t.now ≡ places_aSide = c.before.whole.ensures in
+    let f : length a.t.now ≡ places_a_side = c.before.whole.ensures in
     let end : drop a.next (loaded a.n a.t.now) ≡ [] = from_end a.n a.t.now a.next (omega arith) (omega arith) in
     rw end
 
@@ -31,7 +31,7 @@ returns-2 : tie.Need-returns-2
 returns-2 c =
     let r = c.before.row in
     let a = c.before.before.before.before.args in
-    let f : length a.t.now ≡ places_aSide = c.before.before.before.whole.ensures in
+    let f : length a.t.now ≡ places_a_side = c.before.before.before.whole.ensures in
     let next : drop a.next (loaded a.n a.t.now) ≡ r.result ∷ drop (a.next + 1) (loaded a.n a.t.now) =
     from_next a.n a.t.now a.next (omega arith) (omega arith) r.result r.ensures in
     rw next c.ranks-before.ensures

@@ -5,7 +5,7 @@ use mathlib.Core.Path.{◌≡◌, sym, ◌∙◌}
 use lib.ListN.{length, drop}
 use native.Mathlib.Omega.{arith}
 use borrow.Author.Rules.{rules}
-use Rattle.rules.specs.Book.{numbers, places_aSide}
+use Rattle.rules.specs.Book.{numbers, places_a_side}
 use Rattle.side.specs.Table.{order_of, loaded}
 use Rattle.inspection.specs.Inspection.{side_sound}
 use Rattle.inspection.proofs.LawsInspected.{side_end, side_fails, side_next}
@@ -15,10 +15,10 @@ use Rattle.inspection.proofs.side_sound.Tie as tie
 abbrev invariant-loop : tie.invariant-loop
 invariant-loop t n buying last other m i₀ i =
     let others = numbers (loaded m other) in
-    (i ≤ places_aSide) × (side_sound buying last others (n - i) (drop i (map order_of t)) ≡ side_sound buying last others n (map order_of t))
+    (i ≤ places_a_side) × (side_sound buying last others (n - i) (drop i (map order_of t)) ≡ side_sound buying last others n (map order_of t))
 
 abbrev decreases-loop : tie.decreases-loop
-decreases-loop t n buying last other m i₀ i = places_aSide - i
+decreases-loop t n buying last other m i₀ i = places_a_side - i
 
 whole-requires : tie.Need-whole-requires invariant-loop decreases-loop
 whole-requires c κs = search rules
@@ -37,7 +37,7 @@ returns c =
     let p = c.before.place-sound in
     let l = c.before.before.before.loop in
     let a = c.before.before.before.before.before.args in
-    let f : length a.t.now ≡ places_aSide = c.before.before.before.before.whole.ensures in
+    let f : length a.t.now ≡ places_a_side = c.before.before.before.before.whole.ensures in
     let others = numbers (loaded a.m a.other.now) in
     sym (side_fails a.buying a.last others a.n a.t.now l.i (omega arith) p.result p.ensures c.if1.true) ∙ l.invariant.1
 
@@ -52,7 +52,7 @@ loop-again c =
     let p = c.before.place-sound in
     let l = c.before.before.before.loop in
     let a = c.before.before.before.before.before.args in
-    let f : length a.t.now ≡ places_aSide = c.before.before.before.before.whole.ensures in
+    let f : length a.t.now ≡ places_a_side = c.before.before.before.before.whole.ensures in
     let others = numbers (loaded a.m a.other.now) in
     (omega arith, sym (side_next a.buying a.last others a.n a.t.now l.i (omega arith) p.result p.ensures c.if1.false) ∙ l.invariant.1)
 
@@ -60,7 +60,7 @@ returns-2 : tie.Need-returns-2 invariant-loop decreases-loop
 returns-2 c =
     let l = c.before.loop in
     let a = c.before.before.before.args in
-    let f : length a.t.now ≡ places_aSide = c.before.before.whole.ensures in
+    let f : length a.t.now ≡ places_a_side = c.before.before.whole.ensures in
     sym (side_end a.buying a.last (numbers (loaded a.m a.other.now)) a.n a.t.now l.i (omega arith)) ∙ l.invariant.1
 
 pub side-sound-spec : {M : Type 1} → statement M

@@ -52,7 +52,7 @@ use denote.Triple.Spec.{Meets, triple_of}
 use denote.Triple.Statement.{Contract, Triple}
 use denote.Triple.Table.{entered, cited}
 use denote.Triple.Walked.{says, Stays, gave_slice, stay_dropped, walk_of, Walks, ends_at, walked, Goes-gave_slice, Goes-dropped, walk_Meets}
-use Rattle.rules.specs.Book.{places_aSide}
+use Rattle.rules.specs.Book.{places_a_side}
 use Rattle.rules.specs.declared.Resting.{Resting}
 use Rattle.rules.specs.contracts.Resting as T
 use Rattle.book.specs.declared.Book.{Book}
@@ -112,15 +112,15 @@ placed (local τ h ∷ ls) [] = []
 placed (local τ h ∷ ls) (b ∷ bs) = (τ, b) ∷ placed ls bs
 
 -- the outcome of the test
-alike : (n : ℕ) → Holds (not (not (eqb n places_aSide))) → n ≡ places_aSide
-alike n h = eqb→eq n places_aSide (at (eqb n places_aSide) h)
+alike : (n : ℕ) → Holds (not (not (eqb n places_a_side))) → n ≡ places_a_side
+alike n h = eqb→eq n places_a_side (at (eqb n places_a_side) h)
   where
     at : (z : Bool) → Holds (not (not z)) → Holds z
     at true h = tt
     at false h = absurd h
 
-unlike : (n : ℕ) → Holds (not (eqb n places_aSide)) → n ≢ places_aSide
-unlike n h e = absurd (subst (λ (z : Bool). Holds (not z)) (eq-eqb n places_aSide e) h)
+unlike : (n : ℕ) → Holds (not (eqb n places_a_side)) → n ≢ places_a_side
+unlike n h e = absurd (subst (λ (z : Bool). Holds (not z)) (eq-eqb n places_a_side e) h)
 
 module _ {M : Type 1} {𝓤 : Ura M} (𝓛 : Logic 𝓤) (mem : Memory → SProp 𝓤) (run : Routine → Fun 𝓤) where
   -- the contracts that the proof cites
@@ -218,7 +218,7 @@ module _ {M : Type 1} {𝓤 : Ura M} (𝓛 : Logic 𝓤) (mem : Memory → SProp
       nothing ! $ move ! (2 ∷ 0 ∷ []) $ fjoin ! $ nothing ! $ fjoin ! $ move ! (1 ∷ 0 ∷ []) $ fjoin ! $ nothing ! $ fjoin ! $ nothing ! $ fjoin ! $ frame ! $ done !
 
   -- the table has not a record for each place: all is as it was
-  early : (r : Reply) (v : Val) → length ys ≢ places_aSide → r ≡ refused book (length out.now)
+  early : (r : Reply) (v : Val) → length ys ≢ places_a_side → r ≡ refused book (length out.now)
       → ent 𝓤 (⋆ 𝓛 (‵ ((P.the_row).own_val r (v ∷ [])) ∷ (‵ (flft κ₀ q₀) ⊛ Tokens) ∷ ‵ (fsep Of-book (fsep Of-buys (fsep Of-table Of-texts))) ∷ [])) (Post v)
   early r v n e =
       qed 𝓛 (‵ ((P.the_row).own_val r (v ∷ [])) ∷ (‵ (flft κ₀ q₀) ⊛ Tokens) ∷ ‵ (fsep Of-book (fsep Of-buys (fsep Of-table Of-texts))) ∷ []) ∵ move ! (2 ∷ []) $ fsplit ! $ drop ! $ fsplit ! $ drop ! $ fsplit ! $
@@ -242,7 +242,7 @@ module _ {M : Type 1} {𝓤 : Ura M} (𝓛 : Logic 𝓤) (mem : Memory → SProp
   abbrev to_take : ℕ → GName → (Take 𝓛 mem run).Ghost
   to_take α δ = (((α ∷ [], tt), (full_share, tt), tt, (named_at δ ys, tt), (sv ∷ [], tt)), tt)
 
-  asked-take : (α : ℕ) (δ : GName) → length ys ≡ places_aSide
+  asked-take : (α : ℕ) (δ : GName) → length ys ≡ places_a_side
       → ent 𝓤 (⋆ 𝓛 (‵ (flft (α ∷ []) full_share) ∷ ‵ ((ShrSlice (named 0) (α ∷ []) T.the_row).own_val (named_at δ ys) (sv ∷ [])) ∷ [])) ((Take 𝓛 mem run).pre (to_take α δ))
   asked-take α δ long =
       qed 𝓛 (‵ (flft (α ∷ []) full_share) ∷ ‵ ((ShrSlice (named 0) (α ∷ []) T.the_row).own_val (named_at δ ys) (sv ∷ [])) ∷ []) ∵ says ! long $
@@ -302,7 +302,7 @@ module _ {M : Type 1} {𝓤 : Ura M} (𝓛 : Logic 𝓤) (mem : Memory → SProp
     abbrev to-give : (Give 𝓛 mem run).Ghost
     to-give = (((κ₀, tt), (q₀, tt), tt, (named_at γ ys, (bs, tt)), (sv ∷ [], (w ∷ [], tt))), tt)
 
-    asked-give : length ys ≡ places_aSide → ent 𝓤 (⋆ 𝓛 (‵ (flft κ₀ q₀) ∷ ‵ Of-table ∷ ‵ (Records.own bs (w ∷ [])) ∷ [])) ((Give 𝓛 mem run).pre to-give)
+    asked-give : length ys ≡ places_a_side → ent 𝓤 (⋆ 𝓛 (‵ (flft κ₀ q₀) ∷ ‵ Of-table ∷ ‵ (Records.own bs (w ∷ [])) ∷ [])) ((Give 𝓛 mem run).pre to-give)
     asked-give long =
         qed 𝓛 (‵ (flft κ₀ q₀) ∷ ‵ Of-table ∷ ‵ (Records.own bs (w ∷ [])) ∷ []) ∵ says ! long $
         nothing ! $ move ! (1 ∷ 0 ∷ []) $ join ! $ frame ! $ nothing ! $ move ! (2 ∷ 0 ∷ []) $ fjoin ! $ move ! (1 ∷ 0 ∷ []) $ fjoin ! $ done !

@@ -52,7 +52,7 @@ use denote.Triple.Spec.{Meets, triple_of}
 use denote.Triple.Statement.{Contract, Triple}
 use denote.Triple.Table.{entered, cited}
 use denote.Triple.Walked.{says, Stays, gave_slice, stay_dropped, walk_of, Walks, ends_at, walked, Goes-gave_slice, Goes-dropped, walk_Meets}
-use Rattle.rules.specs.Book.{places_aSide}
+use Rattle.rules.specs.Book.{places_a_side}
 use Rattle.rules.specs.declared.Resting.{Resting}
 use Rattle.rules.specs.contracts.Resting as T
 use Rattle.rules.proofs.Resting.TheLaws as T'
@@ -86,11 +86,11 @@ use Rattle.lent.proofs.answer_over.Code as code
 abbrev stayed : Stays (answer-over.ended).signature.params (answer-over.ended).kept
 stayed = (
   stay_dropped (plain (λ _. B.the_row)) yes,
-  (stay_dropped (plain (λ _. bool)) yes, (stay_dropped (array_of (plain (λ _. T.the_row)) places_aSide) yes, (stay_dropped (shr_slice_of (0 ∷ []) tt (plain (λ _. u8))) yes, (gave_slice (1 ∷ []) tt (plain (λ _. u8)), tt)))),
+  (stay_dropped (plain (λ _. bool)) yes, (stay_dropped (array_of (plain (λ _. T.the_row)) places_a_side) yes, (stay_dropped (shr_slice_of (0 ∷ []) tt (plain (λ _. u8))) yes, (gave_slice (1 ∷ []) tt (plain (λ _. u8)), tt)))),
 )
 
 -- so many records fit
-room : (zs : List Resting) → length zs ≡ places_aSide → Room T.the_row (length zs)
+room : (zs : List Resting) → length zs ≡ places_a_side → Room T.the_row (length zs)
 room zs long = subst (Room T.the_row) (sym long) (lit< tt, lit< tt)
 
 module _ {M : Type 1} {𝓤 : Ura M} (𝓛 : Logic 𝓤) (mem : Memory → SProp 𝓤) (run : Routine → Fun 𝓤) where
@@ -117,17 +117,17 @@ module _ {M : Type 1} {𝓤 : Ura M} (𝓛 : Logic 𝓤) (zs : List Resting) (b 
   unfolding part_of
   apart w =
       qed 𝓛 (‵ (fat full_share records b 0 w) ∷ ‵ (Records.own zs (w ∷ [])) ∷ []) ∵ use1 𝓛 (‵ (cell_at full_share Records.mir (w ∷ []) b 0)) (𝓛.laws.at_raw full_share records b 0 w) $ fjoin ! $ fpack ! (List Val) Cell (w ∷ []) $
-      use1 𝓛 (‵ ((arr_parts (shares T.the_row) places_aSide).part full_share zs b 0)) (Array-apart 𝓛 T.the_row full_share tt places_aSide zs b 0) $ fsplit ! $ drop ! $ by ! (whole_in 𝓛 T.the_row zs b 0)
+      use1 𝓛 (‵ ((arr_parts (shares T.the_row) places_a_side).part full_share zs b 0)) (Array-apart 𝓛 T.the_row full_share tt places_a_side zs b 0) $ fsplit ! $ drop ! $ by ! (whole_in 𝓛 T.the_row zs b 0)
 
   -- the cell has some value, which is of the array
   abbrev Whole : Item 𝓤
   Whole = some (λ (w : Val). ‵ (fat full_share records b 0 w) ⊛ ‵ (Records.own zs (w ∷ [])))
 
-  whole_again : ent 𝓤 (sem 𝓛 ((Arr (lying T.the_row) places_aSide).own_at zs b 0)) (mean 𝓛 Whole)
+  whole_again : ent 𝓤 (sem 𝓛 ((Arr (lying T.the_row) places_a_side).own_at zs b 0)) (mean 𝓛 Whole)
   unfolding part_of
   whole_again =
-      qed 𝓛 (‵ ((Arr (lying T.the_row) places_aSide).own_at zs b 0) ∷ []) ∵ fsplit ! $ move ! (1 ∷ []) $ use1 𝓛 (‵ (row T.the_row full_share zs b 0)) (whole_out 𝓛 T.the_row zs b 0) $ move ! (1 ∷ 0 ∷ []) $ fjoin ! $
-      use1 𝓛 (‵ (part_at Records full_share zs b 0)) (Array-whole 𝓛 T.the_row full_share places_aSide zs b 0) $ fpick ! (λ vs. fsplit ! $ move ! (1 ∷ []) $ peeks ! Records (Is Records) (shows 𝓛 Records) zs vs (λ are.
+      qed 𝓛 (‵ ((Arr (lying T.the_row) places_a_side).own_at zs b 0) ∷ []) ∵ fsplit ! $ move ! (1 ∷ []) $ use1 𝓛 (‵ (row T.the_row full_share zs b 0)) (whole_out 𝓛 T.the_row zs b 0) $ move ! (1 ∷ 0 ∷ []) $ fjoin ! $
+      use1 𝓛 (‵ (part_at Records full_share zs b 0)) (Array-whole 𝓛 T.the_row full_share places_a_side zs b 0) $ fpick ! (λ vs. fsplit ! $ move ! (1 ∷ []) $ peeks ! Records (Is Records) (shows 𝓛 Records) zs vs (λ are.
       rewrite ! 0 (λ (us : List Val). ‵ (Records.own zs us)) are.1.0.0 refl $ rewrite ! 1 (λ (us : List Val). ‵ (cell_at full_share Records.mir us b 0)) are.1.0.0 refl $ move ! (1 ∷ []) $
       use1 𝓛 (‵ (fat full_share records b 0 (array_val are.0))) (𝓛.laws.raw_at full_share records b 0 (array_val are.0)) $
       show ! (λ (w : Val). mean 𝓛 (‵ (fat full_share records b 0 w) ⊛ ‵ (Records.own zs (w ∷ [])))) (array_val are.0) $ frame ! $ done !))
@@ -189,7 +189,7 @@ module _ {M : Type 1} {𝓤 : Ura M} (𝓛 : Logic 𝓤) (mem : Memory → SProp
     table = record { ref_ptr = (b, 0); ghost_name = δ; now = places }
 
     abbrev sv : Val
-    sv = slice_val (b, 0) places_aSide
+    sv = slice_val (b, 0) places_a_side
 
     abbrev Of-table : Fml
     Of-table = (MutSlice (named 0) (α ∷ []) T.the_row).own_val table (sv ∷ [])
@@ -237,7 +237,7 @@ module _ {M : Type 1} {𝓤 : Ura M} (𝓛 : Logic 𝓤) (mem : Memory → SProp
     said-worked-of k = ex_e 𝓤 _ (λ ws. snd∗ 𝓤 (sem 𝓛 (lasts worked-of.ended tt (r, (zs, tt)) ws)) (fact 𝓤 (k ≡ record { reply = r; places = zs })))
 
   module _ (C : Calls 𝓤 H) (Λ : Loops 𝓤 H) (fm : FmC 𝓤 H 𝓛.laws C) (known : Known 𝓛 mem run C) where
-    walk : Is B.the_row book (bv ∷ []) → Is Records places (pv ∷ []) → length places ≡ places_aSide → Room u8 (length line.now) → Room u8 (length out.now)
+    walk : Is B.the_row book (bv ∷ []) → Is Records places (pv ∷ []) → length places ≡ places_a_side → Room u8 (length line.now) → Room u8 (length out.now)
         → ent 𝓤 (on_entry 𝓛 answer-over.signature (κ₀, (κ₁, tt)) (q₀, (q₁, tt)) x vals) (WpFn 𝓤 H C Λ code.function (bv ∷ vbool buys ∷ pv ∷ tv ∷ ov ∷ []) Post)
     walk gb gp long gt go =
         qed 𝓛 (Tokens ∷ ‵ (fsep Of-book (fsep Of-buys (fsep (Records.own places (pv ∷ [])) Of-texts))) ∷ []) ∵ enter ! C Λ code.function (bv ∷ vbool buys ∷ pv ∷ tv ∷ ov ∷ []) _ $
@@ -266,7 +266,7 @@ module _ {M : Type 1} {𝓤 : Ura M} (𝓛 : Logic 𝓤) (mem : Memory → SProp
         use1 𝓛 (later (some (λ (r : Reply). ((‵ (flft (α ∷ []) full_share) ⊛ Tokens) ⊛ ‵ ((P.the_row).own_val r (v ∷ []))) ⊛ raw (ensured 𝓛 answer.ended (answer.clauses 𝓛 mem run) (α ∷ [], (κ₀, (κ₁, tt))) (args l₆ α δ) tt r)))) (id⊢ 𝓤 _) $ await ! tt $ pick ! (λ r.
         split ! $ move ! (1 ∷ []) $ use1 𝓛 (Said-answer l₆ α δ r) (said-answer l₆ α δ r) $ pick ! (λ zs. pick ! (λ ws. learn ! (λ told. split ! $ move ! (2 ∷ []) $ split ! $ split ! $
         -- [the lifetime's token; the tokens; what the reply owns; the last lists of the slice and of out; the lender's part; the locals]: the lifetime is ended, and table comes back
-        lft_end ! tt $ move ! (0 ∷ 5 ∷ 3 ∷ []) $ use3 𝓛 (later (‵ ((Arr (lying T.the_row) places_aSide).own_at zs l₆ 0))) (slice_back 𝓛 T.the_row (α ∷ []) δ zs places_aSide l₆ 0) $ await ! tt $
+        lft_end ! tt $ move ! (0 ∷ 5 ∷ 3 ∷ []) $ use3 𝓛 (later (‵ ((Arr (lying T.the_row) places_a_side).own_at zs l₆ 0))) (slice_back 𝓛 T.the_row (α ∷ []) δ zs places_a_side l₆ 0) $ await ! tt $
         use1 𝓛 (Whole 𝓛 zs l₆) (whole_again 𝓛 zs l₆) $ pick ! (λ w. split ! $ move ! (1 ∷ []) $ peeks ! Records (Is Records) (shows 𝓛 Records) zs (w ∷ []) (λ are-zs. move ! (3 ∷ []) $
         -- [what the reply owns; what table owns; the cell of table; the tokens; out's last list; the locals]
         peeks ! P.the_row (Is P.the_row) (shows 𝓛 P.the_row) r (v ∷ []) (λ is-r. land ! (from ! (stop !)) (init ! 15 refl ((LL.lawful P.the_type P'.the_laws 𝓛).typed r _ is-r).0) $
@@ -288,7 +288,7 @@ module _ {M : Type 1} {𝓤 : Ura M} (𝓛 : Logic 𝓤) (mem : Memory → SProp
   answer-over-walks : Walks 𝓛 answer-over.ended stayed (WpFn 𝓤 H 𝓣.C 𝓣.Λ code.function) (answer-over.clauses 𝓛 mem run)
   answer-over-walks = walked 𝓛 answer-over.ended stayed (answer-over.clauses 𝓛 mem run) (WpFn 𝓤 H 𝓣.C 𝓣.Λ code.function)
       (λ κs. (LL.vals B.the_type B'.the_laws, (bool_vals, (array_vals (LL.vals T.the_type T'.the_laws), (shr_slice_vals, (shr_slice_vals, tt))))))
-      (λ κs. (LL.tells B.the_type B'.the_laws, (bool_Tells, (Array-Tells T.the_row (LL.vals T.the_type T'.the_laws) (LL.tells T.the_type T'.the_laws) places_aSide, (shr_slice_Tells (named 0) κs.0 u8, (mut_slice_Tells (named 1) κs.1.0 u8, tt))))))
+      (λ κs. (LL.tells B.the_type B'.the_laws, (bool_Tells, (Array-Tells T.the_row (LL.vals T.the_type T'.the_laws) (LL.tells T.the_type T'.the_laws) places_a_side, (shr_slice_Tells (named 0) κs.0 u8, (mut_slice_Tells (named 1) κs.1.0 u8, tt))))))
       (λ κs qs bounds a g are. via 𝓤 _ (fst∗ 𝓤 _ (emp 𝓤))
       (walk 𝓛 mem run κs.0 κs.1.0 qs.0 qs.1.0 a.0 a.1.0 a.1.1.0 a.1.1.1.0 a.1.1.1.1.0
       𝓣.C 𝓣.Λ (fm_of 𝓤 H 𝓛.laws 𝓣) known are.0 are.1.1.0 are.1.1.0.1.0.1 are.1.1.1.0.0.1 are.1.1.1.1.0.0.1))
@@ -299,7 +299,7 @@ module _ {M : Type 1} {𝓤 : Ura M} (𝓛 : Logic 𝓤) (mem : Memory → SProp
         Goes-dropped 𝓛 2 (plain (λ _. B.the_row)) yes (λ κs x f. refl),
         (
           Goes-dropped 𝓛 2 (plain (λ _. bool)) yes (λ κs x f. refl),
-          (Goes-dropped 𝓛 2 (array_of (plain (λ _. T.the_row)) places_aSide) yes (λ κs x f. refl), (Goes-dropped 𝓛 2 (shr_slice_of (0 ∷ []) tt (plain (λ _. u8))) yes (λ κs x f. refl), (Goes-gave_slice 𝓛 2 1 tt (plain (λ _. u8)), tt))),
+          (Goes-dropped 𝓛 2 (array_of (plain (λ _. T.the_row)) places_a_side) yes (λ κs x f. refl), (Goes-dropped 𝓛 2 (shr_slice_of (0 ∷ []) tt (plain (λ _. u8))) yes (λ κs x f. refl), (Goes-gave_slice 𝓛 2 1 tt (plain (λ _. u8)), tt))),
         ),
       ) (answer-over.clauses 𝓛 mem run) (WpFn 𝓤 H 𝓣.C 𝓣.Λ code.function) (WpFn-mono 𝓤 H 𝓛.laws 𝓣 code.function) answer-over-walks
 

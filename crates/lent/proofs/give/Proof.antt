@@ -59,7 +59,7 @@ use denote.Triple.Spec.{Meets, triple_of}
 use denote.Triple.Statement.{Contract, Triple}
 use denote.Triple.Table.{entered, cited}
 use denote.Triple.Walked.{says, needs, Stays, stay_slice, stay_dropped, walk_of, Walks, ends_at, walked, Goes-slice, Goes-dropped, walk_Meets}
-use Rattle.rules.specs.Book.{places_aSide, unused}
+use Rattle.rules.specs.Book.{places_a_side, unused}
 use Rattle.rules.specs.declared.Resting.{Resting}
 use Rattle.rules.specs.contracts.Resting as T
 use Rattle.rules.proofs.Resting.TheLaws as T'
@@ -76,17 +76,17 @@ use Rattle.lent.proofs.give.Code.Mir.{turn-1, t-3}
 
 -- the array is plain: nothing need be had of it at exit
 abbrev stayed : Stays (give.ended).signature.params (give.ended).kept
-stayed = (stay_slice (0 ∷ []) tt (plain (λ _. T.the_row)), (stay_dropped (array_of (plain (λ _. T.the_row)) places_aSide) yes, tt))
+stayed = (stay_slice (0 ∷ []) tt (plain (λ _. T.the_row)), (stay_dropped (array_of (plain (λ _. T.the_row)) places_a_side) yes, tt))
 
 -- how many records are copied; the more, the nearer
 abbrev State : Type 0
-State = (i : ℕ) × (i ≤ places_aSide)
+State = (i : ℕ) × (i ≤ places_a_side)
 
 abbrev Nearer : State → State → Type 0
-Nearer t u = places_aSide - t.0 < places_aSide - u.0
+Nearer t u = places_a_side - t.0 < places_a_side - u.0
 
 Nearer-wf : WellFounded Nearer
-Nearer-wf = InvImage.wf (λ (t : State). places_aSide - t.0) lt-wf_rel.wf
+Nearer-wf = InvImage.wf (λ (t : State). places_a_side - t.0) lt-wf_rel.wf
 
 module _ {M : Type 1} {𝓤 : Ura M} (𝓛 : Logic 𝓤) (mem : Memory → SProp 𝓤) (run : Routine → Fun 𝓤) where
   -- the contract that the proof cites
@@ -127,15 +127,15 @@ module _ {M : Type 1} {𝓤 : Ura M} (𝓛 : Logic 𝓤) (mem : Memory → SProp
   abbrev to_at : ℕ → (ElemAt 𝓛 mem run).Ghost
   to_at i = ((tt, tt, tt, (xs, (i, tt)), (v ∷ [], (vint w64 i ∷ [], tt))), tt)
 
-  asked : (i : ℕ) → Is Records xs (v ∷ []) → i < places_aSide → i ≤ places_aSide → ent 𝓤 (emp 𝓤) ((ElemAt 𝓛 mem run).pre (to_at i))
+  asked : (i : ℕ) → Is Records xs (v ∷ []) → i < places_a_side → i ≤ places_a_side → ent 𝓤 (emp 𝓤) ((ElemAt 𝓛 mem run).pre (to_at i))
   asked i is less most =
       qed 𝓛 [] ∵ says ! less $ nothing ! $ frame ! $ nothing ! $ owned ! usize (Is usize) (uint_Makes 𝓛 w64) i _ (refl, fits i most) $ fjoin ! $
-      owned ! Records (Is Records) (Array-Makes 𝓛 T.the_row (LL.makes T.the_type T'.the_plain 𝓛) places_aSide) xs _ is $ fjoin ! $ done !
+      owned ! Records (Is Records) (Array-Makes 𝓛 T.the_row (LL.makes T.the_type T'.the_plain 𝓛) places_a_side) xs _ is $ fjoin ! $ done !
 
   said : (i : ℕ) (r : Resting) → ent 𝓤 (ensured 𝓛 at.ended (at.clauses 𝓛 mem run) tt (xs, (i, tt)) tt r) (fact 𝓤 (r ≡ get_or xs i unused))
   said i r = ex_e 𝓤 _ (λ ws. snd∗ 𝓤 (sem 𝓛 (lasts at.ended tt (xs, (i, tt)) ws)) (fact 𝓤 (r ≡ get_or xs i unused)))
 
-  module _ (𝓣 : Tables 𝓤 H) (known : Triple 𝓤 (𝓣.C #lent·at) (ElemAt 𝓛 mem run)) (gn : Room T.the_row (length ys)) (is-xs : Is Records xs (v ∷ [])) (long : length ys ≡ places_aSide) where
+  module _ (𝓣 : Tables 𝓤 H) (known : Triple 𝓤 (𝓣.C #lent·at) (ElemAt 𝓛 mem run)) (gn : Room T.the_row (length ys)) (is-xs : Is Records xs (v ∷ [])) (long : length ys ≡ places_a_side) where
     abbrev C : Calls 𝓤 H
     C = 𝓣.C
 
@@ -156,7 +156,7 @@ module _ {M : Type 1} {𝓤 : Ura M} (𝓛 : Logic 𝓤) (mem : Memory → SProp
       abbrev Turned : State → Out → SProp 𝓤
       Turned t = after_turn 𝓤 H (Below 𝓛 Nearer Held-at t) (after_block 𝓤 H (after_seq 𝓤 H (Wp 𝓤 H C Λ En t-3 (at_return 𝓤 H En Post)) (at_return 𝓤 H En Post)))
 
-      more : (t : State) → ltb t.0 places_aSide ≡ true → t.0 < places_aSide → Sq 𝓛 (Held-at t) (runs C Λ En turn-1 (any_q (Turned t)))
+      more : (t : State) → ltb t.0 places_a_side ≡ true → t.0 < places_a_side → Sq 𝓛 (Held-at t) (runs C Λ En turn-1 (any_q (Turned t)))
       unfolding after_turn
       more t test less =
           let i : ℕ = t.0 in
@@ -183,9 +183,9 @@ module _ {M : Type 1} {𝓤 : Ura M} (𝓛 : Logic 𝓤) (mem : Memory → SProp
           assigns_last ! (bin ! (load ! (from ! (stop !)) (look ! 12 refl)) (lit ! tt) (record { fits = fits (i + 1) (add-one-le less) })) (from ! (stop !)) (store ! 12 refl (tt, record { fits = fits (i + 1) (add-one-le less) })) $
           forget ! 4 refl $ forget ! 6 refl $ forget ! 8 refl $ forget ! 10 refl $
           rewrite ! 0 (λ (ws : List Resting). ‵ (row T.the_row full_share ws b o)) (ap (set zs i) is-r ∙ copied_step xs ys i unused same (subst (λ (n : ℕ). i < n) (sym same) inside)) refl $
-          again ! Nearer Held-at t (i + 1, add-one-le less) (add-one-dec places_aSide i less))))))
+          again ! Nearer Held-at t (i + 1, add-one-le less) (add-one-dec places_a_side i less))))))
 
-      ends : (t : State) → ltb t.0 places_aSide ≡ false → copied xs ys t.0 ≡ xs → Sq 𝓛 (Held-at t) (runs C Λ En turn-1 (any_q (Turned t)))
+      ends : (t : State) → ltb t.0 places_a_side ≡ false → copied xs ys t.0 ≡ xs → Sq 𝓛 (Held-at t) (runs C Λ En turn-1 (any_q (Turned t)))
       unfolding after_turn
       ends t test all =
           assigns ! (bin ! (load ! (from ! (stop !)) (look ! 12 refl)) (lit ! tt) tt) (from ! (stop !)) (init ! 10 refl (tt, tt)) $
@@ -198,8 +198,8 @@ module _ {M : Type 1} {𝓤 : Ura M} (𝓛 : Logic 𝓤) (mem : Memory → SProp
           move ! (5 ∷ 6 ∷ []) $ free1 ! $ move ! (3 ∷ 4 ∷ []) $ free1 ! $ free0 ! $ by ! (exits gn)
 
       turns : (t : State) → Sq 𝓛 (Held-at t) (runs C Λ En turn-1 (any_q (Turned t)))
-      turns t = by_test (ltb t.0 places_aSide) (λ e. more t e (ltb→lt t.0 places_aSide (subst Holds (sym e) tt)))
-          (λ e. ends t e (ap (copied xs ys) (le_antisymm t.1 (nltb→le t.0 places_aSide (subst (λ (z : Bool). Holds (not z)) (sym e) tt)) ∙ sym long ∙ sym same) ∙ copied_all xs ys same))
+      turns t = by_test (ltb t.0 places_a_side) (λ e. more t e (ltb→lt t.0 places_a_side (subst Holds (sym e) tt)))
+          (λ e. ends t e (ap (copied xs ys) (le_antisymm t.1 (nltb→le t.0 places_a_side (subst (λ (z : Bool). Holds (not z)) (sym e) tt)) ∙ sym long ∙ sym same) ∙ copied_all xs ys same))
 
     walk : ent 𝓤 (on_entry 𝓛 give.signature (κ, tt) (q, tt) x vals) (WpFn 𝓤 H C Λ code.function (sv ∷ v ∷ []) Post)
     walk =
@@ -218,14 +218,14 @@ module _ {M : Type 1} {𝓤 : Ura M} (𝓛 : Logic 𝓤) (mem : Memory → SProp
   give-walks : Walks 𝓛 give.ended stayed (WpFn 𝓤 H 𝓣.C 𝓣.Λ code.function) (give.clauses 𝓛 mem run)
   give-walks = walked 𝓛 give.ended stayed (give.clauses 𝓛 mem run) (WpFn 𝓤 H 𝓣.C 𝓣.Λ code.function)
       (λ κs. (mut_slice_vals, (array_vals (LL.vals T.the_type T'.the_laws), tt)))
-      (λ κs. (mut_slice_Tells (named 0) κs.0 T.the_row, (Array-Tells T.the_row (LL.vals T.the_type T'.the_laws) (LL.tells T.the_type T'.the_laws) places_aSide, tt)))
-      (λ κs qs bounds a g are. needs 𝓤 (length a.0.now ≡ places_aSide) _
+      (λ κs. (mut_slice_Tells (named 0) κs.0 T.the_row, (Array-Tells T.the_row (LL.vals T.the_type T'.the_laws) (LL.tells T.the_type T'.the_laws) places_a_side, tt)))
+      (λ κs qs bounds a g are. needs 𝓤 (length a.0.now ≡ places_a_side) _
       (λ long. walk 𝓛 mem run κs.0 qs.0 a.0.ref_ptr.0 a.0.ref_ptr.1 a.0.ghost_name a.0.now a.1.0 (only (array_vals (LL.vals T.the_type T'.the_laws) a.1.0)) (are.1.0.1.0.1 ∙ sym long)
       𝓣 known are.0.0.1 are.1.0 long))
 
   give_meets : Meets 𝓛 give.signature (WpFn 𝓤 H 𝓣.C 𝓣.Λ code.function) (give.spec 𝓛 mem run)
   give_meets =
-      walk_Meets 𝓛 give.ended stayed (Goes-slice 𝓛 1 0 tt (plain (λ _. T.the_row)), (Goes-dropped 𝓛 1 (array_of (plain (λ _. T.the_row)) places_aSide) yes (λ κs x f. refl), tt)) (give.clauses 𝓛 mem run)
+      walk_Meets 𝓛 give.ended stayed (Goes-slice 𝓛 1 0 tt (plain (λ _. T.the_row)), (Goes-dropped 𝓛 1 (array_of (plain (λ _. T.the_row)) places_a_side) yes (λ κs x f. refl), tt)) (give.clauses 𝓛 mem run)
       (WpFn 𝓤 H 𝓣.C 𝓣.Λ code.function) (WpFn-mono 𝓤 H 𝓛.laws 𝓣 code.function) give-walks
 
 pub give_spec : {M : Type 1} → stated.statement M

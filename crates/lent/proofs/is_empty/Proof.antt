@@ -10,7 +10,7 @@ use borrow.Author.Tests.{eq-eqb}
 use Rattle.basics.specs.Lists.{every}
 use Rattle.kinds.specs.declared.Number.{Number}
 use Rattle.rules.specs.declared.Resting.{Resting}
-use Rattle.rules.specs.Book.{places_aSide, is_unused}
+use Rattle.rules.specs.Book.{places_a_side, is_unused}
 use Rattle.side.specs.Table.{order_of, row_of}
 use Rattle.side.proofs.rows.LawsTable.{orders_rows}
 use Rattle.book.specs.declared.Side.{Side}
@@ -22,11 +22,11 @@ use Rattle.lent.proofs.is_empty.Statement.{statement}
 use Rattle.lent.proofs.is_empty.Tie as tie
 
 empty-found : (last : Number) (used : ℕ) (places : List Resting) (t : List (List ℕ)) (found : Bool) → t ≡ map row_of places
-    → length t ≡ places_aSide → found ≡ side_sound true last [] 0 (map order_of t) → (eqb used 0 && found) ≡ is_empty (record { used = used; places = places })
+    → length t ≡ places_a_side → found ≡ side_sound true last [] 0 (map order_of t) → (eqb used 0 && found) ≡ is_empty (record { used = used; places = places })
 unfolding is_empty
 empty-found last used places t found is long told =
-    let all : length places ≡ places_aSide = sym (length-map places row_of) ∙ (rw is at long) in
-    rw (told, is, orders_rows places, none_used true last [] places, eq-eqb (length places) places_aSide all) (skipped (eqb used 0) (every is_unused places))
+    let all : length places ≡ places_a_side = sym (length-map places row_of) ∙ (rw is at long) in
+    rw (told, is, orders_rows places, none_used true last [] places, eq-eqb (length places) places_a_side all) (skipped (eqb used 0) (every is_unused places))
   where
     skipped : (a b : Bool) → (a && b) ≡ (a && true && b)
     skipped true b = refl

@@ -2,7 +2,7 @@
 use mathlib.Core.Path.{◌≡◌}
 use lib.ListN.{length}
 use borrow.Author.Rules.{rules}
-use Rattle.rules.specs.Book.{places_aSide}
+use Rattle.rules.specs.Book.{places_a_side}
 use Rattle.lent.proofs.LawsLentStep.{lending_counted}
 use Rattle.lent.proofs.lend.Statement.{statement}
 use Rattle.lent.proofs.lend.Tie as tie
@@ -29,7 +29,7 @@ returns c =
     let places = c.before.before.before.before.before.before.places-in in
     let apart = c.before.before.before.before.before.take_out in
     let x = c.before.before.before.answer-over in
-    let all : length places.result ≡ places_aSide = search rules in
+    let all : length places.result ≡ places_a_side = search rules in
     lending_counted a.buys a.book a.line.now a.out.now start.requires places.result places.ensures all
     apart.result apart.ensures x.result _ x.ensures c.put-together.result c.put-together.ensures
 

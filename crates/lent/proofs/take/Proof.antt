@@ -1,5 +1,5 @@
 -- `lent::take` meets its contract: a walk of its MIR, by hand. It calls `blank`; then each turn of the loop calls `get` and `with`, and of each callee all that the proof knows is that it meets its contract.
--- The invariant: after i turns the array is `copied ys (`places_aSide` unused records) i`, where ys is the slice's list. At the end that is ys. Assumes nothing.
+-- The invariant: after i turns the array is `copied ys (`places_a_side` unused records) i`, where ys is the slice's list. At the end that is ys. Assumes nothing.
 --     Blank, Get, With     the contracts that the proof cites.        asked-…      what the caller has gives what the callee asks.        said-…     of what the callee ensures, its clause
 --     exits        from what is had at exit to the `post` of `walk_of`
 --     State, At    how many records are copied, and the machine value of the array; and what is held then, at the head of a turn
@@ -49,7 +49,7 @@ use denote.Triple.Spec.{Meets, triple_of}
 use denote.Triple.Statement.{Contract, Triple}
 use denote.Triple.Table.{entered, cited}
 use denote.Triple.Walked.{says, needs, Stays, stay_none_slice, walk_of, Walks, ends_at, walked, Goes-none_slice, walk_Meets}
-use Rattle.rules.specs.Book.{places_aSide, unused}
+use Rattle.rules.specs.Book.{places_a_side, unused}
 use Rattle.rules.specs.declared.Resting.{Resting}
 use Rattle.rules.specs.contracts.Resting as T
 use Rattle.lent.proofs.LawsLent.{Records, resting, records, word, record_typed, array_typed, by_test, fits, copied, copied_step, copied_all}
@@ -76,17 +76,17 @@ stayed = (stay_none_slice (0 ∷ []) tt (plain (λ _. T.the_row)) yes, tt)
 
 -- the array after i turns
 abbrev sofar : List Resting → ℕ → List Resting
-sofar ys i = copied ys (replicate places_aSide unused) i
+sofar ys i = copied ys (replicate places_a_side unused) i
 
 -- how many records are copied, and the array's machine value; the more, the nearer
 abbrev State : Type 0
-State = (i : ℕ) × ((i ≤ places_aSide) × Val)
+State = (i : ℕ) × ((i ≤ places_a_side) × Val)
 
 abbrev Nearer : State → State → Type 0
-Nearer t u = places_aSide - t.0 < places_aSide - u.0
+Nearer t u = places_a_side - t.0 < places_a_side - u.0
 
 Nearer-wf : WellFounded Nearer
-Nearer-wf = InvImage.wf (λ (t : State). places_aSide - t.0) lt-wf_rel.wf
+Nearer-wf = InvImage.wf (λ (t : State). places_a_side - t.0) lt-wf_rel.wf
 
 module _ {M : Type 1} {𝓤 : Ura M} (𝓛 : Logic 𝓤) (mem : Memory → SProp 𝓤) (run : Routine → Fun 𝓤) where
   -- the contracts that the proof cites
@@ -156,7 +156,7 @@ module _ {M : Type 1} {𝓤 : Ura M} (𝓛 : Logic 𝓤) (mem : Memory → SProp
     abbrev to-with : (With 𝓛 mem run).Ghost
     to-with = ((tt, tt, tt, (a, (i, (r, tt))), (v ∷ [], (vint w64 i ∷ [], (u ∷ [], tt)))), tt)
 
-    asked-with : i < 2 ^ 64 → i < places_aSide → ent 𝓤 (⋆ 𝓛 (‵ (Records.own a (v ∷ [])) ∷ ‵ ((T.the_row).own_val r (u ∷ [])) ∷ [])) ((With 𝓛 mem run).pre to-with)
+    asked-with : i < 2 ^ 64 → i < places_a_side → ent 𝓤 (⋆ 𝓛 (‵ (Records.own a (v ∷ [])) ∷ ‵ ((T.the_row).own_val r (u ∷ [])) ∷ [])) ((With 𝓛 mem run).pre to-with)
     asked-with fits l =
         qed 𝓛 (‵ (Records.own a (v ∷ [])) ∷ ‵ ((T.the_row).own_val r (u ∷ [])) ∷ []) ∵ says ! l $ nothing ! $ frame ! $
         nothing ! $ move ! (2 ∷ 0 ∷ []) $ fjoin ! $ owned ! usize (Is usize) (uint_Makes 𝓛 w64) i _ (refl, fits) $ fjoin ! $ move ! (1 ∷ 0 ∷ []) $ fjoin ! $ done !
@@ -164,7 +164,7 @@ module _ {M : Type 1} {𝓤 : Ura M} (𝓛 : Logic 𝓤) (mem : Memory → SProp
     said-with : (zs : List Resting) → ent 𝓤 (ensured 𝓛 with.ended (with.clauses 𝓛 mem run) tt (a, (i, (r, tt))) tt zs) (fact 𝓤 (zs ≡ set a i r))
     said-with zs = ex_e 𝓤 _ (λ ws. snd∗ 𝓤 (sem 𝓛 (lasts with.ended tt (a, (i, (r, tt))) ws)) (fact 𝓤 (zs ≡ set a i r)))
 
-  module _ (𝓣 : Tables 𝓤 H) (known : Known 𝓛 mem run 𝓣.C) (long : length ys ≡ places_aSide) where
+  module _ (𝓣 : Tables 𝓤 H) (known : Known 𝓛 mem run 𝓣.C) (long : length ys ≡ places_a_side) where
     abbrev C : Calls 𝓤 H
     C = 𝓣.C
 
@@ -188,7 +188,7 @@ module _ {M : Type 1} {𝓤 : Ura M} (𝓛 : Logic 𝓤) (mem : Memory → SProp
       abbrev Turned : State → Out → SProp 𝓤
       Turned t = after_turn 𝓤 H (Below 𝓛 Nearer At t) (after_block 𝓤 H (after_seq 𝓤 H (Wp 𝓤 H C Λ En t-4 (at_return 𝓤 H En Post)) (at_return 𝓤 H En Post)))
 
-      more : (t : State) → ltb t.0 places_aSide ≡ true → t.0 < places_aSide → Sq 𝓛 (At t) (runs C Λ En turn-1 (any_q (Turned t)))
+      more : (t : State) → ltb t.0 places_a_side ≡ true → t.0 < places_a_side → Sq 𝓛 (At t) (runs C Λ En turn-1 (any_q (Turned t)))
       unfolding after_turn
       more t test less =
           let i : ℕ = t.0 in
@@ -213,10 +213,10 @@ module _ {M : Type 1} {𝓤 : Ura M} (𝓛 : Logic 𝓤) (mem : Memory → SProp
           peeks ! Records (Is Records) (shows 𝓛 Records) zs (w ∷ []) (λ are. land ! (from ! (stop !)) (store ! 9 refl (array_typed 𝓛 zs w are)) $
           assigns_last ! (bin ! (load ! (from ! (stop !)) (look ! 7 refl)) (lit ! tt) (record { fits = fits (i + 1) (add-one-le less) })) (from ! (stop !)) (store ! 7 refl (tt, record { fits = fits (i + 1) (add-one-le less) })) $
           forget ! 3 refl $ forget ! 5 refl $
-          rewrite ! 0 (λ (xs : List Resting). ‵ (Records.own xs (w ∷ []))) (is-zs ∙ ap (set a i) is-r ∙ copied_step ys (replicate places_aSide unused) i unused (long ∙ sym (length-replicate places_aSide unused)) inside) refl $
-          again ! Nearer At t (i + 1, (add-one-le less, w)) (add-one-dec places_aSide i less)))))))))
+          rewrite ! 0 (λ (xs : List Resting). ‵ (Records.own xs (w ∷ []))) (is-zs ∙ ap (set a i) is-r ∙ copied_step ys (replicate places_a_side unused) i unused (long ∙ sym (length-replicate places_a_side unused)) inside) refl $
+          again ! Nearer At t (i + 1, (add-one-le less, w)) (add-one-dec places_a_side i less)))))))))
 
-      ends : (t : State) → ltb t.0 places_aSide ≡ false → sofar ys t.0 ≡ ys → Sq 𝓛 (At t) (runs C Λ En turn-1 (any_q (Turned t)))
+      ends : (t : State) → ltb t.0 places_a_side ≡ false → sofar ys t.0 ≡ ys → Sq 𝓛 (At t) (runs C Λ En turn-1 (any_q (Turned t)))
       unfolding after_turn
       ends t test all =
           assigns ! (bin ! (load ! (from ! (stop !)) (look ! 7 refl)) (lit ! tt) tt) (from ! (stop !)) (init ! 5 refl (tt, tt)) $
@@ -228,8 +228,8 @@ module _ {M : Type 1} {𝓤 : Ura M} (𝓛 : Logic 𝓤) (mem : Memory → SProp
           by ! (exits (sofar ys t.0) t.1.1 all))
 
       turns : (t : State) → Sq 𝓛 (At t) (runs C Λ En turn-1 (any_q (Turned t)))
-      turns t = by_test (ltb t.0 places_aSide) (λ e. more t e (ltb→lt t.0 places_aSide (subst Holds (sym e) tt)))
-          (λ e. ends t e (ap (sofar ys) (le_antisymm t.1.0 (nltb→le t.0 places_aSide (subst (λ (z : Bool). Holds (not z)) (sym e) tt)) ∙ sym long) ∙ copied_all ys (replicate places_aSide unused) (long ∙ sym (length-replicate places_aSide unused))))
+      turns t = by_test (ltb t.0 places_a_side) (λ e. more t e (ltb→lt t.0 places_a_side (subst Holds (sym e) tt)))
+          (λ e. ends t e (ap (sofar ys) (le_antisymm t.1.0 (nltb→le t.0 places_a_side (subst (λ (z : Bool). Holds (not z)) (sym e) tt)) ∙ sym long) ∙ copied_all ys (replicate places_a_side unused) (long ∙ sym (length-replicate places_a_side unused))))
 
     walk : Room T.the_row (length ys) → ent 𝓤 (on_entry 𝓛 take.signature (κ, tt) (q, tt) (s, tt) (sv ∷ [], tt)) (WpFn 𝓤 H C Λ code.function (sv ∷ []) Post)
     walk gn =
@@ -250,7 +250,7 @@ module _ {M : Type 1} {𝓤 : Ura M} (𝓛 : Logic 𝓤) (mem : Memory → SProp
 
   take_walks : Walks 𝓛 take.ended stayed (WpFn 𝓤 H 𝓣.C 𝓣.Λ code.function) (take.clauses 𝓛 mem run)
   take_walks = walked 𝓛 take.ended stayed (take.clauses 𝓛 mem run) (WpFn 𝓤 H 𝓣.C 𝓣.Λ code.function) (λ κs. (shr_slice_vals, tt)) (λ κs. (shr_slice_Tells (named 0) κs.0 T.the_row, tt))
-      (λ κs qs bounds a g are. needs 𝓤 (length a.0.now ≡ places_aSide) _
+      (λ κs qs bounds a g are. needs 𝓤 (length a.0.now ≡ places_a_side) _
       (λ long. walk 𝓛 mem run κs.0 qs.0 a.0.ref_ptr.0 a.0.ref_ptr.1 0 a.0.now 𝓣 known long are.0.0.1))
 
   take_meets : Meets 𝓛 take.signature (WpFn 𝓤 H 𝓣.C 𝓣.Λ code.function) (take.spec 𝓛 mem run)

@@ -17,7 +17,7 @@ use Rattle.side.specs.Table.{order_of, row_of, ranked, rows_at, side, Names, Hol
 use Rattle.side.proofs.rows.LawsIndex.{length_ranked, ranked_alike, names_same}
 use Rattle.side.proofs.rows.LawsShown.{length_side, shown_holds, shown_side, shows_rows, side_dropped}
 use Rattle.rules.specs.declared.Resting.{Resting}
-use Rattle.rules.specs.Book.{places_aSide}
+use Rattle.rules.specs.Book.{places_a_side}
 use Rattle.orders.specs.Fills.{keeps, keepers}
 use Rattle.orders.proofs.fills.LawsTakenOff.{keepers_all}
 
@@ -78,7 +78,7 @@ pub record Closing (n : ℕ) (x₀ x : List ℕ) (t : List (List ℕ)) (to i : �
   pub inside : i ≤ n
   pub long : length x ≡ length x₀
   pub ahead : (k : ℕ) → i ≤ k → get_or x k 0 ≡ get_or x₀ k 0
-  pub same : (j : ℕ) → times j (ranked places_aSide x) ≡ times j (ranked places_aSide x₀)
+  pub same : (j : ℕ) → times j (ranked places_a_side x) ≡ times j (ranked places_a_side x₀)
   pub rows : rows_at t (ranked to x) ≡ map row_of (keepers (side i x₀ t))
 
 pub closing_start : (n : ℕ) (x : List ℕ) (t : List (List ℕ)) (reached : ℕ) → Holds n x t → reached ≤ n → every keeps (drop reached (side n x t)) ≡ true
@@ -143,7 +143,7 @@ module _ {n : ℕ} {x₀ x : List ℕ} {t : List (List ℕ)} {to i : ℕ} (h : H
       closing_on =
           let y = set x i (get_or x to 0) in
           let long : length y ≡ length x = length-set x i (get_or x to 0) in
-          let room : places_aSide ≤ length x = omega (arith, w.long, h.names.long) in
+          let room : places_a_side ≤ length x = omega (arith, w.long, h.names.long) in
           record {
             behind = ⊎_elim
                 (λ (k : keeps o ≡ true). rw k (omega (arith, w.behind)))
@@ -154,6 +154,6 @@ module _ {n : ℕ} {x₀ x : List ℕ} {t : List (List ℕ)} {to i : ℕ} (h : H
             ahead = λ k p.
                 get_or-set_other y to k (get_or x i 0) 0 (λ z. omega (arith, p, z, w.behind))
                 ∙ (get_or-set_other x i k (get_or x to 0) 0 (λ z. omega (arith, p, z)) ∙ w.ahead k (omega (arith, p)));
-            same = λ j. times_swapped to i x j places_aSide (omega (arith, w.behind, h.fits)) (omega (arith, h.fits)) room ∙ w.same j;
+            same = λ j. times_swapped to i x j places_a_side (omega (arith, w.behind, h.fits)) (omega (arith, h.fits)) room ∙ w.same j;
             rows = rows_next;
           }

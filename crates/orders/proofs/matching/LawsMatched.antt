@@ -22,7 +22,7 @@ use Rattle.rules.specs.declared.Order.{Order}
 use Rattle.rules.specs.declared.Resting.{Resting}
 use Rattle.basics.specs.Lists.{All, none, also}
 use Rattle.basics.proofs.LawsLists.{all_alike}
-use Rattle.rules.specs.Book.{places_aSide, stamp, in_rank_order}
+use Rattle.rules.specs.Book.{places_a_side, stamp, in_rank_order}
 use Rattle.soundness.proofs.LawsThinned.{thinned_after, thinned_all, thinned_ranked}
 use Rattle.side.specs.Looking.{Older}
 use Rattle.orders.specs.declared.walk.Taking.{Taking}
@@ -49,17 +49,17 @@ length_remainder n o left (Rests price) own = omega (arith, length_insert (buyin
 length_remainder n o left (Cancels reason) own = omega arith
 
 -- a side is too full for an ending exactly where it would hold more than its places
-pub full_more : (end : Ending) (own : List Resting) → length own ≤ places_aSide → places_aSide < length own + (if is_rest end then 1 else 0) → is_full end own ≡ true
+pub full_more : (end : Ending) (own : List Resting) → length own ≤ places_a_side → places_a_side < length own + (if is_rest end then 1 else 0) → is_full end own ≡ true
 full_more Filled own most l = let z : ⊥ = omega arith in absurd z
-full_more (Rests price) own most l = le-leb places_aSide (length own) (omega arith)
+full_more (Rests price) own most l = le-leb places_a_side (length own) (omega arith)
 full_more (Cancels reason) own most l = let z : ⊥ = omega arith in absurd z
 
-pub full_not : (end : Ending) (own : List Resting) → length own + (if is_rest end then 1 else 0) ≤ places_aSide → is_full end own ≡ false
+pub full_not : (end : Ending) (own : List Resting) → length own + (if is_rest end then 1 else 0) ≤ places_a_side → is_full end own ≡ false
 full_not Filled own l = refl
-full_not (Rests price) own l = lt-leb places_aSide (length own) (omega arith)
+full_not (Rests price) own l = lt-leb places_a_side (length own) (omega arith)
 full_not (Cancels reason) own l = refl
 
-pub rest_fits : (end : Ending) (k : ℕ) → k + (if is_rest end then 1 else 0) ≤ places_aSide → is_rest end ≡ true → k < places_aSide
+pub rest_fits : (end : Ending) (k : ℕ) → k + (if is_rest end then 1 else 0) ≤ places_a_side → is_rest end ≡ true → k < places_a_side
 rest_fits Filled k l r = absurd (true≢false (sym r))
 rest_fits (Rests price) k l r = omega arith
 rest_fits (Cancels reason) k l r = absurd (true≢false (sym r))

@@ -13,7 +13,7 @@ use Rattle.kinds.specs.Kinds.{largest}
 use Rattle.rules.specs.declared.Away.{Away}
 use Rattle.rules.specs.declared.Order.{Order}
 use Rattle.rules.specs.Instructions.{has, iso, market}
-use Rattle.rules.specs.Working.{buying, beyond, limit_of, locking_price, absent, may_touch, half_aCent_the_incoming_way}
+use Rattle.rules.specs.Working.{buying, beyond, limit_of, locking_price, absent, may_touch, half_a_cent_the_incoming_way}
 use Rattle.orders.specs.Bound.{farthest, bound_of, bound_under}
 use Rattle.orders.specs.Locks.{executes_at}
 
@@ -129,16 +129,16 @@ module _ (locked bound p : HalfCents) (priced : 1 ≤ p.0) where
       (holds_or_not (eqb bound.0 locked.0))
     where
       both : (buy : Bool) → bound.0 ≡ locked.0 → p.0 ≡ locked.0
-          → beyond buy (half_aCent_the_incoming_way (not buy) bound) p ≡ beyond buy bound (half_aCent_the_incoming_way buy p)
+          → beyond buy (half_a_cent_the_incoming_way (not buy) bound) p ≡ beyond buy bound (half_a_cent_the_incoming_way buy p)
       both true same at = alike (bound.0 - 1) p.0 bound.0 (p.0 + 1) (λ l. omega (arith, same, at)) (λ l. omega (arith, same, at, priced))
       both false same at = alike p.0 (bound.0 + 1) (p.0 - 1) bound.0 (λ l. omega (arith, same, at, priced)) (λ l. omega (arith, same, at, l))
 
       bound_only : (buy : Bool) → bound.0 ≡ locked.0 → (p.0 ≡ locked.0 → ⊥)
-          → beyond buy (half_aCent_the_incoming_way (not buy) bound) p ≡ beyond buy bound p
+          → beyond buy (half_a_cent_the_incoming_way (not buy) bound) p ≡ beyond buy bound p
       bound_only true same off = alike (bound.0 - 1) p.0 bound.0 p.0 (λ l. omega (arith, same, off, l, priced)) (λ l. omega (arith, l))
       bound_only false same off = alike p.0 (bound.0 + 1) p.0 bound.0 (λ l. omega (arith, same, off, l)) (λ l. omega (arith, l))
 
-      order_only : (buy : Bool) → (bound.0 ≡ locked.0 → ⊥) → p.0 ≡ locked.0 → beyond buy bound p ≡ beyond buy bound (half_aCent_the_incoming_way buy p)
+      order_only : (buy : Bool) → (bound.0 ≡ locked.0 → ⊥) → p.0 ≡ locked.0 → beyond buy bound p ≡ beyond buy bound (half_a_cent_the_incoming_way buy p)
       order_only true other at = alike bound.0 p.0 bound.0 (p.0 + 1) (λ l. omega (arith, l)) (λ l. omega (arith, l, other, at))
       order_only false other at = alike p.0 bound.0 (p.0 - 1) bound.0 (λ l. omega (arith, l)) (λ l. omega (arith, l, other, at, priced))
 
@@ -147,7 +147,7 @@ pub within_under : (o : Order) (away : Away) (locked price : HalfCents) → 1 �
 within_under o away locked price priced below =
     ap not (under locked (bound_of o away) price priced (buying o)) ∙ within_bound o away (executes_at (buying o) locked price) fits
   where
-    half_fits : (buy : Bool) → (half_aCent_the_incoming_way buy price).0 ≤ largest
+    half_fits : (buy : Bool) → (half_a_cent_the_incoming_way buy price).0 ≤ largest
     half_fits true = omega (arith, below)
     half_fits false = omega (arith, below)
 

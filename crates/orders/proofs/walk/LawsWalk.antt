@@ -14,7 +14,7 @@ use Rattle.basics.specs.Lists.{total, All, none, also}
 use Rattle.basics.proofs.LawsLists.{map-append}
 use Rattle.kinds.specs.Kinds.{shares}
 use Rattle.rules.specs.declared.Resting.{Resting}
-use Rattle.rules.specs.Book.{places_aSide}
+use Rattle.rules.specs.Book.{places_a_side}
 use Rattle.rules.specs.Holdings.{nothing, walk}
 use Rattle.rules.proofs.LawsTakings.{nothing_total}
 use Rattle.orders.specs.declared.cursor.Cursor.{Cursor}
@@ -106,7 +106,7 @@ pub record Underway (may : Part → Bool) (want : ℕ) (s : List Resting) (took�
   pub counted : length ks ≡ count
   pub room : count + length (ahead s c) ≤ most_takings
   pub rows : took ≡ laid (map taking_row ks) took₀
-  pub rest : outcome may ks c.at skipped left (ahead s c) ≡ outcome may [] 0 places_aSide want (parts s)
+  pub rest : outcome may ks c.at skipped left (ahead s c) ≡ outcome may [] 0 places_a_side want (parts s)
 
 -- the walk has ended so
 abbrev pub Ended : (Part → Bool) → ℕ → List Resting → List (List ℕ) → List (List ℕ) → Cursor → ℕ → ℕ → ℕ → Type 0
@@ -114,8 +114,8 @@ Ended may want s took₀ took c count left skipped =
     (record { count = count; left = shares left; at = c.at; skipped = skipped } ≡ walked_of may want (parts s))
     × (took ≡ laid (map taking_row (takings_of may want (parts s))) took₀)
 
-pub underway_start : (may : Part → Bool) (want : ℕ) (s : List Resting) (took : List (List ℕ)) → length s ≤ places_aSide
-    → Underway may want s took took start 0 want places_aSide
+pub underway_start : (may : Part → Bool) (want : ℕ) (s : List Resting) (took : List (List ℕ)) → length s ≤ places_a_side
+    → Underway may want s took took start 0 want places_a_side
 underway_start may want s took l =
     let e = ahead_start s in
     record {
@@ -136,7 +136,7 @@ module _ {may : Part → Bool} {want : ℕ} {s : List Resting} {took₀ took : L
       let k : w.ks ≡ takings_of may want (parts s) = ap (λ (o : Outcome). o.took) f in
       let l : left ≡ want - total (walk may part_gives want (parts s)) = ap (λ (o : Outcome). o.left) f in
       let i : c.at ≡ reached may 0 want (parts s) = ap (λ (o : Outcome). o.at) f in
-      let n : skipped ≡ first_skipped may places_aSide want (parts s) = ap (λ (o : Outcome). o.skipped) f in
+      let n : skipped ≡ first_skipped may places_a_side want (parts s) = ap (λ (o : Outcome). o.skipped) f in
       (rw (← k, ← l, ← i, ← n, w.counted), rw (← k) w.rows)
 
   pub ended_side : ahead s c ≡ [] → Ended may want s took₀ took c count left skipped
@@ -181,7 +181,7 @@ underway_past {may = may} {want = want} {s = s} {took₀ = took₀} {took = took
     let m : count + suc (length (ahead s next)) ≤ most_takings = rw g.list at w.room in
     let none : left - 0 ≡ left = omega arith in
     let r : outcome may (w.ks ++ taking p (part_gives left p)) next.at (if is_passed left p then min skipped p.place else skipped)
-    (left - part_gives left p) (ahead s next) ≡ outcome may [] 0 places_aSide want (parts s) = (underway_on w some g t).rest in
+    (left - part_gives left p) (ahead s next) ≡ outcome may [] 0 places_a_side want (parts s) = (underway_on w some g t).rest in
     record {
       is_at = g.stands;
       ks = w.ks;

@@ -15,7 +15,7 @@ use Rattle.basics.proofs.LawsChoice.{holds_or_not, by_choice, lt_or_le}
 use Rattle.basics.proofs.LawsLists.{all_alike, all_at, all_second}
 use Rattle.kinds.specs.declared.HalfCents.{HalfCents}
 use Rattle.rules.specs.declared.Resting.{Resting}
-use Rattle.rules.specs.Book.{places_aSide, unused, shares_left, better, in_rank_order}
+use Rattle.rules.specs.Book.{places_a_side, unused, shares_left, better, in_rank_order}
 use Rattle.rules.specs.Holdings.{holdings, taken_of, after}
 use Rattle.rules.specs.Working.{reaches}
 use Rattle.rules.proofs.LawsBest.{HoldingsBest, ranked_best, holdings_best}
@@ -161,7 +161,7 @@ module _ (buy : Bool) (bound : HalfCents) (want : ℕ) (s : List Resting) where
       → taken_at j ks ≡ shares_left (get_or s j unused)
   gave_all ranked wanted j l =
       let touched : is_touched j ≡ true = touched_before ranked j (omega (arith, l)) in
-      gave_all_held may want places_aSide j (parts_closed ranked)
+      gave_all_held may want places_a_side j (parts_closed ranked)
       (all_parts {P = λ (p : Part). p.place ≡ j → may p ≡ true} s (λ k b m e.
       sym (reaches_is buy bound (get_or s k unused).price) ∙ ap is_touched e ∙ touched))
       (omega (arith, wanted)) (omega (arith, l))
@@ -177,15 +177,15 @@ module _ (buy : Bool) (bound : HalfCents) (want : ℕ) (s : List Resting) where
       whole k false both m l = omega (arith, both m)
 
   -- the order at `kept` gave nothing
-  pub gave_none : length s ≤ places_aSide → All NotBoth s → taken_at kept ks ≡ 0
+  pub gave_none : length s ≤ places_a_side → All NotBoth s → taken_at kept ks ≡ 0
   gave_none fits alone =
-      let f = first_skipped may places_aSide want (parts s) in
+      let f = first_skipped may places_a_side want (parts s) in
       let r = reached may 0 want (parts s) in
       ⊎_elim
       (λ (l : f < r).
       let within : r ≤ length s = reached_within may (length s) 0 want (parts s) (parts_within s) (omega arith) in
       let is : min f r ≡ f = omega (arith, l) in
-      let keeps_all = skipped_kept may held_by places_aSide want f (one_part alone) refl (omega (arith, l, within, fits)) in
+      let keeps_all = skipped_kept may held_by places_a_side want f (one_part alone) refl (omega (arith, l, within, fits)) in
       rw is (omega (arith, side_held f s, keeps_all)))
       (λ (l : r ≤ f).
       let is : min f r ≡ r = omega (arith, l) in
@@ -194,7 +194,7 @@ module _ (buy : Bool) (bound : HalfCents) (want : ℕ) (s : List Resting) where
 
   -- a price reaches one of those that are left exactly if it reaches the one at `kept`
   pub reaches_left : in_rank_order (not buy) s ≡ true → All (λ (h : Resting). 1 ≤ h.shares.0) s → All NotBoth s
-      → length s ≤ places_aSide → 0 < w.left.0 → (price : HalfCents)
+      → length s ≤ places_a_side → 0 < w.left.0 → (price : HalfCents)
       → any (λ (h : Resting). reaches buy price h.price) (after_takings ks s)
       ≡ (ltb kept (length s) && reaches buy price (get_or s kept unused).price)
   reaches_left ranked shown alone fits wanted price =
@@ -228,7 +228,7 @@ module _ (o : Order) (met : Met) where
   unfolding walk_for
   post_first post = rw post
 
-  module _ (c : Walkable o met) (fits : length met.opposite ≤ places_aSide) where
+  module _ (c : Walkable o met) (fits : length met.opposite ≤ places_a_side) where
     alone : All NotBoth met.opposite
     alone = all_alike (λ h w. w.alone) c.workable
 

@@ -18,7 +18,7 @@ use Rattle.rules.specs.declared.Resting.{Resting}
 use Rattle.rules.specs.Book.{unused}
 use Rattle.rules.specs.Holdings.{Holding, holdings, nothing, walk, smaller}
 use Rattle.rules.specs.Instructions.{fok, post_only, has}
-use Rattle.rules.specs.Working.{buying, least_of, Met, half_aCent_the_incoming_way, execution_price, may_touch, walked, takings, remainder}
+use Rattle.rules.specs.Working.{buying, least_of, Met, half_a_cent_the_incoming_way, execution_price, may_touch, walked, takings, remainder}
 use Rattle.rules.proofs.LawsBest.{HoldingsBest, ranked_best, holdings_best}
 use Rattle.rules.proofs.LawsTakings.{nothing_total, walk_at_most}
 use Rattle.orders.specs.Locks.{locked_price, executes_at}
@@ -120,7 +120,7 @@ module _ (o : Order) (met : Met) where
     -- the price of an order alone tells at which it would execute
     pub executes_at_lem : All (λ (h : Resting). executes_at (buying o) (locked_price met.own) h.price ≡ execution_price o met h) side
     executes_at_lem =
-        all_alike (λ h t. ap (λ (b : Bool). if b then half_aCent_the_incoming_way (buying o) h.price else h.price) (sym t)) w.told
+        all_alike (λ h t. ap (λ (b : Bool). if b then half_a_cent_the_incoming_way (buying o) h.price else h.price) (sym t)) w.told
 
     module _ (plain : has o.word post_only ≡ false) where
       -- the one bound stands for the limit and the away price, and parts for holdings

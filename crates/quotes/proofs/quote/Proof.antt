@@ -15,7 +15,7 @@ use Rattle.side.specs.Table.{Shows}
 use Rattle.rules.specs.declared.Away.{Away}
 use Rattle.rules.specs.declared.Body.TheVariants as body
 use Rattle.rules.specs.declared.Resting.{Resting}
-use Rattle.rules.specs.Book.{Book, away_in_range, places_aSide}
+use Rattle.rules.specs.Book.{Book, away_in_range, places_a_side}
 use Rattle.rules.specs.Commands.{quote_fate}
 use Rattle.rules.specs.EventLines.{event_lines}
 use Rattle.rules.specs.Settling.{first_move, told, settled_side}
@@ -105,7 +105,7 @@ module _ (c : tie.After-move-side) where
   next_is = ap (λ (m : Settled). m.next) bought-is
 
   -- the bytes behind their lines
-  room : c.move-side.result.length + 27 * places_aSide ≤ length c.move-side.new.1.1.1.1.1.1.1.0
+  room : c.move-side.result.length + 27 * places_a_side ≤ length c.move-side.new.1.1.1.1.1.1.1.0
   room = omega (arith, bought-long, (sides-ready entered true first_move).lines, c.move-side.auto.1.1.1.1.1.1.1.0, (start entered).pre.1)
 
 -- ── The sells ──
@@ -127,8 +127,8 @@ move-side-requires-2 c κs =
     let r = sides-ready (entered k) false m.next in
     let bought = (sides-ready (entered k) true first_move).fits in
     let p = (start (entered k)).pre in
-    let fits : 27 * places_aSide ≤ length (take (length y - m.length) (drop m.length y)) = simp (length-take, length-drop) (omega (arith, room k)) in
-    let next : m.next ≤ first_move + places_aSide = omega (arith, next_is k, anew_fit (quote_fate (away k) true) (buys k), bought) in
+    let fits : 27 * places_a_side ≤ length (take (length y - m.length) (drop m.length y)) = simp (length-take, length-drop) (omega (arith, room k)) in
+    let next : m.next ≤ first_move + places_a_side = omega (arith, next_is k, anew_fit (quote_fate (away k) true) (buys k), bought) in
     (p.0.sells, r.ranked, omega (arith, next, p.0.sells.fits), omega (arith, r.lines, fits), (r.priced, r.older), r.countable)
 
 -- what the moves of the sells leave

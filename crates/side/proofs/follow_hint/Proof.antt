@@ -6,7 +6,7 @@ use lib.ListN.{get_or}
 use native.Mathlib.Omega.{arith}
 use borrow.Author.Rules.{rules}
 use borrow.Author.Tests.{eq-eqb}
-use Rattle.rules.specs.Book.{places_aSide}
+use Rattle.rules.specs.Book.{places_a_side}
 use Rattle.rules.specs.Commands.{is_number}
 use Rattle.side.proofs.rows.LawsIndex.{names_below}
 use Rattle.side.proofs.rows.LawsShown.{length_side}
@@ -56,9 +56,9 @@ returns-3 c =
     let i = c.before.place_of.result in
     let hint = c.before.before.before.before.before.before.wide in
     let o = c.before.before.before.before.before.row in
-    let slot = hint.result % places_aSide in
+    let slot = hint.result % places_a_side in
     let found : get_or a.x.now i 0 ≡ hint.result = c.before.place_of.ensures (omega arith) ∙ sym hint.ensures in
-    let in_table : get_or a.x.now i 0 < places_aSide = names_below a.x.now holds.names i (omega (arith, holds.fits)) in
+    let in_table : get_or a.x.now i 0 < places_a_side = names_below a.x.now holds.names i (omega (arith, holds.fits)) in
     let named : get_or a.x.now i 0 ≡ slot = omega (arith, found, in_table) in
     let its : is_number a.number o.result ≡ true = eq-eqb o.result.number.0 a.number.0 c.before.before.if1.false in
     λ l.

@@ -9,22 +9,22 @@ use native.Mathlib.Omega.{arith}
 use borrow.Author.Rules.{rules}
 use Rattle.basics.specs.Choice.{if◌then◌else◌}
 use Rattle.basics.proofs.LawsChoice.{holds_or_not}
-use Rattle.side.specs.Table.{places_aPart}
+use Rattle.side.specs.Table.{places_a_part}
 use Rattle.side.proofs.rows.LawsSteps.{counted, steps, step_at}
 use Rattle.side.proofs.place_of.Statement.{statement}
 use Rattle.side.proofs.place_of.Tie as tie
 
 abbrev invariant-loop2 : tie.invariant-loop2
-invariant-loop2 x n slot steps part found₀ i₀ found i = (i ≤ places_aPart) × (found < places_aPart)
+invariant-loop2 x n slot steps part found₀ i₀ found i = (i ≤ places_a_part) × (found < places_a_part)
 
 abbrev decreases-loop2 : tie.decreases-loop2
-decreases-loop2 x n slot steps part found₀ i₀ found i = places_aPart - i
+decreases-loop2 x n slot steps part found₀ i₀ found i = places_a_part - i
 
 abbrev invariant-loop : tie.invariant-loop
-invariant-loop x n slot steps part₀ part = part ≤ n + places_aPart
+invariant-loop x n slot steps part₀ part = part ≤ n + places_a_part
 
 abbrev decreases-loop : tie.decreases-loop
-decreases-loop x n slot steps part₀ part = n + places_aPart - part
+decreases-loop x n slot steps part₀ part = n + places_a_part - part
 
 whole-index-requires : tie.Need-whole-index-requires invariant-loop2 decreases-loop2 invariant-loop decreases-loop
 whole-index-requires c κs = search rules
@@ -65,7 +65,7 @@ loop2-again c =
     let b = get_or a.x.now (l.part + m.i) 0 in
     let h : c.before.here.result ≡ (if eqb b a.slot then get_or steps m.i 0 else 0) = c.before.here.ensures in
     let it = rw (step_at m.i (omega arith)) at h in
-    let below : c.before.here.result < places_aPart =
+    let below : c.before.here.result < places_a_part =
     ⊎_elim
     (λ (t : eqb b a.slot ≡ true). omega (arith, rw t at it))
     (λ (t : eqb b a.slot ≡ false). omega (arith, rw t at it))

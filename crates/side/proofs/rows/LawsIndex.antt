@@ -10,7 +10,7 @@ use borrow.Author.Tests.{eq-eqb}
 use Rattle.basics.specs.Choice.{if◌then◌else◌}
 use Rattle.basics.specs.Lists.{times, insert_at}
 use Rattle.basics.proofs.LawsChoice.{lt_or_le}
-use Rattle.rules.specs.Book.{places_aSide}
+use Rattle.rules.specs.Book.{places_a_side}
 use Rattle.side.specs.Table.{ranked, Names}
 
 -- ── The rows in rank order ──
@@ -64,25 +64,25 @@ times_there (suc k) (m ∷ s) l = omega (arith, times_there k s (omega arith))
 -- ── What an index names ──
 
 module _ (x : List ℕ) (names : Names x) where
-  pub names_below : (i : ℕ) → i < places_aSide → get_or x i 0 < places_aSide
+  pub names_below : (i : ℕ) → i < places_a_side → get_or x i 0 < places_a_side
   names_below i l =
-      let j = places_aSide - 1 - i in
-      let e : places_aSide - 1 - j ≡ i = omega arith in
-      let at : get_or (ranked places_aSide x) j 0 ≡ get_or x i 0 = ranked_at places_aSide x j (omega arith) ∙ ap (λ (k : ℕ). get_or x k 0) e in
-      let some : 1 ≤ times (get_or x i 0) (ranked places_aSide x) =
-      rw at at (times_there j (ranked places_aSide x) (omega (arith, length_ranked places_aSide x))) in
+      let j = places_a_side - 1 - i in
+      let e : places_a_side - 1 - j ≡ i = omega arith in
+      let at : get_or (ranked places_a_side x) j 0 ≡ get_or x i 0 = ranked_at places_a_side x j (omega arith) ∙ ap (λ (k : ℕ). get_or x k 0) e in
+      let some : 1 ≤ times (get_or x i 0) (ranked places_a_side x) =
+      rw at at (times_there j (ranked places_a_side x) (omega (arith, length_ranked places_a_side x))) in
       ⊎_elim
-      (λ (p : get_or x i 0 < places_aSide). p)
-      (λ (p : places_aSide ≤ get_or x i 0). let z : ⊥ = omega (arith, names.in_table (get_or x i 0) p, some) in absurd z)
-      (lt_or_le (get_or x i 0) places_aSide)
+      (λ (p : get_or x i 0 < places_a_side). p)
+      (λ (p : places_a_side ≤ get_or x i 0). let z : ⊥ = omega (arith, names.in_table (get_or x i 0) p, some) in absurd z)
+      (lt_or_le (get_or x i 0) places_a_side)
 
-  pub ranked_once : (n : ℕ) → n ≤ places_aSide → (j : ℕ) → times j (ranked n x) ≤ 1
+  pub ranked_once : (n : ℕ) → n ≤ places_a_side → (j : ℕ) → times j (ranked n x) ≤ 1
   unfolding times
   ranked_once n l j =
-      let k : places_aSide - (places_aSide - n) ≡ n = omega arith in
-      let d : drop (places_aSide - n) (ranked places_aSide x) ≡ ranked n x =
-      ranked_drop places_aSide x (places_aSide - n) (omega arith) ∙ ap (λ (m : ℕ). ranked m x) k in
-      omega (arith, names.once j, fewer (places_aSide - n) (ranked places_aSide x), ap (times j) d)
+      let k : places_a_side - (places_a_side - n) ≡ n = omega arith in
+      let d : drop (places_a_side - n) (ranked places_a_side x) ≡ ranked n x =
+      ranked_drop places_a_side x (places_a_side - n) (omega arith) ∙ ap (λ (m : ℕ). ranked m x) k in
+      omega (arith, names.once j, fewer (places_a_side - n) (ranked places_a_side x), ap (times j) d)
     where
       fewer : (k : ℕ) (s : List ℕ) → times j (drop k s) ≤ times j s
       fewer zero s = omega arith
@@ -90,7 +90,7 @@ module _ (x : List ℕ) (names : Names x) where
       fewer (suc k) (m ∷ s) = omega (arith, fewer k s)
 
   -- the row of the next place is not among those in use
-  pub next_free : (n : ℕ) → n < places_aSide → times (get_or x n 0) (ranked n x) ≡ 0
+  pub next_free : (n : ℕ) → n < places_a_side → times (get_or x n 0) (ranked n x) ≡ 0
   unfolding times ranked
   next_free n l =
       let e = eq-eqb (get_or x n 0) (get_or x n 0) refl in
@@ -98,7 +98,7 @@ module _ (x : List ℕ) (names : Names x) where
       omega (arith, rw e at h)
 
 -- an index that names the same rows as often names as well
-pub names_same : (x y : List ℕ) → Names x → length y ≡ length x → ((j : ℕ) → times j (ranked places_aSide y) ≡ times j (ranked places_aSide x)) → Names y
+pub names_same : (x y : List ℕ) → Names x → length y ≡ length x → ((j : ℕ) → times j (ranked places_a_side y) ≡ times j (ranked places_a_side x)) → Names y
 names_same x y n l e = record {
   long = l ∙ n.long;
   in_table = λ j p. e j ∙ n.in_table j p;

@@ -14,7 +14,7 @@ use Rattle.basics.specs.Lists.{times, insert_at, remove_at}
 use Rattle.basics.proofs.LawsChoice.{holds_or_not}
 use Rattle.basics.proofs.LawsLists.{map_drop, map_set, map_insert_at, map_remove_at, length_remove_at}
 use Rattle.rules.specs.declared.Resting.{Resting}
-use Rattle.rules.specs.Book.{places_aSide, unused}
+use Rattle.rules.specs.Book.{places_a_side, unused}
 use Rattle.side.specs.Table.{order_of, row_of, level_of, level_in, ranked, rows_at, side, Names, Holds, Shows}
 use Rattle.side.proofs.rows.LawsTable.{orders_rows}
 use Rattle.side.proofs.rows.LawsIndex.{length_ranked, ranked_at, ranked_drop, names_below, ranked_once, next_free, times_there}
@@ -71,7 +71,7 @@ pub shown_same : {s : List Resting} {x x' : List ℕ} {t t' : List (List ℕ)} �
 shown_same p q = p.is ∙ sym q.is
 
 -- rows that are those of some orders show them
-pub shows_rows : (s : List Resting) (x : List ℕ) (t : List (List ℕ)) (n : ℕ) → length s ≡ n → n ≤ places_aSide → length t ≡ places_aSide → Names x
+pub shows_rows : (s : List Resting) (x : List ℕ) (t : List (List ℕ)) (n : ℕ) → length s ≡ n → n ≤ places_a_side → length t ≡ places_a_side → Names x
     → rows_at t (ranked n x) ≡ map row_of s → Shows s x t
 shows_rows s x t n long fits all names rows =
     let is : side n x t ≡ s = ap (map order_of) rows ∙ orders_rows s in
@@ -121,7 +121,7 @@ put_named r t (j ∷ js) (suc i) l b o =
 
 module _ (n : ℕ) (x : List ℕ) (t : List (List ℕ)) (h : Holds n x t) where
   -- one more order, in the row of the next place, at rank `at`
-  pub side_inserted : (x' : List ℕ) (at : ℕ) (o : Resting) → at ≤ n → n < places_aSide → Names x' → ranked (n + 1) x' ≡ insert_at at (get_or x n 0) (ranked n x)
+  pub side_inserted : (x' : List ℕ) (at : ℕ) (o : Resting) → at ≤ n → n < places_a_side → Names x' → ranked (n + 1) x' ≡ insert_at at (get_or x n 0) (ranked n x)
       → Shows (insert_at at o (side n x t)) x' (set t (get_or x n 0) (row_of o))
   side_inserted x' at o l p names e =
       let v = get_or x n 0 in

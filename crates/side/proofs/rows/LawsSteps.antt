@@ -4,7 +4,7 @@ use mathlib.Core.List.{List, [], ◌∷◌}
 use mathlib.Core.Path.{◌≡◌, ◌∙◌}
 use lib.ListN.{get_or}
 use native.Mathlib.Omega.{arith}
-use Rattle.side.specs.Table.{places_aPart}
+use Rattle.side.specs.Table.{places_a_part}
 
 -- n numbers from i on
 unfoldable pub counted : ℕ → ℕ → List ℕ
@@ -19,7 +19,7 @@ counted_at i (suc n) (suc k) l = counted_at (suc i) n k (omega arith) ∙ omega 
 
 -- the code's list of them
 abbrev pub steps : List ℕ
-steps = counted 0 places_aPart
+steps = counted 0 places_a_part
 
-pub step_at : (k : ℕ) → k < places_aPart → get_or steps k 0 ≡ k
-step_at k l = counted_at 0 places_aPart k l ∙ omega arith
+pub step_at : (k : ℕ) → k < places_a_part → get_or steps k 0 ≡ k
+step_at k l = counted_at 0 places_a_part k l ∙ omega arith

@@ -15,7 +15,7 @@ use Rattle.basics.specs.Choice.{if◌then◌else◌}
 use Rattle.basics.specs.Lists.{insert_at, remove_at}
 use Rattle.basics.proofs.LawsChoice.{holds_or_not, lt_or_le}
 use Rattle.basics.proofs.LawsLists.{length_remove_at}
-use Rattle.side.specs.Table.{places_aPart, rotated}
+use Rattle.side.specs.Table.{places_a_part, rotated}
 
 -- ── One element in or out, place by place ──
 
@@ -117,20 +117,20 @@ module _ (x : List ℕ) (from to : ℕ) (f : from < length x) (t : to < length x
 
 -- ── A loop that moves it, part by part ──
 
-module _ (place part i : ℕ) (short : i < places_aPart) where
+module _ (place part i : ℕ) (short : i < places_a_part) where
   -- whether a place of a part comes before another place of the index, or not
-  pub within_le : leb (min (place - part) places_aPart) i ≡ leb place (part + i)
+  pub within_le : leb (min (place - part) places_a_part) i ≡ leb place (part + i)
   within_le =
       ⊎_elim
-      (λ (p : part + i < place). lt-leb (min (place - part) places_aPart) i (omega arith) ∙ sym (lt-leb place (part + i) p))
-      (λ (p : place ≤ part + i). le-leb (min (place - part) places_aPart) i (omega arith) ∙ sym (le-leb place (part + i) p))
+      (λ (p : part + i < place). lt-leb (min (place - part) places_a_part) i (omega arith) ∙ sym (lt-leb place (part + i) p))
+      (λ (p : place ≤ part + i). le-leb (min (place - part) places_a_part) i (omega arith) ∙ sym (le-leb place (part + i) p))
       (lt_or_le (part + i) place)
 
-  pub within_lt : ltb i (min (place - part) places_aPart) ≡ ltb (part + i) place
+  pub within_lt : ltb i (min (place - part) places_a_part) ≡ ltb (part + i) place
   within_lt =
       ⊎_elim
-      (λ (p : part + i < place). lt-ltb i (min (place - part) places_aPart) (omega arith) ∙ sym (lt-ltb (part + i) place p))
-      (λ (p : place ≤ part + i). le-ltb i (min (place - part) places_aPart) (omega arith) ∙ sym (le-ltb (part + i) place p))
+      (λ (p : part + i < place). lt-ltb i (min (place - part) places_a_part) (omega arith) ∙ sym (lt-ltb (part + i) place p))
+      (λ (p : place ≤ part + i). le-ltb i (min (place - part) places_a_part) (omega arith) ∙ sym (le-ltb (part + i) place p))
       (lt_or_le (part + i) place)
 
 -- In y the places before i are as they are to be, all but the place `to`, which is left for the end; from i on they are still those of x.

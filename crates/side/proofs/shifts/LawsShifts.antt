@@ -11,7 +11,7 @@ use Rattle.basics.specs.Choice.{if◌then◌else◌}
 use Rattle.basics.specs.Lists.{times, insert_at, remove_at}
 use Rattle.basics.proofs.LawsLists.{length_remove_at}
 use Rattle.rules.specs.declared.Resting.{Resting}
-use Rattle.rules.specs.Book.{places_aSide}
+use Rattle.rules.specs.Book.{places_a_side}
 use Rattle.side.specs.Table.{row_of, ranked, rotated, side, Names, Holds, Shows}
 use Rattle.side.proofs.rows.LawsIndex.{length_ranked, ranked_alike, times_insert_at, names_same}
 use Rattle.side.proofs.rows.LawsShown.{side_inserted, side_removed}
@@ -63,7 +63,7 @@ ranked_hinted x n hint v l = ranked_alike n (set x hint v) x (λ i p. get_or-set
 
 module _ (x : List ℕ) (names : Names x) where
   -- whichever byte moved, and wherever to: in and out of a place a byte counts the same
-  names_rotated : (from to : ℕ) → from < places_aSide → to < places_aSide → Names (rotated from to x)
+  names_rotated : (from to : ℕ) → from < places_a_side → to < places_a_side → Names (rotated from to x)
   names_rotated from to f t =
       let all = names.long in
       let in_x : from < length x = omega arith in
@@ -71,20 +71,20 @@ module _ (x : List ℕ) (names : Names x) where
       names_same x (rotated from to x) names (length_rotated x from to (omega arith) (omega arith))
       (λ j. times_with j to (omega arith) t ∙ sym (rw (insert_at_remove_at 0 from x) at (times_with j from (omega arith) f)))
     where
-      times_with : (j at : ℕ) → at ≤ length (remove_at from x) → at < places_aSide
-          → times j (ranked places_aSide (insert_at at (get_or x from 0) (remove_at from x)))
-          ≡ (if eqb (get_or x from 0) j then 1 else 0) + times j (ranked (places_aSide - 1) (remove_at from x))
+      times_with : (j at : ℕ) → at ≤ length (remove_at from x) → at < places_a_side
+          → times j (ranked places_a_side (insert_at at (get_or x from 0) (remove_at from x)))
+          ≡ (if eqb (get_or x from 0) j then 1 else 0) + times j (ranked (places_a_side - 1) (remove_at from x))
       times_with j at p l =
-          ap (times j) (ranked_inserted at (get_or x from 0) (remove_at from x) p (places_aSide - 1) (omega arith))
-          ∙ times_insert_at j (places_aSide - 1 - at) (get_or x from 0) (ranked (places_aSide - 1) (remove_at from x))
+          ap (times j) (ranked_inserted at (get_or x from 0) (remove_at from x) p (places_a_side - 1) (omega arith))
+          ∙ times_insert_at j (places_a_side - 1 - at) (get_or x from 0) (ranked (places_a_side - 1) (remove_at from x))
 
-  names_hinted : (hint v : ℕ) → places_aSide ≤ hint → Names (set x hint v)
-  names_hinted hint v l = names_same x (set x hint v) names (length-set x hint v) (λ j. ap (times j) (ranked_hinted x places_aSide hint v l))
+  names_hinted : (hint v : ℕ) → places_a_side ≤ hint → Names (set x hint v)
+  names_hinted hint v l = names_same x (set x hint v) names (length-set x hint v) (λ j. ap (times j) (ranked_hinted x places_a_side hint v l))
 
 -- ── The side that it shows ──
 
 module _ (n : ℕ) (x : List ℕ) (t : List (List ℕ)) (h : Holds n x t) where
-  pub shows_inserted : (at hint : ℕ) (o : Resting) → at ≤ n → n < places_aSide → places_aSide ≤ hint
+  pub shows_inserted : (at hint : ℕ) (o : Resting) → at ≤ n → n < places_a_side → places_a_side ≤ hint
       → Shows (insert_at at o (side n x t)) (set (rotated n (n - at) x) hint (get_or x n 0)) (set t (get_or x n 0) (row_of o))
   shows_inserted at hint o l p far =
       let x₁ = rotated n (n - at) x in

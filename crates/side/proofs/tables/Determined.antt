@@ -4,7 +4,7 @@ use Prim.Native.Nat.{ℕ, ◌<◌}
 use mathlib.Core.List.{List}
 use mathlib.Core.Path.{◌≡◌, sym, ◌∙◌}
 use lib.ListN.{get_or}
-use Rattle.rules.specs.Book.{places_aSide}
+use Rattle.rules.specs.Book.{places_a_side}
 use Rattle.rules.specs.declared.Resting.{Resting}
 use Rattle.side.specs.declared.tables.Step.{Step}
 use Rattle.side.proofs.tables.refuse.Reads as refuse
@@ -21,11 +21,11 @@ load_determined κs a r r' s s' p q = p ∙ sym q
 
 -- of an index its names; of its hints nothing is said
 pub number_determined : (κs : _) (a : _) (r r' : _) (s s' : _) → number.Post κs a r s → number.Post κs a r' s'
-    → (i : ℕ) → i < places_aSide → get_or s.0.now i 0 ≡ get_or s'.0.now i 0
+    → (i : ℕ) → i < places_a_side → get_or s.0.now i 0 ≡ get_or s'.0.now i 0
 number_determined κs a r r' s s' p q i l = p.each i l ∙ sym (q.each i l)
 
 pub clear_determined : (κs : _) (a : _) (r r' : _) (s s' : _) → clear.Post κs a r s → clear.Post κs a r' s'
-    → (i : ℕ) → i < places_aSide → get_or s.0.now i 0 ≡ get_or s'.0.now i 0
+    → (i : ℕ) → i < places_a_side → get_or s.0.now i 0 ≡ get_or s'.0.now i 0
 clear_determined κs a r r' s s' p q i l = p.1.each i l ∙ sym (q.1.each i l)
 
 pub save_determined : (κs : _) (a : _) (r r' : List Resting) (s s' : _) → save.Post κs a r s → save.Post κs a r' s' → r ≡ r'

@@ -15,7 +15,7 @@ use Rattle.basics.specs.Lists.{times}
 use Rattle.basics.proofs.LawsChoice.{holds_or_not, lt_or_le}
 use Rattle.basics.proofs.LawsLists.{map_take}
 use Rattle.rules.specs.declared.Resting.{Resting}
-use Rattle.rules.specs.Book.{places_aSide}
+use Rattle.rules.specs.Book.{places_a_side}
 use Rattle.side.specs.Table.{row_of, ranked, rows_at, Names, Shows}
 use Rattle.side.proofs.rows.LawsIndex.{length_ranked, ranked_at}
 use Rattle.side.proofs.rows.LawsShown.{get_d_map_in, shows_rows}
@@ -32,9 +32,9 @@ turned_back n i =
 turned_past : (n i : ℕ) → n ≤ i → numbered_at n i ≡ i
 turned_past n i l = rw (le-ltb i n l)
 
-module _ (n : ℕ) (x : List ℕ) (fits : n ≤ places_aSide) (numbered : Numbered n x) where
+module _ (n : ℕ) (x : List ℕ) (fits : n ≤ places_a_side) (numbered : Numbered n x) where
   -- a row is named at one place alone
-  named_at : (j m : ℕ) → m ≤ places_aSide → times j (ranked m x) ≤ (if ltb (numbered_at n j) m then 1 else 0)
+  named_at : (j m : ℕ) → m ≤ places_a_side → times j (ranked m x) ≤ (if ltb (numbered_at n j) m then 1 else 0)
   unfolding times ranked
   named_at j zero l = omega arith
   named_at j (suc m) l =
@@ -60,14 +60,14 @@ module _ (n : ℕ) (x : List ℕ) (fits : n ≤ places_aSide) (numbered : Number
   numbered_names = record {
     long = numbered.long;
     in_table = λ j p. none j p;
-    once = λ j. omega (arith, named_at j places_aSide (omega arith), at_most_one_lem (numbered_at n j) places_aSide);
+    once = λ j. omega (arith, named_at j places_a_side (omega arith), at_most_one_lem (numbered_at n j) places_a_side);
   }
     where
-      none : (j : ℕ) → places_aSide ≤ j → times j (ranked places_aSide x) ≡ 0
+      none : (j : ℕ) → places_a_side ≤ j → times j (ranked places_a_side x) ≡ 0
       none j p =
-          let h = named_at j places_aSide (omega arith) in
+          let h = named_at j places_a_side (omega arith) in
           let e : numbered_at n j ≡ j = turned_past n j (omega arith) in
-          omega (arith, rw (e, le-ltb j places_aSide p) at h)
+          omega (arith, rw (e, le-ltb j places_a_side p) at h)
 
       at_most_one_lem : (k m : ℕ) → (if ltb k m then 1 else 0) ≤ 1
       at_most_one_lem k m =
@@ -77,7 +77,7 @@ module _ (n : ℕ) (x : List ℕ) (fits : n ≤ places_aSide) (numbered : Number
           (lt_or_le k m)
 
   -- the rows in rank order are the first n rows
-  rows_first : (t : List (List ℕ)) → length t ≡ places_aSide → rows_at t (ranked n x) ≡ take n t
+  rows_first : (t : List (List ℕ)) → length t ≡ places_a_side → rows_at t (ranked n x) ≡ take n t
   rows_first t all =
       ext_get_or [] (rows_at t (ranked n x)) (take n t)
       (length-map (ranked n x) (λ (j : ℕ). get_or t j []) ∙ length_ranked n x ∙ sym (length-take-le n t (omega arith)))
@@ -92,13 +92,13 @@ module _ (n : ℕ) (x : List ℕ) (fits : n ≤ places_aSide) (numbered : Number
           ∙ (ap (λ (j : ℕ). get_or t j []) is ∙ sym (get_or-take n t i [] l))
 
   -- what was loaded is shown
-  pub numbered_shows : (places : List Resting) → length places ≡ places_aSide → Shows (take n places) x (map row_of places)
+  pub numbered_shows : (places : List Resting) → length places ≡ places_a_side → Shows (take n places) x (map row_of places)
   numbered_shows places all =
       let long = length-map places row_of ∙ all in
       shows_rows (take n places) x (map row_of places) n (length-take-le n places (omega arith)) fits long numbered_names
       (rows_first (map row_of places) long ∙ sym (map_take row_of n places))
 
 -- and of no orders any table will do
-pub numbered_none : (x : List ℕ) (t : List (List ℕ)) → Numbered 0 x → length t ≡ places_aSide → Shows [] x t
+pub numbered_none : (x : List ℕ) (t : List (List ℕ)) → Numbered 0 x → length t ≡ places_a_side → Shows [] x t
 unfolding ranked
 numbered_none x t numbered all = shows_rows [] x t 0 refl (omega arith) all (numbered_names 0 x (omega arith) numbered) refl

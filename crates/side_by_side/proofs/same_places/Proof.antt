@@ -1,15 +1,15 @@
 -- `side_by_side::same_places` is safe and ends: it looks at all places. Assumes nothing.
 use Prim.Native.Nat.{◌-◌, ◌≤◌}
-use Rattle.rules.specs.Book.{places_aSide}
+use Rattle.rules.specs.Book.{places_a_side}
 use borrow.Author.Rules.{rules}
 use Rattle.side_by_side.proofs.same_places.Statement.{statement}
 use Rattle.side_by_side.proofs.same_places.Tie as tie
 
 abbrev invariant-loop : tie.invariant-loop
-invariant-loop a b i₀ i = i ≤ places_aSide
+invariant-loop a b i₀ i = i ≤ places_a_side
 
 abbrev decreases-loop : tie.decreases-loop
-decreases-loop a b i₀ i = places_aSide - i
+decreases-loop a b i₀ i = places_a_side - i
 
 loop-holds : tie.Need-loop-init invariant-loop decreases-loop
 loop-holds c = search rules

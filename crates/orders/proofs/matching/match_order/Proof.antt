@@ -21,7 +21,7 @@ use Rattle.kinds.specs.declared.HalfCents.{HalfCents}
 use Rattle.rules.specs.declared.Ending.{Ending}
 use Rattle.rules.specs.declared.Event.{Event}
 use Rattle.rules.specs.declared.Resting.{Resting}
-use Rattle.rules.specs.Book.{places_aSide}
+use Rattle.rules.specs.Book.{places_a_side}
 use Rattle.rules.specs.EventLines.{event_lines}
 use Rattle.rules.specs.Refusals.{is_rest}
 use Rattle.rules.specs.Holdings.{holdings, executions, after}
@@ -121,7 +121,7 @@ module _ (c : tie.After-places-after) where
   unfolding start own opposite
   can-walk = is-walkable start
 
-  fits : length opposite ≤ places_aSide
+  fits : length opposite ≤ places_a_side
   unfolding start opposite
   fits = omega (arith, start.pre.1.fits, length_side start.args.m start.args.y.now start.args.opposite.now)
 

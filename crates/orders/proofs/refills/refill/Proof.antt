@@ -17,7 +17,7 @@ use Rattle.side.proofs.rows.LawsShown.{length_side}
 use Rattle.rules.specs.declared.Fate.{Fate}
 use Rattle.rules.specs.declared.Fate.TheVariants.{IsSet}
 use Rattle.rules.specs.declared.Resting.{Resting}
-use Rattle.rules.specs.Book.{places_aSide, unused, stamp}
+use Rattle.rules.specs.Book.{places_a_side, unused, stamp}
 use Rattle.rules.specs.EventLines.{event_lines}
 use Rattle.rules.specs.Settling.{first_move, refilled, stamped_as, insert, told_by, told}
 use Rattle.rules.specs.Working.{refill_fate}

@@ -23,7 +23,7 @@ use Rattle.rules.specs.declared.Fate.{Fate}
 use Rattle.rules.specs.declared.Fate.TheVariants.{Stays, IsCancelled, IsSet}
 use Rattle.rules.specs.declared.Resting.{Resting}
 use Rattle.rules.specs.declared.Stamp.{Stamp}
-use Rattle.rules.specs.Book.{places_aSide, better, unused, stamp, in_rank_order}
+use Rattle.rules.specs.Book.{places_a_side, better, unused, stamp, in_rank_order}
 use Rattle.rules.specs.EventLines.{event_lines, cancelled_back}
 use Rattle.rules.specs.Settling.{set_at, stamped_as, told_by, told}
 use Rattle.rules.specs.Working.{locking_price, absent, beyond}
@@ -116,7 +116,7 @@ invariant-loop x₀ t₀ n buying number first out₀ locking m₀ at₀ x t out
     × All Countable s
 
 abbrev decreases-loop : tie.decreases-loop
-decreases-loop x₀ t₀ n buying number first out₀ locking m₀ at₀ x t out m at = length (told (quoted buying locking) (side m.held x t)) + (places_aSide - at)
+decreases-loop x₀ t₀ n buying number first out₀ locking m₀ at₀ x t out m at = length (told (quoted buying locking) (side m.held x t)) + (places_a_side - at)
 
 locking-price-requires : tie.Need-locking-price-requires invariant-loop decreases-loop
 locking-price-requires c κs = search rules

@@ -4,7 +4,7 @@ use mathlib.Core.Path.{◌≡◌, sym, ◌∙◌}
 use lib.ListN.{get_or}
 use native.Mathlib.Omega.{arith}
 use borrow.Author.Rules.{rules}
-use Rattle.rules.specs.Book.{places_aSide}
+use Rattle.rules.specs.Book.{places_a_side}
 use Rattle.side.proofs.rows.LawsIndex.{ranked_at, names_below}
 use Rattle.side.proofs.rows.slot_at.Statement.{statement}
 use Rattle.side.proofs.rows.slot_at.Tie as tie
@@ -29,7 +29,7 @@ returns c =
     let start = c.before.before.before in
     let a = start.args in
     let e : c.wide.result ≡ get_or a.x.now (a.n - 1 - a.i) 0 = c.wide.ensures in
-    let below : get_or a.x.now (a.n - 1 - a.i) 0 < places_aSide = names_below a.x.now start.requires.0 (a.n - 1 - a.i) (omega arith) in
+    let below : get_or a.x.now (a.n - 1 - a.i) 0 < places_a_side = names_below a.x.now start.requires.0 (a.n - 1 - a.i) (omega arith) in
     (e ∙ sym (ranked_at a.n a.x.now a.i start.requires.1), rw e below)
 
 pub slot-at-spec : {M : Type 1} → statement M

@@ -9,7 +9,7 @@ use lib.ListN.{length, get_or, length-set}
 use native.Mathlib.Omega.{arith}
 use borrow.Author.Rules.{rules}
 use Rattle.basics.specs.Choice.{if◌then◌else◌}
-use Rattle.side.specs.Table.{index_size, places_aPart}
+use Rattle.side.specs.Table.{index_size, places_a_part}
 use Rattle.side.proofs.rows.LawsSteps.{counted, steps, step_at}
 use Rattle.side.proofs.shifts.LawsRotated.{Lowering, lowering_step, filled_end, within_le, within_lt}
 use Rattle.side.proofs.shifts.lower.Statement.{statement}
@@ -18,16 +18,16 @@ use Rattle.side.proofs.shifts.lower.Tie as tie
 -- within a part: whatever it was that had come so far when the part began has come further
 abbrev invariant-loop2 : tie.invariant-loop2
 invariant-loop2 y from to v steps b₀ part lo hi i₀ x b i =
-    (i ≤ places_aPart) × (length x ≡ length y) × ((z : List ℕ) → length z ≡ index_size → Lowering from to z part b₀ y → Lowering from to z (part + i) b x)
+    (i ≤ places_a_part) × (length x ≡ length y) × ((z : List ℕ) → length z ≡ index_size → Lowering from to z part b₀ y → Lowering from to z (part + i) b x)
 
 abbrev decreases-loop2 : tie.decreases-loop2
-decreases-loop2 y from to v steps b₀ part lo hi i₀ x b i = places_aPart - i
+decreases-loop2 y from to v steps b₀ part lo hi i₀ x b i = places_a_part - i
 
 abbrev invariant-loop : tie.invariant-loop
-invariant-loop x₀ from to v steps b₀ part₀ x b part = (part ≤ to + places_aPart) × Lowering from to x₀ part b x
+invariant-loop x₀ from to v steps b₀ part₀ x b part = (part ≤ to + places_a_part) × Lowering from to x₀ part b x
 
 abbrev decreases-loop : tie.decreases-loop
-decreases-loop x₀ from to v steps b₀ part₀ x b part = to + places_aPart - part
+decreases-loop x₀ from to v steps b₀ part₀ x b part = to + places_a_part - part
 
 whole-index-requires : tie.Need-whole-index-requires invariant-loop2 decreases-loop2 invariant-loop decreases-loop
 whole-index-requires c κs = search rules
@@ -120,7 +120,7 @@ loop-again c =
     let m = c.before.loop2 in
     let x₀ = c.before.before.before.before.before.before.before.before.before.before.args.x.now in
     let long : length x₀ ≡ index_size = c.before.before.before.before.before.before.before.before.whole-index.ensures in
-    let all : l.part + m.i ≡ l.part + places_aPart = omega arith in
+    let all : l.part + m.i ≡ l.part + places_a_part = omega arith in
     (omega arith, rw all at (m.invariant.2 x₀ long l.invariant.1))
 
 element-write-x-2 : tie.Need-element-write-x-2 invariant-loop2 decreases-loop2 invariant-loop decreases-loop

@@ -3,7 +3,7 @@ use Prim.Native.Nat.{◌-◌, ◌≤◌}
 use mathlib.Core.Path.{◌≡◌, refl, ap, ◌∙◌}
 use lib.ListN.{length, set, get_or}
 use mathlib.Core.List.{[]}
-use Rattle.rules.specs.Book.{places_aSide, unused}
+use Rattle.rules.specs.Book.{places_a_side, unused}
 use Rattle.side.specs.Table.{row_of}
 use Rattle.side.proofs.tables.LawsCopied.{copied, copied_step, copied_all}
 use native.Mathlib.Omega.{arith}
@@ -12,10 +12,10 @@ use Rattle.side.proofs.tables.load.Statement.{statement}
 use Rattle.side.proofs.tables.load.Tie as tie
 
 abbrev invariant-loop : tie.invariant-loop
-invariant-loop t₀ places i₀ t i = (i ≤ places_aSide) × (t ≡ copied row_of places t₀ i)
+invariant-loop t₀ places i₀ t i = (i ≤ places_a_side) × (t ≡ copied row_of places t₀ i)
 
 abbrev decreases-loop : tie.decreases-loop
-decreases-loop t₀ places i₀ t i = places_aSide - i
+decreases-loop t₀ places i₀ t i = places_a_side - i
 
 whole-requires : tie.Need-whole-requires invariant-loop decreases-loop
 whole-requires c κs = search rules
@@ -42,8 +42,8 @@ loop-again : tie.Need-loop-preserved invariant-loop decreases-loop
 loop-again c =
     let l = c.before.before.before.before.loop in
     let a = c.before.before.before.before.before.before.before.args in
-    let f : length a.t.now ≡ places_aSide = c.before.before.before.before.before.whole.ensures in
-    let g : length a.t2 ≡ places_aSide = search rules in
+    let f : length a.t.now ≡ places_a_side = c.before.before.before.before.before.whole.ensures in
+    let g : length a.t2 ≡ places_a_side = search rules in
     let e : c.put-row.new.0 ≡ set l.t l.i (row_of (get_or a.t2 l.i unused)) = c.put-row.ensures in
     (omega arith, e ∙ copied_step row_of unused [] a.t2 a.t.now l.t l.i (row_of (get_or a.t2 l.i unused)) (omega arith) (omega arith) refl l.invariant.1)
 
@@ -51,10 +51,10 @@ returns : tie.Need-returns invariant-loop decreases-loop
 returns c =
     let l = c.before.loop in
     let a = c.before.before.before.before.args in
-    let f : length a.t.now ≡ places_aSide = c.before.before.whole.ensures in
-    let g : length a.t2 ≡ places_aSide = search rules in
-    let z : l.i ≡ places_aSide = omega arith in
-    l.invariant.1 ∙ ap (copied row_of a.t2 a.t.now) z ∙ copied_all row_of unused [] a.t2 a.t.now places_aSide g f
+    let f : length a.t.now ≡ places_a_side = c.before.before.whole.ensures in
+    let g : length a.t2 ≡ places_a_side = search rules in
+    let z : l.i ≡ places_a_side = omega arith in
+    l.invariant.1 ∙ ap (copied row_of a.t2 a.t.now) z ∙ copied_all row_of unused [] a.t2 a.t.now places_a_side g f
 
 pub load_spec : {M : Type 1} → statement M
 load_spec =

@@ -8,17 +8,17 @@ use lib.Seq.{get_or-set_same, get_or-set_other}
 use native.Mathlib.Omega.{arith}
 use borrow.Author.Rules.{rules}
 use Rattle.basics.proofs.LawsChoice.{lt_or_le}
-use Rattle.rules.specs.Book.{places_aSide}
+use Rattle.rules.specs.Book.{places_a_side}
 use Rattle.side.specs.Table.{index_size}
 use Rattle.side.specs.Tables.{numbered_at}
 use Rattle.side.proofs.tables.number.Statement.{statement}
 use Rattle.side.proofs.tables.number.Tie as tie
 
 abbrev invariant-loop : tie.invariant-loop
-invariant-loop x₀ n i₀ x i = (i ≤ places_aSide) × (length x ≡ index_size) × ((k : ℕ) → k < i → get_or x k 0 ≡ numbered_at n k)
+invariant-loop x₀ n i₀ x i = (i ≤ places_a_side) × (length x ≡ index_size) × ((k : ℕ) → k < i → get_or x k 0 ≡ numbered_at n k)
 
 abbrev decreases-loop : tie.decreases-loop
-decreases-loop x₀ n i₀ x i = places_aSide - i
+decreases-loop x₀ n i₀ x i = places_a_side - i
 
 whole-index-requires : tie.Need-whole-index-requires invariant-loop decreases-loop
 whole-index-requires c κs = search rules

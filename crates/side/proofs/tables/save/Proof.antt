@@ -7,7 +7,7 @@ use lib.Seq.{take_all}
 use native.Mathlib.Omega.{arith}
 use borrow.Author.Rules.{rules}
 use Rattle.rules.specs.declared.Resting.{Resting}
-use Rattle.rules.specs.Book.{places_aSide, unused, places_of}
+use Rattle.rules.specs.Book.{places_a_side, unused, places_of}
 use Rattle.side.specs.Table.{side}
 use Rattle.side.proofs.rows.LawsShown.{length_side}
 use Rattle.side.proofs.tables.LawsCopied.{copied, copied_step}
@@ -15,7 +15,7 @@ use Rattle.side.proofs.tables.save.Statement.{statement}
 use Rattle.side.proofs.tables.save.Tie as tie
 
 abbrev invariant-loop : tie.invariant-loop
-invariant-loop x t n places₀ i₀ places i = (i ≤ n) × (places ≡ copied (λ (o : Resting). o) (side n x t) (replicate places_aSide unused) i)
+invariant-loop x t n places₀ i₀ places i = (i ≤ n) × (places ≡ copied (λ (o : Resting). o) (side n x t) (replicate places_a_side unused) i)
 
 abbrev decreases-loop : tie.decreases-loop
 decreases-loop x t n places₀ i₀ places i = n - i
@@ -46,8 +46,8 @@ loop-again c =
     let s = side a.n a.x.now a.t.now in
     let f = start.requires.fits in (
       omega arith,
-      copied_step (λ (o : Resting). o) unused unused s (replicate places_aSide unused) l.places l.i c.at.result
-          (omega (arith, length_side a.n a.x.now a.t.now)) (omega (arith, length-replicate places_aSide unused)) c.at.ensures l.invariant.1,
+      copied_step (λ (o : Resting). o) unused unused s (replicate places_a_side unused) l.places l.i c.at.result
+          (omega (arith, length_side a.n a.x.now a.t.now)) (omega (arith, length-replicate places_a_side unused)) c.at.ensures l.invariant.1,
     )
 
 -- the orders, and unused places behind them
@@ -60,11 +60,11 @@ drop-unused zero n = let e : n ≡ n - 0 = omega arith in ap (λ (m : ℕ). repl
 drop-unused (suc k) zero = let e : 0 ≡ 0 - suc k = omega arith in ap (λ (m : ℕ). replicate m unused) e
 drop-unused (suc k) (suc n) = let e : n - k ≡ suc n - suc k = omega arith in drop-unused k n ∙ ap (λ (m : ℕ). replicate m unused) e
 
-all-copied : (s : List Resting) (n : ℕ) → length s ≡ n → copied (λ (o : Resting). o) s (replicate places_aSide unused) n ≡ (places_of s).places
+all-copied : (s : List Resting) (n : ℕ) → length s ≡ n → copied (λ (o : Resting). o) s (replicate places_a_side unused) n ≡ (places_of s).places
 unfolding places_of
 all-copied s n e =
     let all : take n s ≡ s = take_all n s (omega arith) in
-    rw (all, map_same s, drop-unused n places_aSide, e)
+    rw (all, map_same s, drop-unused n places_a_side, e)
 
 returns : tie.Need-returns invariant-loop decreases-loop
 returns c =
@@ -72,7 +72,7 @@ returns c =
     let a = c.before.before.args in
     let s = side a.n a.x.now a.t.now in
     let z : l.i ≡ a.n = omega arith in
-    l.invariant.1 ∙ ap (copied (λ (o : Resting). o) s (replicate places_aSide unused)) z ∙ all-copied s a.n (length_side a.n a.x.now a.t.now)
+    l.invariant.1 ∙ ap (copied (λ (o : Resting). o) s (replicate places_a_side unused)) z ∙ all-copied s a.n (length_side a.n a.x.now a.t.now)
 
 pub save-spec : {M : Type 1} → statement M
 save-spec =
