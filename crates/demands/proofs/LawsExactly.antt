@@ -40,12 +40,14 @@ module _ (n : ℕ) (x : Refusal) (s : List Refusal) (h : rising n (x ∷ s) ≡ 
 
 -- what such a table gives is above n
 gives_above : {k : ℕ} (n : ℕ) (s : List Refusal) → rising n s ≡ true → Gives k s → n < k
+gives_above n [] h g = elim g [ ]
 gives_above n (x ∷ s) h (here t) = rises n x s h
 gives_above n (x ∷ s) h (later g) = omega (arith, rises n x s h, gives_above x.number s (rising_on n x s h) g)
 
 -- where it gives a number, the first that it gives is above n too, and no higher
 first_lowest : {k : ℕ} (n : ℕ) (s : List Refusal) → rising n s ≡ true → Gives k s → (n < first_of s) × (first_of s ≤ k)
 unfolding first_of
+first_lowest n [] h g = elim g [ ]
 first_lowest n (x ∷ s) h (here t) = rw t (rises n x s h, omega arith)
 first_lowest n (x ∷ s) h (later {k = k} g) =
     let l = rises n x s h in
@@ -92,6 +94,7 @@ module _ (r : BookRecord) (line out : List ℕ) where
   unfolding line_refusals
   line_applies reading.Bad e (here t) =
       no_form (λ c f is. omega (arith, ap reading_refusal (sym e ∙ ap command_in is ∙ command_in_line_of c f)))
+  line_applies reading.Bad e (later g) = elim g [ ]
   line_applies (reading.Is c) e g = let l = command_in_is line c e in of_command c l.fits_are l.line_is_lem (gives_applies r c g)
 
   -- a number that the table gives: its row applies

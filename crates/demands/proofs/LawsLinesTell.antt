@@ -276,7 +276,7 @@ place first = zero
 place (later p) = suc (place p)
 
 -- on a side in rank order, who ranks before another stands before it
-pub stands_before : (buy : Bool) {s : List Resting} {x y : Resting} → in_rank_order buy s ≡ true → (p : OneOf x s) (q : OneOf y s)
+pub stands_before : (buy : Bool) {x y : Resting} {s : List Resting} → in_rank_order buy s ≡ true → (p : OneOf x s) (q : OneOf y s)
     → ranks_before buy x y ≡ true → place p < place q
 stands_before buy {x = x} r first first b = never_before_itself buy x b
 stands_before buy r first (later q) b = omega arith

@@ -126,7 +126,7 @@ module _ (b : Book) (is_sound : Sound b) (n : Number) (time : ℕ) where
 -- ── A number stands for one order of a sound book ──
 
 -- on one side
-pub same_order_lem : {s : List Resting} {x y : Resting} → once_each s ≡ true → OneOf x s → OneOf y s → x.number.0 ≡ y.number.0 → x ≡ y
+pub same_order_lem : {x y : Resting} {s : List Resting} → once_each s ≡ true → OneOf x s → OneOf y s → x.number.0 ≡ y.number.0 → x ≡ y
 same_order_lem d first first e = refl
 same_order_lem {x = x} d (first {s = s}) (later q) e = absurd (one_of_all (once_first x s d) q e)
 same_order_lem {y = y} d (later p) (first {s = s}) e = absurd (one_of_all (once_first y s d) p (sym e))

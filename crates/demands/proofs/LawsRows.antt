@@ -238,15 +238,19 @@ module _ (r : BookRecord) (c : Command) where
       let full = leb places_a_side (length (own o (book_in r))) in
       let at = rest_price (ending o (met_by o (book_in r))) (and_left rest full t) in
       side_full o is at.0 at.1 (leb-true places_a_side (length (own o (book_in r))) (and_right rest full t))
+  body_applies (body.Order o) is (later (later (later g))) = elim g [ ]
   body_applies (body.Cancel n) is (here t) =
       let b = book_in r in
       let neither = or_neither (any (is_number n) b.buys) (any (is_number n) b.sells) (not-true (is_resting n b) t) in
       not_resting n is (all_both (none_has n b.buys neither.0) (none_has n b.sells neither.1))
+  body_applies (body.Cancel n) is (later g) = elim g [ ]
   body_applies (body.Quote away) is (here t) =
       ⊎_elim
       (λ (u : away_in_range away.bid ≡ false). bid_outside away is (away_outside away.bid u))
       (λ (u : away_in_range away.offer ≡ false). offer_outside away is (away_outside away.offer u))
       (either_fails (away_in_range away.bid) (away_in_range away.offer) (not-true (away_in_range away.bid && away_in_range away.offer) t))
+  body_applies (body.Quote away) is (later g) = elim g [ ]
+  body_applies body.Close is g = elim g [ ]
 
   -- a number that the table gives on a command: its row applies
   pub gives_applies : {k : ℕ} → Gives k (command_refusals (book_in r) c) → AppliesTo r c k

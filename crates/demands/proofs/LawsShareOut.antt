@@ -19,7 +19,7 @@ use Rattle.rules.specs.declared.Away.{Away}
 use Rattle.rules.specs.declared.Order.{Order}
 use Rattle.rules.specs.declared.Resting.{Resting}
 use Rattle.rules.specs.Book.{in_rank_order, shares_left}
-use Rattle.rules.specs.Holdings.{Holding, size, holdings, walks_before, nothing, walk, smaller, BeforeAll, InWalkOrder, somebody, reduced_by, after}
+use Rattle.rules.specs.Holdings.{Holding, size, holdings, walks_before, nothing, walk, smaller, BeforeAll, InWalkOrder, nobody, somebody, reduced_by, after}
 use Rattle.rules.specs.Instructions.{iso, market, post_only, has}
 use Rattle.rules.proofs.LawsBest.{all_holdings}
 use Rattle.rules.proofs.LawsHoldings.{parts_alike, each_parts, keeping_all}
@@ -70,6 +70,7 @@ turn_rank : (price : Resting → HalfCents) (buy : Bool) {hs : List Holding} {ts
     → {better worse : Holding} {gives takes : Given} → Beside better gives hs (priced_at price hs ts)
     → Beside worse takes hs (priced_at price hs ts) → walks_before buy better worse ≡ true → 0 < takes.shares → gives.shares ≡ size better
 unfolding priced_at
+turn_rank price buy nobody _ _ p _ b g = elim p [ ]
 turn_rank price buy (somebody before w) (also plain ps) (next c i) {better = better} here here b g = never_itself buy better b
 turn_rank price buy (somebody before w) (also plain ps) (next {h = h} {t = t} {s = hs} {ts = ts} c i) here (later q) b g =
     ⊎_elim
@@ -83,6 +84,8 @@ turn_rank price buy (somebody before w) (also plain ps) (next {h = h} {t = t} {s
   where
     none_priced : (hs : List Holding) (ts : List ℕ) → All (λ (k : ℕ). k ≡ 0) ts → {x : Holding} {g : Given}
         → Beside x g hs (priced_at price hs ts) → g.shares ≡ 0
+    none_priced [] _ _ p = elim p [ ]
+    none_priced (h ∷ hs) [] _ p = elim p [ ]
     none_priced (h ∷ hs) (t ∷ ts) (also n a) here = n
     none_priced (h ∷ hs) (t ∷ ts) (also n a) (later p) = none_priced hs ts a p
 turn_rank price buy (somebody {h = h} before w) (also plain ps) (next c i) {better = better} (later p) here b g =

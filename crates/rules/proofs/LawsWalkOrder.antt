@@ -185,6 +185,7 @@ pub record Kept (Claim : Resting → ℕ → ℕ → Type 0) (o : Resting) (left
 pub keeping_has : {Claim : Resting → ℕ → ℕ → Type 0} {s : List Resting} {ts rs : List ℕ} {o : Resting} → Parts Claim s ts rs → OneOf o s
     → Kept Claim o (keeping s ts rs)
 unfolding keeping
+keeping_has Parts.none x = elim x [ ]
 keeping_has (Parts.also {o = o} {t = t} {r = r} c a) first =
     record { of_shown = t; of_reserve = r; is = c; there = λ n. rw (ne_eqb (shares_left (reduced_by t r o)) 0 n) first }
 keeping_has (Parts.also {o = x} {t = t} {r = r} c a) (later p) =

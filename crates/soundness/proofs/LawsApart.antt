@@ -117,12 +117,12 @@ clear_flip buy o h =
     hidden true = refl
     hidden false = refl
 
-flip_one : (buy : Bool) (h : Resting) {own : List Resting} {opposite : List Resting} → Apart buy own (h ∷ opposite)
+flip_one : (buy : Bool) (h : Resting) {opposite : List Resting} {own : List Resting} → Apart buy own (h ∷ opposite)
     → Clear (not buy) h.displayed h.price own
 flip_one buy h none = none
 flip_one buy h (also {x = o} (also p more) others) = also (sym (clear_flip buy o h) ∙ p) (flip_one buy h others)
 
-rest_apart : (buy : Bool) (h : Resting) {own : List Resting} {opposite : List Resting} → Apart buy own (h ∷ opposite) → Apart buy own opposite
+rest_apart : (buy : Bool) (h : Resting) {opposite : List Resting} {own : List Resting} → Apart buy own (h ∷ opposite) → Apart buy own opposite
 rest_apart buy h none = none
 rest_apart buy h (also (also p more) others) = also more (rest_apart buy h others)
 

@@ -104,7 +104,7 @@ next_place Stays k = k
 next_place (IsCancelled reason) k = k
 next_place (IsSet new) k = suc k
 
-abbrev pub set_place : (Resting → Fate) → ℕ → {x : Resting} {s : List Resting} → OneOf x s → ℕ
+abbrev pub set_place : (Resting → Fate) → {x : Resting} → ℕ → {s : List Resting} → OneOf x s → ℕ
 set_place fate k first = k
 set_place fate k (later {y = y} p) = set_place fate (next_place (fate y) k) p
 
@@ -140,7 +140,7 @@ module _ {P : Resting → Type 0} (fate : Resting → Fate) where
   settled_are n k buy s left set = inserted_all buy (set_are n k s set) (staying_are s left)
 
 -- .. and all of these do
-set_has : (fate : Resting → Fate) (n : Number) (k : ℕ) {h : Resting} (new : Resting) {s : List Resting} (p : OneOf h s) → fate h ≡ IsSet new
+set_has : (fate : Resting → Fate) (n : Number) {h : Resting} (k : ℕ) (new : Resting) {s : List Resting} (p : OneOf h s) → fate h ≡ IsSet new
     → OneOf (stamped_as (stamp n (set_place fate k p)) new) (stamped_from n k (set_anew fate s))
 unfolding set_anew gathered stamped_from
 set_has fate n k new first e = rw e first
