@@ -23,7 +23,7 @@ use side::tables::Head;
 use side::{rows, tables};
 
 // A side: its places, of which the first `used` hold resting orders in rank order; the others are zero.
-#[derive(Drop)]
+#[derive(Clone, Copy)]
 pub struct Side {
     pub used: usize,
     pub places: [Resting; PLACES],
@@ -34,7 +34,7 @@ pub const NO_ORDERS: Side = Side {
     places: [rows::UNUSED; PLACES],
 };
 
-#[derive(Drop)]
+#[derive(Clone, Copy)]
 pub struct Book {
     pub held: Held,
     pub buys: Side,
@@ -42,7 +42,7 @@ pub struct Book {
 }
 
 // What the book says back: the refusal's number or 0, the length of the event lines, and the book.
-#[derive(Drop)]
+#[derive(Clone, Copy)]
 pub struct Reply {
     pub refusal: u8,
     pub length: usize,

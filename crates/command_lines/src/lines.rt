@@ -11,7 +11,7 @@ use crate::reader;
 use rules::Reading;
 
 // The first line of some bytes: how many stand before its line feed, and what it reads as.
-#[derive(Drop)]
+#[derive(Clone, Copy)]
 pub struct Line {
     pub digits: usize,
     pub reading: Reading,
@@ -95,7 +95,7 @@ pub fn carry(input: &mut [u8], from: usize, end: usize, most: usize) -> usize
 }
 
 // What a read leaves behind the bytes that stood in a buffer: it failed, or the input has ended, or bytes stand up to a place.
-#[derive(Drop)]
+#[derive(Clone, Copy)]
 pub enum Read {
     Failed,
     Ended,

@@ -20,7 +20,7 @@ fn is_ended(s: &[u8], n: usize) -> bool
 }
 
 // What reading the end of an order finds.
-#[derive(Drop)]
+#[derive(Clone, Copy)]
 enum CarriedReading {
     Is(Carried),
     Bad,

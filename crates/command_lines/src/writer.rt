@@ -126,7 +126,7 @@ fn write_body(out: &mut [u8], body: Body)
 }
 
 // What the writer answers: 0 and the line's length, or refusal 1 and length 0.
-#[derive(Drop)]
+#[derive(Clone, Copy)]
 pub struct Written {
     pub refusal: u8,
     pub length: usize,

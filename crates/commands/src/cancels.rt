@@ -22,7 +22,7 @@ use side::tables::{Head, Step};
 use side::{rows, shifts, tables};
 
 // Where the order of a number rests.
-#[derive(Drop)]
+#[derive(Clone, Copy)]
 pub enum Found {
     AmongBuys(usize),
     AmongSells(usize),

@@ -17,7 +17,7 @@ use side::tables::Head;
 
 // What a turn leaves: the header, how many bytes wait at the front of the input, how many bytes of the output are to be
 // written, and whether more is to be read before the next turn.
-#[derive(Drop)]
+#[derive(Clone, Copy)]
 pub struct Turn {
     pub head: Head,
     pub have: usize,

@@ -16,14 +16,14 @@ use side::rows::{Index, Rows};
 use side::tables::Head;
 
 // What a line leaves: the header, and the length of what is printed of it.
-#[derive(Drop)]
+#[derive(Clone, Copy)]
 pub struct Printed {
     pub head: Head,
     pub length: usize,
 }
 
 // What some lines leave: the header, how many bytes of input they are, and the length of what is printed of them.
-#[derive(Drop)]
+#[derive(Clone, Copy)]
 pub struct Fed {
     pub head: Head,
     pub at: usize,

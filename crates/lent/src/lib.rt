@@ -19,7 +19,7 @@ use side::rows::{PLACES, Rows};
 use side::{rows, tables};
 
 // What comes back: the reply, and the records of the table.
-#[derive(Drop)]
+#[derive(Clone, Copy)]
 struct GivenBack {
     reply: Reply,
     places: [Resting; PLACES],

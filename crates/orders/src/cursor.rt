@@ -11,7 +11,7 @@ use side::rows;
 use side::rows::{Index, Rows};
 
 // What one order can give at one point of a walk: its shown part, or its reserve. The order stands at rank `place`, and has a minimum or 0.
-#[derive(Drop)]
+#[derive(Clone, Copy)]
 pub struct Part {
     pub place: usize,
     pub price: HalfCents,
@@ -21,14 +21,14 @@ pub struct Part {
 
 // The orders before `at` have been reached. `waits` is the first of them whose reserve has not, `at` where there is none.
 // `level` is the price of the order before `at`.
-#[derive(Drop)]
+#[derive(Clone, Copy)]
 pub struct Cursor {
     pub at: usize,
     pub waits: usize,
     pub level: HalfCents,
 }
 
-#[derive(Drop)]
+#[derive(Clone, Copy)]
 pub enum Following {
     Is(Part, Cursor),
     End,

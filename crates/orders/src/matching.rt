@@ -24,7 +24,7 @@ use side::places;
 use side::rows::{Index, PLACES, Rows};
 
 // What a match leaves: a refusal or 0, how many orders each side holds, and the length of the lines.
-#[derive(Drop)]
+#[derive(Clone, Copy)]
 pub struct Matched {
     pub refusal: u8,
     pub own: usize,
@@ -33,7 +33,7 @@ pub struct Matched {
 }
 
 // What the end of an order's work leaves: how many orders the opposite side holds, and the length of the lines.
-#[derive(Drop)]
+#[derive(Clone, Copy)]
 pub struct Finished {
     pub opposite: usize,
     pub length: usize,

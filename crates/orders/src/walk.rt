@@ -17,7 +17,7 @@ pub const TAKINGS: usize = 2 * PLACES;
 pub type Takings = [[u32; 3]; TAKINGS];
 
 // What a walk took from a part of the order at a rank, and the price at which that order rests.
-#[derive(Drop)]
+#[derive(Clone, Copy)]
 pub struct Taking {
     pub place: usize,
     pub price: HalfCents,
@@ -25,7 +25,7 @@ pub struct Taking {
 }
 
 // How many takings there are, and how many shares are still wanted.
-#[derive(Drop)]
+#[derive(Clone, Copy)]
 pub struct Taken {
     pub count: usize,
     pub left: Shares,
@@ -33,7 +33,7 @@ pub struct Taken {
 
 // How a walk ended: `count` takings, `left` shares still wanted, and no order from `at` on was reached. `skipped` is the first order that
 // was skipped (02, W7), or past all places; of an order that takes nothing both are 0.
-#[derive(Drop)]
+#[derive(Clone, Copy)]
 pub struct Walked {
     pub count: usize,
     pub left: Shares,

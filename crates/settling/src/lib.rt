@@ -25,7 +25,7 @@ use side::{places, rows, shifts};
 pub const FIRST_MOVE: u32 = 1;
 
 // What settling a side leaves: how many orders it holds, the next place among the command's moves, and the length of the lines.
-#[derive(Drop)]
+#[derive(Clone, Copy)]
 pub struct Settled {
     pub held: usize,
     pub next: u32,

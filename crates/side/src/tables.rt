@@ -10,7 +10,7 @@ use crate::rows::{Index, PLACES, Rows};
 use rules::{Held, Resting};
 
 // All of a book but its orders: of these, how many each side holds.
-#[derive(Drop)]
+#[derive(Clone, Copy)]
 pub struct Head {
     pub held: Held,
     pub buys: usize,
@@ -18,7 +18,7 @@ pub struct Head {
 }
 
 // What a command leaves: a refusal or 0, the header, and the length of the lines.
-#[derive(Drop)]
+#[derive(Clone, Copy)]
 pub struct Step {
     pub refusal: u8,
     pub head: Head,

@@ -115,7 +115,7 @@ fn print(reply: Reply, out: &[u8]) -> bool {
 }
 
 // What a line leaves: the book, and whether the day goes on.
-#[derive(Drop)]
+#[derive(Clone, Copy)]
 struct AfterLine {
     book: Book,
     goes_on: bool,

@@ -17,7 +17,7 @@ use kinds::{Number, Shares};
 use rules::{Event, EventReading};
 
 // What stopped a tally: nothing yet, a line that is no event line, or a sum that four bytes would not hold.
-#[derive(Drop)]
+#[derive(Clone, Copy)]
 pub enum Stop {
     Going,
     UnknownKind,
@@ -29,7 +29,7 @@ pub enum Stop {
 }
 
 // The lines that were counted, the shares executed and cancelled on them, and what stopped it at the line behind these.
-#[derive(Drop)]
+#[derive(Clone, Copy)]
 pub struct Tally {
     pub lines: u64,
     pub executed: Shares,
@@ -38,7 +38,7 @@ pub struct Tally {
 }
 
 // What the whole lines of a piece leave: the tally, and how many bytes they are.
-#[derive(Drop)]
+#[derive(Clone, Copy)]
 pub struct TalliedPiece {
     pub tally: Tally,
     pub at: usize,

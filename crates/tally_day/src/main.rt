@@ -49,7 +49,7 @@ fn decimal_in(s: &[u8]) -> Value
 // ── A piece ──
 
 // What a piece leaves: the tally, and the length of the part of a line that is carried.
-#[derive(Drop)]
+#[derive(Clone, Copy)]
 struct Kept {
     tally: Tally,
     have: usize,
