@@ -61,24 +61,28 @@ pub spell-requires : goal.spell-requires
 spell-requires c = rw c.guess-n.ensures (guess_low 8 c.loop-i.x)
 
 pub returns-then-spell-x : goal.returns-then-spell-x
-returns-then-spell-x c = let l = c.loop-i in
+returns-then-spell-x c =
+    let here = (goal.at.returns-then-spell-x c).After-loop-i in
+    let l = c.loop-i in
     c.no_number.ensures
     ∙ sym (ap field_of (answer_bad
     c.args.s.now
-    (short (goal.at.returns-then-spell-x c).After-loop-i)
-    (bytes_fit (goal.at.returns-then-spell-x c).After-loop-i)
+    (short here)
+    (bytes_fit here)
     l.x
-    (word_read (goal.at.returns-then-spell-x c).After-loop-i)
+    (word_read here)
     l.invariant.1
     (λ (e : each_byte digit_of 8 (each_byte guess_of 8 l.x) ≡ l.x). c.if-spell-x.true (spelled (goal.at.returns-then-spell-x c).After-spell ∙ e))))
 
 pub returns : goal.returns
-returns c = let l = c.loop-i in
+returns c =
+    let here = (goal.at.returns c).After-loop-i in
+    let l = c.loop-i in
     rw (c.gather-number.ensures, c.guess-n.ensures)
     (sym (ap field_of (answer_good
     c.args.s.now
-    (short (goal.at.returns c).After-loop-i)
-    (bytes_fit (goal.at.returns c).After-loop-i)
+    (short here)
+    (bytes_fit here)
     l.x
-    (word_read (goal.at.returns c).After-loop-i)
+    (word_read here)
     (sym (spelled (goal.at.returns c).After-spell) ∙ c.if-spell-x.false))))

@@ -283,7 +283,8 @@ in_order_lem i zero (suc n) (t ∷ ts) l =
     rw (eq-eqb i (i + 0) (omega arith)) (omega (arith, in_below (i + 0) (i + 1) n ts (omega arith)))
 in_order_lem i (suc k) (suc n) (t ∷ ts) l =
     let e : i + suc k ≡ i + 1 + k = omega arith in
-    rw (ne_eqb i (i + suc k) (λ z. omega arith), e) (omega (arith, in_order_lem (i + 1) k n ts (omega arith)))
+    let h = ap (λ (j : ℕ). taken_in j (up_from (i + 1) n) ts) e ∙ in_order_lem (i + 1) k n ts (omega arith) in
+    rw (ne_eqb i (i + suc k) (λ z. omega arith)) (omega (arith, h))
 
 -- the shown part of an order gives before its reserve, and no more than it holds
 abbrev pub Orderly : Resting → ℕ → ℕ → Type 0

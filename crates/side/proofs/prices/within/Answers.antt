@@ -1,0 +1,13 @@
+-- `side::prices::within` meets its contract, for a buy and for a sell. Assumes nothing.
+use mathlib.Core.Bool.{Bool, true, false, not, ◌&&◌, ◌||◌}
+use mathlib.Core.Path.{◌≡◌, refl}
+use Rattle.basics.specs.Choice.{if◌then◌else◌}
+use Rattle.side.proofs.prices.within.Goals as goal
+
+by_side : (buy above below : Bool) → not (buy && above || not buy && below) ≡ not (if buy then above else below)
+by_side true true below = refl
+by_side true false below = refl
+by_side false above below = refl
+
+pub returns : goal.returns
+returns c = by_side c.args.buying _ _

@@ -1,0 +1,64 @@
+-- `side::shifts::raise` meets its contract. Invariant of both loops: the places passed are filled in, all but the one that is written last.
+-- Assumes nothing.
+use Prim.Native.Nat.{◌+◌, ◌-◌}
+use mathlib.Core.Bool.{◌&&◌}
+use mathlib.Core.Path.{◌≡◌, refl, ◌∙◌}
+use lib.Dec.{ltb, leb}
+use lib.ListN.{length, get_or, length-set}
+use native.Mathlib.Omega.{arith}
+use Rattle.basics.specs.Choice.{if◌then◌else◌}
+use Rattle.side.specs.Table.{index_size, places_a_part}
+use Rattle.side.proofs.rows.LawsSteps.{counted, steps, step_at}
+use Rattle.side.proofs.shifts.LawsRotated.{raising_step, filled_end, within_le, within_lt}
+use Rattle.side.proofs.shifts.raise.Goals as goal
+
+pub loop-i-init : goal.loop-i-init
+loop-i-init c =
+    let part = c.loop-part.part in
+    let e : part + 0 ≡ part = omega arith in
+    (omega arith, refl, λ z long began. rw e began)
+
+pub loop-i-preserved : goal.loop-i-preserved
+unfolding counted
+loop-i-preserved c =
+    let l = c.loop-part in
+    let m = c.loop-i in
+    let lo = c.within-lo in
+    let hi = c.within-hi in
+    let a = c.args in
+    let k = l.part + m.i in
+    let j = get_or steps m.i 0 in
+    let r : c.turned.result ≡ (if leb lo.result j && ltb j hi.result then m.last else get_or m.x k 0) = c.turned.ensures in
+    let e : c.turned.result ≡ (if leb (a.to + 1) k && ltb k (a.from + 1) then m.last else get_or m.x k 0) =
+    r
+    ∙ rw (
+      step_at m.i (omega arith),
+      lo.ensures,
+      hi.ensures,
+      within_le (a.to + 1) l.part m.i (omega arith),
+      within_lt (a.from + 1) l.part m.i (omega arith),
+    ) in
+    let further : l.part + (m.i + 1) ≡ k + 1 = omega arith in (
+      omega arith,
+      length-set m.x k c.turned.result ∙ m.invariant.1,
+      λ z long began.
+          rw (further, e)
+          (raising_step a.from a.to z k m.last m.x (omega (arith, long)) (omega (arith, long)) (omega (arith, long)) (omega arith) (m.invariant.2 z long began)),
+    )
+
+pub loop-part-preserved : goal.loop-part-preserved
+loop-part-preserved c =
+    let l = c.loop-part in
+    let m = c.loop-i in
+    let x₀ = c.args.x.now in
+    let long : length x₀ ≡ index_size = c.whole_index.ensures in
+    let all : l.part + m.i ≡ l.part + places_a_part = omega arith in
+    (omega arith, rw all at (m.invariant.2 x₀ long l.invariant.1))
+
+pub returns : goal.returns
+returns c =
+    let l = c.loop-part in
+    let a = c.args in
+    let x₀ = a.x.now in
+    let long : length x₀ ≡ index_size = c.whole_index.ensures in
+    filled_end a.from a.to x₀ l.part l.x l.invariant.1.0 (omega arith) (omega arith) (omega arith) (omega arith)
