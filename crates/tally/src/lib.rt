@@ -103,7 +103,7 @@ fn cancelled_shares(number: Number, e: Event) -> u32
 // ── One line ──
 
 // One line more; the largest number of eight bytes stays.
-fn one_more_lem(k: u64) -> u64
+fn one_more(k: u64) -> u64
     ensures { result ≡ one_more k }
 {
     if k < 18446744073709551615 {
@@ -122,7 +122,7 @@ fn pass_over(t: Tally) -> Tally
     ensures { result ≡ passed_over t }
 {
     Tally {
-        lines: one_more_lem(t.lines),
+        lines: one_more(t.lines),
         ..t
     }
 }
@@ -138,7 +138,7 @@ fn add(t: Tally, executed: u32, cancelled: u32) -> Tally
         return stop_by(t, Stop::CancelledPasses);
     }
     Tally {
-        lines: one_more_lem(t.lines),
+        lines: one_more(t.lines),
         executed: Shares(t.executed.0 + executed),
         cancelled: Shares(t.cancelled.0 + cancelled),
         ..t
