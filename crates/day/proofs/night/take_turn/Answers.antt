@@ -37,8 +37,8 @@ returns c =
     let is_short : Bool = ltb (room - f.result.length) least_room in
     let most : j.most ≡ (if is_short then a.have else part_kept) =
     elim j.branch [
-      then-is_short w ↦ (let t : is_short ≡ true = lt-ltb _ _ w.if-is_short.true in rw t w.most-is)
-      | else-is_short w ↦ (let t : is_short ≡ false = le-ltb _ _ w.if-is_short.false in rw t w.most-is)
+      then-is_short w ↦ (let t : is_short ≡ true = rw long at (lt-ltb _ _ w.if-is_short.true) in rw t w.most-is)
+      | else-is_short w ↦ (let t : is_short ≡ false = rw long at (le-ltb _ _ w.if-is_short.false) in rw t w.most-is)
     ] in
     let (turn, input, left) =
     turn_is room b a.input.now a.have f.result f.ensures.0 j.most most k.result k.new.input k.ensures.value k.ensures.input_after in

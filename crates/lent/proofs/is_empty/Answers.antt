@@ -5,7 +5,6 @@ use mathlib.Core.List.{List, [], map}
 use mathlib.Core.Path.{◌≡◌, refl, sym, ap, ◌∙◌}
 use lib.Dec.{eqb}
 use lib.ListN.{length, length-map}
-use borrow.Author.Rules.{rules}
 use borrow.Author.Tests.{eq-eqb}
 use Rattle.basics.specs.Lists.{every}
 use Rattle.kinds.specs.declared.Number.{Number}
@@ -18,8 +17,7 @@ use Rattle.book.specs.Record.{places_on}
 use Rattle.inspection.specs.Inspection.{side_sound}
 use Rattle.inspection.proofs.LawsInspection.{none_used}
 use Rattle.lent.specs.Lent.{is_empty}
-use Rattle.lent.proofs.is_empty.Statement.{statement}
-use Rattle.lent.proofs.is_empty.Tie as tie
+use Rattle.lent.proofs.is_empty.Goals as goal
 
 empty-found : (last : Number) (used : ℕ) (places : List Resting) (t : List (List ℕ)) (found : Bool) → t ≡ map row_of places
     → length t ≡ places_a_side → found ≡ side_sound true last [] 0 (map order_of t) → (eqb used 0 && found) ≡ is_empty (record { used = used; places = places })
@@ -32,26 +30,8 @@ empty-found last used places t found is long told =
     skipped true b = refl
     skipped false b = refl
 
-side-of-requires : tie.Need-side-of-requires
-side-of-requires c κs = search rules
-
-load-requires : tie.Need-load-requires
-load-requires c κs = search rules
-
-whole-requires : tie.Need-whole-requires
-whole-requires c κs = search rules
-
-side-sound-requires : tie.Need-side-sound-requires
-side-sound-requires c κs = search rules
-
-returns : tie.Need-returns
-returns c =
-    let told = c.before.before.before.before in
-    let lent = told.before.before in
-    let s = lent.before.before.before.side-of in
-    let sound = c.side-sound in
-    empty-found _ s.result.used s.result.places _ sound.result lent.load.ensures told.whole.ensures sound.ensures
+pub returns : goal.returns
+returns c = let s = c.side_of-s in
+    let sound = c.side_sound in
+    empty-found _ s.result.used s.result.places _ sound.result c.load.ensures c.whole.ensures sound.ensures
     ∙ ap (λ (x : Side). is_empty (places_on x)) s.ensures
-
-pub is_empty_spec : {M : Type 1} → statement M
-is_empty_spec = tie.close (tie.spec side-of-requires load-requires whole-requires side-sound-requires returns)
