@@ -68,7 +68,8 @@ fn take(s: &[Resting]) -> [Resting; PLACES]
     let mut a = blank();
     let mut i = 0;
     while i < PLACES {
-        a = with(a, i, get(s, i));
+        let next = with(a, i, get(s, i));
+        a = next;
         i += 1;
     }
     a

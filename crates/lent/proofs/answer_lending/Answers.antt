@@ -16,5 +16,4 @@ lend-requires c = sym c.is_counted.ensures ∙ c.if-not-is_counted.false
 
 -- it is
 pub returns : goal.returns
-returns c = let told = c.lend.ensures in
-    record { value = told.0; out_after = told.1 }
+returns c = c.lend.ensures

@@ -15,19 +15,19 @@ pub returns-then-is_unused : goal.returns-then-is_unused
 returns-then-is_unused c =
     let l = c.loop-i in
     let a = c.args in
-    let g : length a.t1 ≡ places_a_side = search rules in
-    record { value = sym (found_here is_unused unused a.t1 l.i (omega arith) (sym c.is_unused.ensures ∙ c.if-is_unused.true)) ∙ l.invariant.1; places_len = g }
+    let g : length a.places ≡ places_a_side = search rules in
+    record { value = sym (found_here is_unused unused a.places l.i (omega arith) (sym c.is_unused.ensures ∙ c.if-is_unused.true)) ∙ l.invariant.1; places_len = g }
 
 pub loop-i-preserved : goal.loop-i-preserved
 loop-i-preserved c =
     let l = c.loop-i in
     let a = c.args in
-    let g : length a.t1 ≡ places_a_side = search rules in
-    (omega arith, sym (found_later is_unused unused a.t1 l.i (omega arith) (sym c.is_unused.ensures ∙ c.if-is_unused.false)) ∙ l.invariant.1)
+    let g : length a.places ≡ places_a_side = search rules in
+    (omega arith, sym (found_later is_unused unused a.places l.i (omega arith) (sym c.is_unused.ensures ∙ c.if-is_unused.false)) ∙ l.invariant.1)
 
 pub returns : goal.returns
 returns c =
     let l = c.loop-i in
     let a = c.args in
-    let g : length a.t1 ≡ places_a_side = search rules in
-    record { value = sym (found_nowhere is_unused unused a.t1 l.i (omega arith)) ∙ l.invariant.1; places_len = g }
+    let g : length a.places ≡ places_a_side = search rules in
+    record { value = sym (found_nowhere is_unused unused a.places l.i (omega arith)) ∙ l.invariant.1; places_len = g }
