@@ -5,16 +5,17 @@
 
 #![tactic(auto)]
 
-ghost use Rattle.std.specs.Prelude.{◌≡◌, ◌+◌, ◌≤◌, ◌<◌, length};
+ghost use Rattle.std.specs.Prelude.{◌≡◌, ◌+◌, ◌≤◌, ◌<◌, length, IfOk};
 ghost use Rattle.rules.specs.Refusals.{least_room};
 
+use anyhow::{Context, Result};
 use command_lines::lines;
 use day::{night, replay};
-use libc::{STDIN_FILENO, STDOUT_FILENO};
 use orders::walk;
 use orders::walk::Takings;
 use side::rows::{Index, Rows};
 use side::{rows, tables};
+use std::io;
 
 // ── The days ──
 
@@ -78,25 +79,23 @@ fn copy_on(day: &[u8], at: usize, input: &mut [u8], have: usize, reads: bool) ->
     n
 }
 
-// Writes what a turn handed over; whether it was written.
-fn hand_over(bytes: &[u8]) -> bool {
-    if io::write_all(STDOUT_FILENO, bytes) {
-        return true;
-    }
-    os::fail(b"yarvotem: writing standard output");
-    false
+// Writes what a turn handed over.
+fn hand_over(to: &mut impl io::Write, bytes: &[u8]) -> Result<()> {
+    to.write_all(bytes)
+        .context("yarvotem: writing standard output")
 }
 
-// Writes what the end of a day hands over, of the part of a line that waits; whether it was written.
-fn end_day(part: &[u8], out: &mut [u8]) -> bool
+// Writes what the end of a day hands over, of the part of a line that waits.
+fn end_day(to: &mut impl io::Write, part: &[u8], out: &mut [u8]) -> Result<()>
     requires { least_room ≤ length out.old }
 {
     let length = night::finish(part, out);
-    hand_over(&out[..length])
+    hand_over(to, &out[..length])
 }
 
-// A day from a fresh book, turn by turn; whether all was written.
+// A day from a fresh book, turn by turn; whether it came to its end.
 fn take_turns(
+    to: &mut impl io::Write,
     day: &[u8],
     input: &mut [u8],
     x: &mut Index,
@@ -105,7 +104,7 @@ fn take_turns(
     sells: &mut Rows,
     took: &mut Takings,
     out: &mut [u8],
-) -> bool
+) -> Result<bool>
     requires { least_room ≤ length out.old }
 {
     let mut head = replay::begin();
@@ -116,24 +115,23 @@ fn take_turns(
     let mut turns = u64::MAX;
     while 0 < turns {
         let turn = night::take_turn(head, input, have, x, buys, y, sells, took, out);
-        if !hand_over(&out[..turn.length]) {
-            return false;
-        }
+        hand_over(to, &out[..turn.length])?;
         head = turn.head;
         have = turn.have;
         if turn.reads & (at == day.len()) {
-            return end_day(&input[..have], out);
+            end_day(to, &input[..have], out)?;
+            return Ok(true);
         }
         let more = copy_on(day, at, input, have, turn.reads);
         at += more;
         have += more;
         turns -= 1;
     }
-    false
+    Ok(false)
 }
 
-// A day, from a fresh book to its end; whether all was written.
-fn run_day(day: &[u8], out: &mut [u8]) -> bool
+// A day, from a fresh book to its end; whether it came there.
+fn run_day(to: &mut impl io::Write, day: &[u8], out: &mut [u8]) -> Result<bool>
     requires { least_room ≤ length out.old }
 {
     let mut input = [0u8; 147];
@@ -143,27 +141,26 @@ fn run_day(day: &[u8], out: &mut [u8]) -> bool
     let mut sells: Rows = [[0; rows::WORDS]; rows::PLACES];
     let mut took: Takings = [[0; 3]; walk::TAKINGS];
     take_turns(
-        day, &mut input, &mut x, &mut buys, &mut y, &mut sells, &mut took, out,
+        to, day, &mut input, &mut x, &mut buys, &mut y, &mut sells, &mut took, out,
     )
 }
 
 // The days, each under the line that names it.
-fn run_days(days: &[u8], out: &mut [u8])
+fn run_days(to: &mut impl io::Write, days: &[u8], out: &mut [u8]) -> Result<()>
     requires { least_room ≤ length out.old }
 {
     let mut at = 0;
     while at < days.len() {
         let start = line_after(days, at);
         let end = day_after(days, start);
-        if !hand_over(&days[at..start]) {
-            return;
-        }
+        hand_over(to, &days[at..start])?;
         let last = day_end(days, at, start, end);
-        if !run_day(&days[start..last], out) {
-            return;
+        if !run_day(to, &days[start..last], out)? {
+            return Ok(());
         }
         at = end;
     }
+    Ok(())
 }
 
 // Room for the lines of one command and for a few bytes more, so that turns end within a piece too.
@@ -177,9 +174,26 @@ fn input_room() -> [u8; 2097152]
     [0; 2097152]
 }
 
-fn main() {
+// Reads until the room is full or the input ends; how many bytes stand in it.
+fn read_full(from: &mut impl io::Read, input: &mut [u8]) -> Result<usize>
+    ensures { IfOk result (λ end. end ≤ length input.new) }
+{
+    let mut end = 0;
+    while end < input.len() {
+        let got = from
+            .read(&mut input[end..])
+            .context("yarvotem: reading standard input")?;
+        if got == 0 {
+            break;
+        }
+        end += got;
+    }
+    Ok(end)
+}
+
+fn main(rt: HostRuntime) -> Result<()> {
     let mut input = input_room();
     let mut out = [0u8; OUTPUT];
-    let end = io::read_full(STDIN_FILENO, &mut input);
-    run_days(&input[..end], &mut out);
+    let end = read_full(&mut rt.stdin(), &mut input)?;
+    run_days(&mut rt.stdout(), &input[..end], &mut out)
 }

@@ -4,14 +4,15 @@
 
 #![tactic(auto)]
 
-ghost use Rattle.std.specs.Prelude.{◌≡◌, ◌≤◌, ◌<◌, length};
+ghost use Rattle.std.specs.Prelude.{◌≡◌, ◌≤◌, ◌<◌, length, IfOk};
 
+use anyhow::{Context, Result, bail};
 use book::{Book, Reply, Side};
 use command_lines::lines;
 use event_lines::writer;
-use libc::{STDIN_FILENO, STDOUT_FILENO};
 use rules::{Held, Resting, Stamp};
 use side::rows::PLACES;
+use std::io;
 
 // ── Two books compared ──
 
@@ -99,19 +100,24 @@ fn agree(a: Reply, b: Reply, out: &[u8], other: &[u8]) -> bool {
 
 // ── A line ──
 
-// Writes what a line prints: its event lines, or the line of its refusal; whether all was written. The output is long enough where
-// `agree` has looked at it.
-fn print(reply: Reply, out: &[u8]) -> bool {
+// Writes what a turn of the day hands over.
+fn hand_over(to: &mut impl io::Write, bytes: &[u8]) -> Result<()> {
+    to.write_all(bytes)
+        .context("yarvotem: writing standard output")
+}
+
+// Writes what a line prints: its event lines, or the line of its refusal. The output is long enough where `agree` has looked at it.
+fn print(to: &mut impl io::Write, reply: Reply, out: &[u8]) -> Result<()> {
     if reply.refusal != 0 {
         let mut line = [0u8; 5];
         writer::write_refusal(&mut line, reply.refusal);
-        return io::write_all(STDOUT_FILENO, &line);
+        return hand_over(to, &line);
     }
     let length = reply.length;
     if out.len() < length {
-        return false;
+        bail!("yarvotem: writing standard output");
     }
-    io::write_all(STDOUT_FILENO, &out[0..length])
+    hand_over(to, &out[0..length])
 }
 
 // What a line leaves: the book, and whether the day goes on.
@@ -128,22 +134,26 @@ fn stop(book: Book) -> AfterLine {
     }
 }
 
-fn run_line(book: Book, buys: bool, line: &[u8], out: &mut [u8], other: &mut [u8]) -> AfterLine {
+fn run_line(
+    to: &mut impl io::Write,
+    book: Book,
+    buys: bool,
+    line: &[u8],
+    out: &mut [u8],
+    other: &mut [u8],
+) -> Result<AfterLine> {
     let reply = book.answer(line, out);
     let lent = lent::answer_lending(book, buys, line, other);
     if !agree(reply, lent, out, other) {
-        io::write_all(STDOUT_FILENO, b"differs\n");
-        return stop(book);
+        hand_over(to, b"differs\n")?;
+        return Ok(stop(book));
     }
-    if !print(reply, out) {
-        os::fail(b"yarvotem: writing standard output");
-        return stop(book);
-    }
+    print(to, reply, out)?;
     let next = reply.book;
-    AfterLine {
+    Ok(AfterLine {
         book: next,
         goes_on: true,
-    }
+    })
 }
 
 // ── The day ──
@@ -161,20 +171,21 @@ fn line_after(day: &[u8], from: usize) -> usize
 }
 
 // The sells are lent for the first line, the buys for the next, and so in turn.
-fn run_day(day: &[u8], out: &mut [u8], other: &mut [u8]) {
+fn run_day(to: &mut impl io::Write, day: &[u8], out: &mut [u8], other: &mut [u8]) -> Result<()> {
     let mut book = Book::fresh();
     let mut buys = false;
     let mut at = 0;
     while at < day.len() {
         let after = line_after(day, at);
-        let turn = run_line(book, buys, &day[at..after], out, other);
+        let turn = run_line(to, book, buys, &day[at..after], out, other)?;
         if !turn.goes_on {
-            return;
+            return Ok(());
         }
         book = turn.book;
         buys = !buys;
         at = after;
     }
+    Ok(())
 }
 
 // The room of the input. It is made apart from `main`: a proof that sees so many zeros counts them one by one, and its checker runs
@@ -185,10 +196,27 @@ fn input_room() -> [u8; 65536]
     [0; 65536]
 }
 
-fn main() {
+// Reads until the room is full or the input ends; how many bytes stand in it.
+fn read_full(from: &mut impl io::Read, input: &mut [u8]) -> Result<usize>
+    ensures { IfOk result (λ end. end ≤ length input.new) }
+{
+    let mut end = 0;
+    while end < input.len() {
+        let got = from
+            .read(&mut input[end..])
+            .context("yarvotem: reading standard input")?;
+        if got == 0 {
+            break;
+        }
+        end += got;
+    }
+    Ok(end)
+}
+
+fn main(rt: HostRuntime) -> Result<()> {
     let mut input = input_room();
     let mut out = [0u8; rules::LEAST_ROOM];
     let mut other = [0u8; rules::LEAST_ROOM];
-    let end = io::read_full(STDIN_FILENO, &mut input);
-    run_day(&input[0..end], &mut out, &mut other);
+    let end = read_full(&mut rt.stdin(), &mut input)?;
+    run_day(&mut rt.stdout(), &input[0..end], &mut out, &mut other)
 }

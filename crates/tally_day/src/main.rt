@@ -1,5 +1,5 @@
 // Tallies one order over a day's event lines (02, W1), for a broker's clerk: the lines on standard input, the order's number as the
-// argument, one line out. What goes wrong is told on standard error alone.
+// argument, one line out. What goes wrong is told on standard error alone, and the error of a read or a write that failed ends it.
 
 #![tactic(auto)]
 
@@ -9,11 +9,12 @@ ghost use Rattle.rules.specs.Day.{cut};
 ghost use Rattle.tally.specs.Tally.{turn};
 ghost use Rattle.tally_day.specs.Decimal.{is_decimal, decimal_in};
 
+use anyhow::{Context, Result};
 use command_lines::lines;
-use command_lines::lines::Read;
 use digits::Value;
 use kinds::Number;
-use libc::{STDERR_FILENO, STDIN_FILENO, STDOUT_FILENO};
+use std::env::{Env, FillError};
+use std::io;
 use tally::{Stop, Tally};
 
 // ── The argument ──
@@ -80,42 +81,38 @@ fn finish(t: Tally, number: Number, part: &[u8]) -> Tally
 
 // ── What is said ──
 
-fn say_sums(executed: u32, cancelled: u32) {
-    if !io::write_all(STDOUT_FILENO, b"executed ")
-        || !io::print_decimal(STDOUT_FILENO, executed as u64)
-        || !io::write_all(STDOUT_FILENO, b", cancelled ")
-        || !io::print_decimal(STDOUT_FILENO, cancelled as u64)
-        || !io::write_all(STDOUT_FILENO, b"\n")
-    {
-        os::fail(b"yarvotem: writing standard output");
-    }
+fn say_sums(rt: &impl Print, executed: u32, cancelled: u32) -> Result<()> {
+    println!(rt; "executed {executed}, cancelled {cancelled}").context(
+        "yarvotem: writing standard output",
+    )
 }
 
 // Why the line behind the counted ones stopped the tally; people count lines from 1.
-fn say_stop(lines: u64, why: &[u8]) {
+fn say_stop(rt: &impl Eprint, lines: u64, why: &str) -> Result<()> {
     let mut place = lines;
     if place < u64::MAX {
         place += 1;
     }
-    io::write_all(STDERR_FILENO, b"line ");
-    io::print_decimal(STDERR_FILENO, place);
-    io::write_all(STDERR_FILENO, b": ");
-    io::write_all(STDERR_FILENO, why);
-    io::write_all(STDERR_FILENO, b"\n");
+    eprintln!(rt; "line {place}: {why}").context("yarvotem: writing standard error")
 }
 
-fn say(t: Tally) {
+fn say(rt: &(impl Print + Eprint), t: Tally) -> Result<()> {
     let stop = t.stop;
     match stop {
-        Stop::Going => say_sums(t.executed.0, t.cancelled.0),
-        Stop::UnknownKind => say_stop(t.lines, b"unknown kind"),
-        Stop::Short => say_stop(t.lines, b"short"),
-        Stop::TrailingBytes => say_stop(t.lines, b"trailing bytes"),
-        Stop::BadDigitOrEnding => say_stop(t.lines, b"bad digit or ending"),
-        Stop::ExecutedPasses => say_stop(t.lines, b"the sum of executed shares passes 4294967295"),
-        Stop::CancelledPasses => say_stop(
+        Stop::Going => say_sums(rt, t.executed.0, t.cancelled.0),
+        Stop::UnknownKind => say_stop(rt, t.lines, "unknown kind"),
+        Stop::Short => say_stop(rt, t.lines, "short"),
+        Stop::TrailingBytes => say_stop(rt, t.lines, "trailing bytes"),
+        Stop::BadDigitOrEnding => say_stop(rt, t.lines, "bad digit or ending"),
+        Stop::ExecutedPasses => say_stop(
+            rt,
             t.lines,
-            b"the sum of cancelled shares passes 4294967295",
+            "the sum of executed shares passes 4294967295",
+        ),
+        Stop::CancelledPasses => say_stop(
+            rt,
+            t.lines,
+            "the sum of cancelled shares passes 4294967295",
         ),
     }
 }
@@ -124,25 +121,25 @@ fn say(t: Tally) {
 
 // From the first piece to the end of the input. A proved loop has to end, and nothing says that an input does: so the turns are
 // counted down from a number that no day uses up.
-fn run(number: Number, input: &mut [u8])
+fn run(
+    rt: &(impl Print + Eprint),
+    from: &mut impl io::Read,
+    number: Number,
+    input: &mut [u8],
+) -> Result<()>
     requires { part_kept < length input.old }
 {
     let mut tally = tally::begin();
     let mut have = 0;
     let mut turns = u64::MAX;
     while 0 < turns {
-        let got = libc::read(STDIN_FILENO, &mut input[have..]);
-        let read = lines::after_read(got, have, input.len());
-        match read {
-            Read::Failed => {
-                os::fail(b"yarvotem: reading standard input");
-                return;
-            }
-            Read::Ended => {
-                say(finish(tally, number, &input[..have]));
-                return;
-            }
-            Read::Upto(end) => {
+        let got = from
+            .read(&mut input[have..])
+            .context("yarvotem: reading standard input")?;
+        match lines::after_read(got as isize, have, input.len()) {
+            lines::Read::Failed => unreachable!(),
+            lines::Read::Ended => return say(rt, finish(tally, number, &input[..have])),
+            lines::Read::Upto(end) => {
                 let carried = take_piece(tally, number, input, end);
                 tally = carried.tally;
                 have = carried.have;
@@ -150,26 +147,32 @@ fn run(number: Number, input: &mut [u8])
         }
         turns -= 1;
     }
+    Ok(())
 }
 
-fn say_usage() {
-    io::write_all(
-        STDERR_FILENO,
-        b"usage: yarvotem tally NUMBER < LINES, an order number of 1 to 10 decimal digits, at most 4294967295\n",
-    );
+fn say_usage(rt: &impl Eprint) -> Result<()> {
+    eprintln!(rt;
+        "usage: yarvotem tally NUMBER < LINES, an order number of 1 to 10 decimal digits, at most 4294967295"
+    ).context("yarvotem: writing standard error")
 }
 
-fn main() {
-    if os::arg_count() != 2 {
-        say_usage();
-        return;
-    }
+// The order number that the one argument writes.
+fn asked(rt: &impl Env) -> Value {
     let mut word = [0u8; 16];
-    let length = os::arg(1, &mut word);
-    let Value::Is(number) = decimal_in(&word[..length]) else {
-        say_usage();
-        return;
+    let Ok(length) = rt.arg(1, &mut word) else {
+        return Value::Bad;
     };
+    let Err(FillError::NotPresent) = rt.arg(2, &mut []) else {
+        return Value::Bad;
+    };
+    decimal_in(&word[..length])
+}
+
+fn main(rt: HostRuntime) -> Result<()> {
+    let Value::Is(number) = asked(&rt) else {
+        return say_usage(&rt);
+    };
+    let mut from = rt.stdin();
     let mut input = [0u8; 65536];
-    run(Number(number), &mut input);
+    run(&rt, &mut from, Number(number), &mut input)
 }
