@@ -19,7 +19,8 @@ above c =
     header_next a.c (book_on a.h a.x.now a.buys.now a.y.now a.sells.now) c.header_refusal-refusal.result c.header_refusal-refusal.ensures c.if-refusal-ne0.false
 
 pub returns-then-refusal-ne0 : goal.returns-then-refusal-ne0
-returns-then-refusal-ne0 c = let a = c.args in
+returns-then-refusal-ne0 c =
+    let a = c.args in
     let k = c.header_refusal-refusal in
     let left =
     left_refused a.h a.x.now a.buys.now a.y.now a.sells.now c.requires.0 k.result a.out.now _
@@ -39,21 +40,25 @@ pub close-requires : goal.close-requires
 close-requires c = c.requires
 
 pub returns-in-Order : goal.returns-in-Order
-returns-in-Order c = let a = c.args in
+returns-in-Order c =
+    let a = c.args in
     let k = c.header_refusal-refusal in
     left_passed a.c (book (goal.at.returns-in-Order c).Start) k.result _ c.in-Order.is k.ensures c.if-refusal-ne0.false _ _ _ _ _ _ a.out.now c.enter.ensures
 
 pub returns-in-Cancel : goal.returns-in-Cancel
-returns-in-Cancel c = let a = c.args in
+returns-in-Cancel c =
+    let a = c.args in
     let k = c.header_refusal-refusal in
     left_passed a.c (book (goal.at.returns-in-Cancel c).Start) k.result _ c.in-Cancel.is k.ensures c.if-refusal-ne0.false _ _ _ _ _ _ a.out.now c.cancel.ensures
 
 pub returns-in-Quote : goal.returns-in-Quote
-returns-in-Quote c = let a = c.args in
+returns-in-Quote c =
+    let a = c.args in
     let k = c.header_refusal-refusal in
     left_passed a.c (book (goal.at.returns-in-Quote c).Start) k.result _ c.in-Quote.is k.ensures c.if-refusal-ne0.false _ _ _ _ _ _ a.out.now c.quote.ensures
 
 pub returns-in-Close : goal.returns-in-Close
-returns-in-Close c = let a = c.args in
+returns-in-Close c =
+    let a = c.args in
     let k = c.header_refusal-refusal in
     left_passed a.c (book (goal.at.returns-in-Close c).Start) k.result _ c.in-Close.is k.ensures c.if-refusal-ne0.false _ _ _ _ _ _ a.out.now c.close.ensures

@@ -58,7 +58,8 @@ pub slice_bounds-report_cancelled-start : goal.slice_bounds-report_cancelled-sta
 slice_bounds-report_cancelled-start c = omega (arith, room-behind (goal.at.slice_bounds-report_cancelled-start c).After-slice_known-2-1)
 
 pub report_cancelled-more-requires : goal.report_cancelled-more-requires
-report_cancelled-more-requires c = let r = c.report_cancelled-len in
+report_cancelled-more-requires c =
+    let r = c.report_cancelled-len in
     let out = r.new.out in
     let g : 21 * c.args.h.sells ≤ length (take (length out - r.result) (drop r.result out)) = simp (length-take, length-drop) (omega (arith, room-behind (goal.at.report_cancelled-more-requires c).After-slice_known-2-1)) in
     (c.requires.0.sells, g, all_countable false _ c.requires.0.is_sound)
@@ -69,7 +70,8 @@ overflow_add-result c =
     omega (arith, c.report_cancelled-len.ensures.value, c.report_cancelled-more.ensures.value, p.0.buys.fits, p.0.sells.fits)
 
 pub returns : goal.returns
-returns c = let a = c.args in
+returns c =
+    let a = c.args in
     let stands = c.requires.0 in
     let b = book_on a.h a.x.now a.buys.now a.y.now a.sells.now in
     let r = c.report_cancelled-len in

@@ -35,9 +35,11 @@ returns-then-n-m c =
     sym (apart_none a.n a.m a.buys.now a.sells.now p)
 
 pub returns-then-buy-sell : goal.returns-then-buy-sell
-returns-then-buy-sell c = let both : (c.row-buy.result.displayed && c.row-sell.result.displayed) ≡ true = c.if-buy-sell.true in
+returns-then-buy-sell c =
+    let both : (c.row-buy.result.displayed && c.row-sell.result.displayed) ≡ true = c.if-buy-sell.true in
     sym (best (goal.at.returns-then-buy-sell c).After-row-sell ∙ rw both)
 
 pub returns : goal.returns
-returns c = let both : (c.row-buy.result.displayed && c.row-sell.result.displayed) ≡ false = c.if-buy-sell.false in
+returns c =
+    let both : (c.row-buy.result.displayed && c.row-sell.result.displayed) ≡ false = c.if-buy-sell.false in
     sym (best (goal.at.returns c).After-row-sell ∙ rw both)

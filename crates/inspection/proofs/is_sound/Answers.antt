@@ -17,15 +17,18 @@ side_sound-bought-requires c =
     both_fit a.h.buys a.h.sells c.if-n-m.false
 
 pub side_sound-sold-requires : goal.side_sound-sold-requires
-side_sound-sold-requires c = let a = c.args in
+side_sound-sold-requires c =
+    let a = c.args in
     ((both_fit a.h.buys a.h.sells c.if-n-m.false).1, search rules)
 
 pub are_apart-apart-requires : goal.are_apart-apart-requires
-are_apart-apart-requires c = let a = c.args in
+are_apart-apart-requires c =
+    let a = c.args in
     both_fit a.h.buys a.h.sells c.if-n-m.false
 
 pub returns : goal.returns
-returns c = let a = c.args in
+returns c =
+    let a = c.args in
     let f : length a.buys.now ≡ places_a_side = c.whole.ensures in
     let g : length a.sells.now ≡ places_a_side = c.whole-2.ensures in
     rw (

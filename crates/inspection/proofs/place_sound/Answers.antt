@@ -14,7 +14,8 @@ returns-then-n-i c =
     ∙ sym (place_unused a.buying a.last others a.n a.t.now a.i c.if-n-i.true c.row-o.result))
 
 pub returns : goal.returns
-returns c = let a = c.args in
+returns c =
+    let a = c.args in
     let others = numbers (loaded a.m a.other.now) in
     rw (
       ← c.row-o.ensures,

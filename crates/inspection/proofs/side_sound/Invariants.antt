@@ -8,7 +8,8 @@ use Rattle.inspection.specs.Inspection.{side_sound}
 use Rattle.inspection.proofs.side_sound.Given as goal
 
 abbrev pub invariant-loop-i : goal.invariant-loop-i
-invariant-loop-i l = let others = numbers (loaded l.m l.other) in
+invariant-loop-i l =
+    let others = numbers (loaded l.m l.other) in
     (l.i ≤ places_a_side) × (side_sound l.buying l.last others (l.n - l.i) (drop l.i (map order_of l.t)) ≡ side_sound l.buying l.last others l.n (map order_of l.t))
 
 abbrev pub decreases-loop-i : goal.decreases-loop-i

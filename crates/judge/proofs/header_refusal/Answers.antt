@@ -33,7 +33,8 @@ returns-then-h c =
 
 pub returns-then-time-h : goal.returns-then-time-h
 unfolding first_of header_refusals
-returns-then-time-h c = let a = c.args in
+returns-then-time-h c =
+    let a = c.args in
     let cl : c.is_close-closing.result ≡ is_close a.c.body = c.is_close-closing.ensures in
     let next : a.c.number.0 ≤ a.h.last.0 + 1 = omega arith in
     let late : untimely (book_holding a.h) a.c ≡ true =
@@ -43,7 +44,8 @@ returns-then-time-h c = let a = c.args in
 
 pub returns : goal.returns
 unfolding first_of header_refusals
-returns c = let a = c.args in
+returns c =
+    let a = c.args in
     let cl : c.is_close-closing.result ≡ is_close a.c.body = c.is_close-closing.ensures in
     let next : a.c.number.0 ≤ a.h.last.0 + 1 = omega arith in
     let timely : untimely (book_holding a.h) a.c ≡ false =

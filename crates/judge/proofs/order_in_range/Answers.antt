@@ -9,7 +9,8 @@ use Rattle.judge.proofs.LawsJudge.{choice_by_values}
 use Rattle.judge.proofs.order_in_range.Goals as goal
 
 pub returns : goal.returns
-returns c = let o = c.args.o in
+returns c =
+    let o = c.args.o in
     let carried : c.carried_in_range.result ≡ carried_in_range o.shares o.carried = c.carried_in_range.ensures in
     rw (carried, c.in_range-2.ensures, c.in_range.ensures, c.has-market.ensures)
     (ap (λ (b : Bool). leb o.side 1 && shares_in_range o.shares && b && carried_in_range o.shares o.carried)

@@ -4,9 +4,9 @@ use Rattle.judge.proofs.order_lawful.Goals as goal
 
 pub returns : goal.returns
 returns c = rw (
-      c.has-2.ensures,
-      c.carries_minimum.ensures,
-      c.carries_floor.ensures,
-      c.has.ensures,
-      c.lawful.ensures,
-    )
+  c.has-2.ensures,
+  c.carries_minimum.ensures,
+  c.carries_floor.ensures,
+  c.has.ensures,
+  c.lawful.ensures,
+)

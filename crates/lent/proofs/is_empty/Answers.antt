@@ -31,7 +31,8 @@ empty-found last used places t found is long told =
     skipped false b = refl
 
 pub returns : goal.returns
-returns c = let s = c.side_of-s in
+returns c =
+    let s = c.side_of-s in
     let sound = c.side_sound in
     empty-found _ s.result.used s.result.places _ sound.result c.load.ensures c.whole.ensures sound.ensures
     ∙ ap (λ (x : Side). is_empty (places_on x)) s.ensures

@@ -7,7 +7,8 @@ use Rattle.lent.proofs.LawsLentStep.{lending_counted}
 use Rattle.lent.proofs.lend.Goals as goal
 
 pub returns : goal.returns
-returns c = let a = c.args in
+returns c =
+    let a = c.args in
     let places = c.places_in-places in
     let apart = c.take_out-apart in
     let x = c.answer_over-worked in

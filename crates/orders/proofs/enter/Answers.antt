@@ -33,14 +33,16 @@ in_range : (c : Else-not-order_in_range) → order_in_range c.args.o ≡ true
 in_range c = sym c.order_in_range.ensures ∙ c.if-not-order_in_range.false
 
 pub returns-then-not-order_lawful : goal.returns-then-not-order_lawful
-returns-then-not-order_lawful c = let a = c.args in
+returns-then-not-order_lawful c =
+    let a = c.args in
     let e : order_lawful a.o ≡ false = sym c.order_lawful.ensures ∙ c.if-not-order_lawful.true in
     let left =
     left_refused a.h a.x.now a.buys.now a.y.now a.sells.now c.requires.0 8 a.out.now _ (unlawful a.number a.time a.o (book (goal.at.returns-then-not-order_lawful c).Start) e) in
     (c.refuse.ensures ∙ left.0, left.1)
 
 pub returns-then-not-order_in_range : goal.returns-then-not-order_in_range
-returns-then-not-order_in_range c = let a = c.args in
+returns-then-not-order_in_range c =
+    let a = c.args in
     let f : order_in_range a.o ≡ false = sym c.order_in_range.ensures ∙ c.if-not-order_in_range.true in
     let left =
     left_refused a.h a.x.now a.buys.now a.y.now a.sells.now c.requires.0 9 a.out.now _
@@ -48,13 +50,15 @@ returns-then-not-order_in_range c = let a = c.args in
     (c.refuse-then-not-order_in_range.ensures ∙ left.0, left.1)
 
 pub match_order-r-requires : goal.match_order-r-requires
-match_order-r-requires c = let a = c.args in
+match_order-r-requires c =
+    let a = c.args in
     let p = c.requires in
     let q : buying a.o ≡ true = eq-eqb _ _ c.if-o-eq0.true in
     (p.0.buys, p.0.sells, ready a.o a.number true (book (goal.at.match_order-r-requires c).Start) p.0.is_sound p.2 (word-lawful (goal.at.match_order-r-requires c).Else-not-order_lawful) (in_range (goal.at.match_order-r-requires c).Else-not-order_in_range) q, p.1)
 
 pub returns-then-o-eq0 : goal.returns-then-o-eq0
-returns-then-o-eq0 c = let a = c.args in
+returns-then-o-eq0 c =
+    let a = c.args in
     let m = c.match_order-r in
     let q : buying a.o ≡ true = eq-eqb _ _ c.if-o-eq0.true in
     let left =
@@ -63,13 +67,15 @@ returns-then-o-eq0 c = let a = c.args in
     (c.step_after.ensures ∙ left.0, left.1)
 
 pub match_order-r-requires-2 : goal.match_order-r-requires-2
-match_order-r-requires-2 c = let a = c.args in
+match_order-r-requires-2 c =
+    let a = c.args in
     let p = c.requires in
     let q : buying a.o ≡ false = ne_eqb _ _ c.if-o-eq0.false in
     (p.0.sells, p.0.buys, ready a.o a.number false (book (goal.at.match_order-r-requires-2 c).Start) p.0.is_sound p.2 (word-lawful (goal.at.match_order-r-requires-2 c).Else-not-order_lawful) (in_range (goal.at.match_order-r-requires-2 c).Else-not-order_in_range) q, p.1)
 
 pub returns : goal.returns
-returns c = let a = c.args in
+returns c =
+    let a = c.args in
     let m = c.match_order-r-2 in
     let q : buying a.o ≡ false = ne_eqb _ _ c.if-o-eq0.false in
     let left =

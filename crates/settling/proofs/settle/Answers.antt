@@ -1,7 +1,4 @@
 -- `settling::settle` meets its contract: the order stays, or is taken off, and is put back at its new rank where it is set anew. Assumes nothing.
--- ── It stays ──
--- ── It is cancelled ──
--- ── It is set anew ──
 use Prim.Native.Nat.{ℕ, ◌+◌, ◌-◌, ◌≤◌, ◌<◌}
 use mathlib.Core.List.{List}
 use mathlib.Core.Path.{◌≡◌, refl, sym, ap, ◌∙◌}
@@ -73,17 +70,23 @@ set_is : (c : After-stamped_as) →
     c.stamped_as.result ≡ stamped_as (stamp a.number a.m.next) c.in-IsSet.new
 set_is c = c.stamped_as.ensures
 
+-- ── It stays ──
+
 pub returns-in-Stays : goal.returns-in-Stays
 unfolding event_lines onto
-returns-in-Stays c = let a = c.args in
+returns-in-Stays c =
+    let a = c.args in
     let is : a.fate ≡ Stays = c.in-Stays.is in
     rw is record { value = refl; shows = holds_shows a.m.held a.x.now a.t.now c.requires.0; out_after = sym (take-append-drop a.m.length a.out.now) }
+
+-- ── It is cancelled ──
 
 pub shares_left-left-requires : goal.shares_left-left-requires
 shares_left-left-requires c = c.requires.5
 
 pub write_cancelled-more-requires : goal.write_cancelled-more-requires
-write_cancelled-more-requires c = let a = c.args in
+write_cancelled-more-requires c =
+    let a = c.args in
     behind a.m.length 21 a.out.now (cancelled-at (goal.at.write_cancelled-more-requires c).In-IsCancelled).1
 
 pub overflow_add-result : goal.overflow_add-result
@@ -104,6 +107,8 @@ returns-in-IsCancelled c =
     c.remove.ensures in
     rw ((cancelled-at (goal.at.returns-in-IsCancelled c).In-IsCancelled).0, event_lines_one e) record { value = ap (λ (l : ℕ). record { held = a.m.held - 1; next = a.m.next; length = a.m.length + l }) more; shows = gone; out_after = onto_part a.m.length (event_line e) a.out.now w.new.out written }
 
+-- ── It is set anew ──
+
 pub rest-requires : goal.rest-requires
 rest-requires c =
     let left = left-side (goal.at.rest-requires c).After-remove-in-IsSet in
@@ -117,7 +122,8 @@ rest-requires c =
     )
 
 pub write_moved-more-requires : goal.write_moved-more-requires
-write_moved-more-requires c = let a = c.args in
+write_moved-more-requires c =
+    let a = c.args in
     behind a.m.length 27 a.out.now (set_at (goal.at.write_moved-more-requires c).In-IsSet).1
 
 pub overflow_add-result-in-IsSet-2 : goal.overflow_add-result-in-IsSet-2

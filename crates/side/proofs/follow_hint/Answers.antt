@@ -26,7 +26,8 @@ returns-then-n-i c =
     λ l. let z : ⊥ = omega (arith, l, length_side a.n a.x.now a.t.now) in absurd z
 
 pub returns : goal.returns
-returns c = let a = c.args in
+returns c =
+    let a = c.args in
     let holds = c.requires.0 in
     let i = c.place_of-i.result in
     let hint = c.wide-slot in

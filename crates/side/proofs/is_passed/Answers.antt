@@ -20,7 +20,8 @@ level-is c =
     c.level_at-level.ensures ∙ ap (λ (j : ℕ). level_in a.buying (get_or a.t.now j [])) w
 
 pub level_at-level-requires : goal.level_at-level-requires
-level_at-level-requires c = let a = c.args in
+level_at-level-requires c =
+    let a = c.args in
     let w : c.wide.result ≡ get_or a.x.now a.i 0 = c.wide.ensures in
     omega (arith, names_below a.x.now c.requires.0 a.i c.requires.1)
 

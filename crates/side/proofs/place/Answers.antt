@@ -72,7 +72,8 @@ pub loop-range-2-preserved : goal.loop-range-2-preserved
 loop-range-2-preserved c = stepped (goal.at.loop-range-2-preserved c).After-is_passed-low
 
 pub returns : goal.returns
-returns c = let l = c.loop-range-2 in
+returns c =
+    let l = c.loop-range-2 in
     let a = c.args in
     let p = c.requires in
     let e : l.low ≡ passed a.n a.x.now a.t.now a.buying c.level_of-mine.result = omega arith in

@@ -20,13 +20,15 @@ returns-then-not-is_going c =
 
 pub returns-then-tells_a_refusal : goal.returns-then-tells_a_refusal
 unfolding going_on turn
-returns-then-tells_a_refusal c = let line = c.args.line.now in
+returns-then-tells_a_refusal c =
+    let line = c.args.line.now in
     let refusal : is_kind refusal_kind (number_at 1 0 line) ≡ true = sym c.tells_a_refusal.ensures ∙ c.if-tells_a_refusal.true in
     rw (going (goal.at.returns-then-tells_a_refusal c).Else-not-is_going, refusal) c.pass_over.ensures
 
 pub returns : goal.returns
 unfolding going_on turn
-returns c = let line = c.args.line.now in
+returns c =
+    let line = c.args.line.now in
     let other : is_kind refusal_kind (number_at 1 0 line) ≡ false = sym c.tells_a_refusal.ensures ∙ c.if-tells_a_refusal.false in
     let read : c.read_event.result ≡ event_in line = c.read_event.ensures in
     rw (going (goal.at.returns c).Else-not-is_going, other, sym read) c.count.ensures

@@ -5,6 +5,7 @@ use Rattle.rules.specs.declared.Reading.TheVariants as reading
 use Rattle.book.proofs.Book.cancel.Goals as goal
 
 pub returns : goal.returns
-returns c = let a = c.args in
+returns c =
+    let a = c.args in
     let asked : c.command.result ≡ reading.Is (record { number = a.number; time = a.time; body = body.Cancel a.of }) = c.command.ensures in
     rw (← asked) c.respond.ensures

@@ -5,15 +5,18 @@ use Rattle.book.proofs.LawsWork.{left_holds, work_done}
 use Rattle.book.proofs.Book.work.Goals as goal
 
 pub number-requires : goal.number-requires
-number-requires c = let head = c.head-head in
+number-requires c =
+    let head = c.head-head in
     (counts_fit c.args.self c.requires.self_value.0 head.result head.ensures).0
 
 pub number-requires-2 : goal.number-requires-2
-number-requires-2 c = let head = c.head-head in
+number-requires-2 c =
+    let head = c.head-head in
     (counts_fit c.args.self c.requires.self_value.0 head.result head.ensures).1
 
 pub apply-step-requires : goal.apply-step-requires
-apply-step-requires c = let a = c.args in
+apply-step-requires c =
+    let a = c.args in
     let p = c.requires in
     let head = c.head-head in
     let x = c.number in
@@ -24,7 +27,8 @@ apply-step-requires c = let a = c.args in
     (stands, p.self_value.1)
 
 pub save-book-requires : goal.save-book-requires
-save-book-requires c = let a = c.args in
+save-book-requires c =
+    let a = c.args in
     let p = c.requires in
     let head = c.head-head in
     let x = c.number in
@@ -38,7 +42,8 @@ save-book-requires c = let a = c.args in
     left.result _ _ _ _ _ left.ensures
 
 pub returns : goal.returns
-returns c = let a = c.args in
+returns c =
+    let a = c.args in
     let p = c.requires in
     let head = c.head-head in
     let x = c.number in

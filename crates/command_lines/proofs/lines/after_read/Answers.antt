@@ -52,7 +52,8 @@ pub overflow_cast-more : goal.overflow_cast-more
 overflow_cast-more c = rw (back (goal.at.overflow_cast-more c).Start) (sized c.args.got (not_negative (goal.at.overflow_cast-more c).Else-got-lt0) c.ranges.got)
 
 pub returns-then-room-have : goal.returns-then-room-have
-returns-then-room-have c = let a = c.args in
+returns-then-room-have c =
+    let a = c.args in
     let h : a.room - a.have < nat_abs a.got = rw (back (goal.at.returns-then-room-have c).Start) at c.if-room-have.true in
     upto a.have a.room a.got a.room (not_negative (goal.at.returns-then-room-have c).Else-got-lt0) c.if-got-eq0.false (omega arith)
 

@@ -28,7 +28,7 @@ module _ (c : After-field_at-last) where
   has_number : carried_in kind body ≡ carrying (last_of kind) (number_at 4 22 body)
   unfolding carried_in
   has_number =
-    let e = sym c.is_ended-2.ensures ∙ c.if-not-is_ended-2.false in
+      let e = sym c.is_ended-2.ensures ∙ c.if-not-is_ended-2.false in
       rw (ne_eqb _ _ c.if-kind-eq1.false, c.if-not-kind.false, e)
 
   is-good : (b : Bool) → c.field_at-last.result.good ≡ b → (field_of (number_at 4 22 body)).good ≡ b

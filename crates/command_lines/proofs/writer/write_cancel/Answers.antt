@@ -8,6 +8,7 @@ pub shape_of-out : goal.shape_of-out
 shape_of-out c = simp length-set (omega arith)
 
 pub returns : goal.returns
-returns c = let a = c.args in
+returns c =
+    let a = c.args in
     let number = field 4 a.number.0 nothing c.write_four.ensures in
     wrote_line number (omega arith)

@@ -37,7 +37,8 @@ returns-then-out-length c =
 
 pub returns : goal.returns
 unfolding written_for buffer_of line_of
-returns c = let a = c.args in
+returns c =
+    let a = c.args in
     let b = a.c.body in
     let out = a.out.now in
     let header = written header_form (kind_of b ∷ a.c.number.0 ∷ a.c.time ∷ []) in

@@ -3,7 +3,8 @@ use Rattle.rules.proofs.LawsWriting.{nothing, field, wrote}
 use Rattle.command_lines.proofs.writer.write_header.Goals as goal
 
 pub returns : goal.returns
-returns c = let a = c.args in
+returns c =
+    let a = c.args in
     let kind = field 1 a.kind nothing c.write_one.ensures in
     let number = field 4 a.number.0 kind c.write_four.ensures in
     let time = field 4 a.time number c.write_four-2.ensures in

@@ -1,10 +1,5 @@
 -- `command_lines::writer::write_order` meets its contract: the fields are written one after the other, then what is carried and the line
 -- feed. Assumes nothing.
--- ── The room ──
--- ── The fields that every order has ──
--- ── Nothing carried ──
--- ── A Max Floor ──
--- ── A minimum ──
 use Prim.Native.Nat.{ℕ, ◌≤◌, ◌<◌}
 use mathlib.Core.List.{[], ◌∷◌}
 use mathlib.Core.Path.{◌≡◌}
@@ -17,6 +12,8 @@ use Rattle.rules.proofs.LawsWriting.{Wrote, nothing, field, wrote_line}
 use Rattle.command_lines.proofs.writer.write_order.Goals as goal
 use Rattle.command_lines.proofs.writer.write_order.Goals.{After-write_four, After-write_four-2, After-write_one, After-write_two, In-MaxFloor, In-Minimum, Start}
 
+-- ── The room ──
+
 -- an order has the digits of one that carries nothing at least
 long : (x : Carried) → digits_in order_form ≤ digits_in (order_form_of x)
 long Nothing = omega arith
@@ -28,6 +25,8 @@ as-carried e n l = rw e at l
 
 roomy : (c : Start) → digits_in order_form < length c.args.out.now
 roomy c = omega (arith, long c.args.order.carried, c.requires)
+
+-- ── The fields that every order has ──
 
 -- each place after a field, and the one before it
 abbrev entry : After-write_one → Start
@@ -72,6 +71,8 @@ write_four-requires c = omega (arith, roomy (entry (at_side (goal.at.write_four-
 pub write_four-requires-2 : goal.write_four-requires-2
 write_four-requires-2 c = omega (arith, roomy (entry (at_side (at-word (goal.at.write_four-requires-2 c).After-write_four))))
 
+-- ── Nothing carried ──
+
 pub bounds-out-22 : goal.bounds-out-22
 bounds-out-22 c = omega (arith, roomy (start (goal.at.bounds-out-22 c).After-write_four-2))
 
@@ -83,6 +84,8 @@ returns-in-Nothing c =
     let here = (goal.at.returns-in-Nothing c).After-write_four-2 in
     let none = c.in-Nothing.is in
     rw none (wrote_line (fields-written here) (as-carried none _ (start here).requires))
+
+-- ── A Max Floor ──
 
 pub write_four-requires-in-MaxFloor : goal.write_four-requires-in-MaxFloor
 write_four-requires-in-MaxFloor c = omega (arith, reserve-roomy (goal.at.write_four-requires-in-MaxFloor c).In-MaxFloor)
@@ -99,6 +102,8 @@ returns-in-MaxFloor c =
     let floor = c.in-MaxFloor.floor in
     rw c.in-MaxFloor.is
     (wrote_line (field 4 floor.0 (fields-written (goal.at.returns-in-MaxFloor c).After-write_four-2) c.write_four-in-MaxFloor.ensures) (reserve-roomy here))
+
+-- ── A minimum ──
 
 pub write_four-requires-in-Minimum : goal.write_four-requires-in-Minimum
 write_four-requires-in-Minimum c = omega (arith, minimum-roomy (goal.at.write_four-requires-in-Minimum c).In-Minimum)

@@ -8,7 +8,8 @@ pub shape_of-out : goal.shape_of-out
 shape_of-out c = simp length-set (omega arith)
 
 pub returns : goal.returns
-returns c = let a = c.args in
+returns c =
+    let a = c.args in
     let bid = field 4 a.away.bid.0 nothing c.write_four.ensures in
     let offer = field 4 a.away.offer.0 bid c.write_four-2.ensures in
     wrote_line offer (omega arith)

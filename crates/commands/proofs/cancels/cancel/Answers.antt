@@ -1,7 +1,4 @@
 -- `commands::cancels::cancel` meets its contract: the number is of a buy, of a sell or of no order. Assumes nothing.
--- ── The number is of a buy ──
--- ── The number is of a sell ──
--- ── The number is of no order ──
 use Prim.Native.Nat.{ℕ, ◌-◌, ◌<◌}
 use mathlib.Core.Bool.{true, false}
 use mathlib.Core.List.{List}
@@ -35,12 +32,16 @@ use Rattle.commands.proofs.cancels.cancel.Goals.{In-AmongBuys, In-AmongSells, St
 module _ (c : Start) where
   abbrev book : Book
   book = let a = c.args in book_on a.h a.x.now a.buys.now a.y.now a.sells.now
+
   facts : Sound book
   facts = sound_is book c.requires.0.is_sound
+
   buys-long : length book.buys ≡ c.args.h.buys
   buys-long = length_side c.args.h.buys c.args.x.now c.args.buys.now
+
   sells-long : length book.sells ≡ c.args.h.sells
   sells-long = length_side c.args.h.sells c.args.y.now c.args.sells.now
+
   abbrev the-answer : Answer
   the-answer = body_answer c.args.number c.args.time (body.Cancel c.args.of) book
 
@@ -69,11 +70,15 @@ at-sell c =
 pub seek-found-requires : goal.seek-found-requires
 seek-found-requires c = (c.requires.0.buys, c.requires.0.sells, (facts (goal.at.seek-found-requires c).Start).once)
 
+-- ── The number is of a buy ──
+
 pub take_off-len-requires : goal.take_off-len-requires
 take_off-len-requires c = (c.requires.0.buys, omega (arith, (at-buy (goal.at.take_off-len-requires c).In-AmongBuys).1, buys-long (goal.at.take_off-len-requires c).Start), c.requires.1, all_countable true _ c.requires.0.is_sound)
 
 pub overflow_sub-n : goal.overflow_sub-n
 overflow_sub-n c = omega (arith, (at-buy (goal.at.overflow_sub-n c).In-AmongBuys).1, buys-long (goal.at.overflow_sub-n c).Start)
+
+-- ── The number is of a sell ──
 
 pub take_off-len-requires-in-AmongSells : goal.take_off-len-requires-in-AmongSells
 take_off-len-requires-in-AmongSells c = (c.requires.0.sells, omega (arith, (at-sell (goal.at.take_off-len-requires-in-AmongSells c).In-AmongSells).1, sells-long (goal.at.take_off-len-requires-in-AmongSells c).Start), c.requires.1, all_countable false _ c.requires.0.is_sound)
@@ -82,7 +87,8 @@ pub overflow_sub-m : goal.overflow_sub-m
 overflow_sub-m c = omega (arith, (at-sell (goal.at.overflow_sub-m c).In-AmongSells).1, sells-long (goal.at.overflow_sub-m c).Start)
 
 pub returns-in-AmongBuys : goal.returns-in-AmongBuys
-returns-in-AmongBuys c = let here = (goal.at.returns-in-AmongBuys c).Start in
+returns-in-AmongBuys c =
+    let here = (goal.at.returns-in-AmongBuys c).Start in
     let a = c.args in
     let b = book here in
     let f = c.take_off-len in
@@ -100,7 +106,8 @@ returns-in-AmongBuys c = let here = (goal.at.returns-in-AmongBuys c).Start in
     (c.leave.ensures ∙ left.0, left.1)
 
 pub returns-in-AmongSells : goal.returns-in-AmongSells
-returns-in-AmongSells c = let here = (goal.at.returns-in-AmongSells c).Start in
+returns-in-AmongSells c =
+    let here = (goal.at.returns-in-AmongSells c).Start in
     let a = c.args in
     let b = book here in
     let f = c.take_off-len-in-AmongSells in
@@ -117,8 +124,11 @@ returns-in-AmongSells c = let here = (goal.at.returns-in-AmongSells c).Start in
     (f.ensures.out_after ∙ ap (λ (l : List ℕ). onto l a.out.now) (sym (event_lines_one e))) in
     (c.leave-in-AmongSells.ensures ∙ left.0, left.1)
 
+-- ── The number is of no order ──
+
 pub returns-in-Nowhere : goal.returns-in-Nowhere
-returns-in-Nowhere c = let here = (goal.at.returns-in-Nowhere c).Start in
+returns-in-Nowhere c =
+    let here = (goal.at.returns-in-Nowhere c).Start in
     let a = c.args in
     let b = book here in
     let none = found_none a.of b.buys b.sells c.seek-found.result c.seek-found.ensures c.in-Nowhere.is in

@@ -24,11 +24,13 @@ returns-then-at-n c =
     where_buy a.of s u c.follow_hint-at.result (c.follow_hint-at.ensures l) l
 
 pub follow_hint-at-requires-2 : goal.follow_hint-at-requires-2
-follow_hint-at-requires-2 c = let a = c.args in
+follow_hint-at-requires-2 c =
+    let a = c.args in
     (c.requires.1, second_once (side a.n a.x.now a.buys.now) (side a.m a.y.now a.sells.now) c.requires.2)
 
 pub returns-then-at-m : goal.returns-then-at-m
-returns-then-at-m c = let a = c.args in
+returns-then-at-m c =
+    let a = c.args in
     let s = side a.n a.x.now a.buys.now in
     let u = side a.m a.y.now a.sells.now in
     let l : c.follow_hint-at-2.result < length u = omega (arith, c.if-at-m.true, length_side a.m a.y.now a.sells.now) in

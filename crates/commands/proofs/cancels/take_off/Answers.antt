@@ -18,7 +18,8 @@ use Rattle.rules.proofs.LawsEvents.{cancelled_length}
 use Rattle.commands.proofs.cancels.take_off.Goals as goal
 
 pub shares_left-left-requires : goal.shares_left-left-requires
-shares_left-left-requires c = let a = c.args in
+shares_left-left-requires c =
+    let a = c.args in
     let long = length_side a.n a.x.now a.t.now in
     subst Countable (sym c.at-o.ensures) (all_at unused a.at c.requires.3 (omega (arith, long, c.requires.1)))
 
@@ -37,5 +38,9 @@ returns c =
     let read : found.result ≡ get_or s a.at unused = found.ensures in
     let left : c.shares_left-left.result ≡ shares (shares_left found.result) = c.shares_left-left.ensures in
     let line : Resting → Event = λ (h : Resting). Cancelled h.number (shares (shares_left h)) by_command in
-    let h = get_or s a.at unused in record { value = w.ensures.value ∙ sym (cancelled_length h.number (shares (shares_left h)) by_command); shows = c.remove.ensures; out_after = w.ensures.out_after ∙ ap (λ (k : Shares). onto (event_line (Cancelled found.result.number k by_command)) a.out.now) left
-            ∙ ap (λ (o : Resting). onto (event_line (line o)) a.out.now) read }
+    let h = get_or s a.at unused in record {
+      value = w.ensures.value ∙ sym (cancelled_length h.number (shares (shares_left h)) by_command);
+      shows = c.remove.ensures;
+      out_after = w.ensures.out_after ∙ ap (λ (k : Shares). onto (event_line (Cancelled found.result.number k by_command)) a.out.now) left
+          ∙ ap (λ (o : Resting). onto (event_line (line o)) a.out.now) read;
+    }

@@ -21,7 +21,8 @@ pub slice_bounds-feed-end-2 : goal.slice_bounds-feed-end-2
 slice_bounds-feed-end-2 c = sym (length-take-le c.args.have c.args.input.now c.requires.1)
 
 pub carry-left-requires : goal.carry-left-requires
-carry-left-requires c = let long = length-take-le c.args.have c.args.input.now c.requires.1 in
+carry-left-requires c =
+    let long = length-take-le c.args.have c.args.input.now c.requires.1 in
     (omega (arith, long, c.feed-fed.ensures.1.1.1.1.0.0), c.requires.1)
 
 pub returns : goal.returns
@@ -37,7 +38,7 @@ returns c =
     let is_short : Bool = ltb (room - f.result.length) least_room in
     let most : j.most ≡ (if is_short then a.have else part_kept) =
     elim j.branch [
-      then-is_short w ↦ (let t : is_short ≡ true = rw long at (lt-ltb _ _ w.if-is_short.true) in rw t w.most-is)
+      | then-is_short w ↦ (let t : is_short ≡ true = rw long at (lt-ltb _ _ w.if-is_short.true) in rw t w.most-is)
       | else-is_short w ↦ (let t : is_short ≡ false = rw long at (le-ltb _ _ w.if-is_short.false) in rw t w.most-is)
     ] in
     let (turn, input, left) =

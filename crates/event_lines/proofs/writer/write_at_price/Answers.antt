@@ -9,7 +9,8 @@ pub shape_of-out : goal.shape_of-out
 shape_of-out c = simp length-set (omega arith)
 
 pub returns : goal.returns
-returns c = let a = c.args in
+returns c =
+    let a = c.args in
     let kind = field 1 a.kind nothing c.write_one.ensures in
     let number = field 4 a.number.0 kind c.write_four.ensures in
     let price = field 4 a.price.0 number c.write_four-2.ensures in

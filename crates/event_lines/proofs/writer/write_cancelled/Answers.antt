@@ -11,7 +11,8 @@ shape_of-out c = simp length-set (omega arith)
 
 pub returns : goal.returns
 unfolding event_line
-returns c = let a = c.args in
+returns c =
+    let a = c.args in
     let kind = field 1 19 nothing c.write_one.ensures in
     let number = field 4 a.number.0 kind c.write_four.ensures in
     let shares = field 4 a.shares.0 number c.write_four-2.ensures in

@@ -11,7 +11,8 @@ shape_of-out c = simp length-set (omega arith)
 
 pub returns : goal.returns
 unfolding event_line
-returns c = let a = c.args in
+returns c =
+    let a = c.args in
     let kind = field 1 17 nothing c.write_one.ensures in
     let incoming = field 4 a.incoming.0 kind c.write_four.ensures in
     let resting = field 4 a.resting.0 incoming c.write_four-2.ensures in

@@ -11,7 +11,8 @@ shape_of-out c = simp length-set (omega arith)
 
 pub returns : goal.returns
 unfolding refusal_line
-returns c = let a = c.args in
+returns c =
+    let a = c.args in
     let kind = field 1 31 nothing c.write_one.ensures in
     let refusal = field 1 a.refusal kind c.write_one-2.ensures in
     record { value = refl; out_after = wrote_line refusal (omega arith) }

@@ -16,13 +16,15 @@ use Rattle.orders.proofs.cursor.LawsAhead.{ends_with_side, ends_at_price, next_s
 use Rattle.orders.proofs.cursor.next.Goals as goal
 
 pub next_reserve-requires : goal.next_reserve-requires
-next_reserve-requires c = let a = c.args in
+next_reserve-requires c =
+    let a = c.args in
     let s = side a.n a.x.now a.t.now in
     let k : length s ≡ a.n = length_side a.n a.x.now a.t.now in
     (c.requires.0, c.requires.1, c.if-waits-at.true, ends_with_side s a.c (omega (arith, c.if-n-at.true)))
 
 pub returns-then-n-at : goal.returns-then-n-at
-returns-then-n-at c = let a = c.args in
+returns-then-n-at c =
+    let a = c.args in
     let s = side a.n a.x.now a.t.now in
     let k : length s ≡ a.n = length_side a.n a.x.now a.t.now in
     ahead_end s a.c (omega (arith, c.if-n-at.true)) c.if-waits-at.false

@@ -9,22 +9,26 @@ use Rattle.orders.proofs.cursor.LawsAhead.{next_reserve}
 use Rattle.orders.proofs.cursor.next_reserve.Goals as goal
 
 pub at-o-requires : goal.at-o-requires
-at-o-requires c = let a = c.args in
+at-o-requires c =
+    let a = c.args in
     let k : length (side a.n a.x.now a.t.now) ≡ a.n = length_side a.n a.x.now a.t.now in
     (c.requires.0, omega (arith, c.requires.1.within, c.requires.2))
 
 pub overflow_add-waits : goal.overflow_add-waits
-overflow_add-waits c = let a = c.args in
+overflow_add-waits c =
+    let a = c.args in
     let k : length (side a.n a.x.now a.t.now) ≡ a.n = length_side a.n a.x.now a.t.now in
     omega (arith, c.requires.0.fits, c.requires.1.within, c.requires.2)
 
 pub skip-more-requires : goal.skip-more-requires
-skip-more-requires c = let a = c.args in
+skip-more-requires c =
+    let a = c.args in
     let k : length (side a.n a.x.now a.t.now) ≡ a.n = length_side a.n a.x.now a.t.now in
     (c.requires.0, omega (arith, c.requires.2), omega (arith, c.requires.1.within))
 
 pub returns : goal.returns
-returns c = let a = c.args in
+returns c =
+    let a = c.args in
     let s = side a.n a.x.now a.t.now in
     let k : length s ≡ a.n = length_side a.n a.x.now a.t.now in
     let w = c.requires.1.within in

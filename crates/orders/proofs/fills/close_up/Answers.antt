@@ -13,17 +13,20 @@ use Rattle.orders.proofs.fills.LawsClosing.{closing_start, closing_on, closing_e
 use Rattle.orders.proofs.fills.close_up.Goals as goal
 
 pub loop-i-init : goal.loop-i-init
-loop-i-init c = let a = c.args in
+loop-i-init c =
+    let a = c.args in
     closing_start a.n a.x.now a.t.now a.reached c.requires.0 c.requires.1 c.requires.2
 
 pub row-o-requires : goal.row-o-requires
-row-o-requires c = let l = c.loop-i in
+row-o-requires c =
+    let l = c.loop-i in
     let e : c.wide.result ≡ get_or l.x l.i 0 = c.wide.ensures in
     let f = c.requires.0.fits in
     rw (e, slot_same c.requires.0 l.invariant c.loop-i-test.true) (names_below c.args.x.now c.requires.0.names l.i (omega arith))
 
 pub loop-i-preserved : goal.loop-i-preserved
-loop-i-preserved c = let l = c.loop-i in
+loop-i-preserved c =
+    let l = c.loop-i in
     let v : c.wide.result ≡ get_or l.x l.i 0 = c.wide.ensures in
     let o : c.row-o.result ≡ order_of (get_or c.args.t.now (get_or l.x l.i 0) []) = c.row-o.ensures ∙ rw v in
     let k : c.counted-to.result ≡ (if keeps c.row-o.result then l.to + 1 else l.to) =

@@ -14,11 +14,13 @@ use Rattle.orders.proofs.fills.LawsTakenOff.{lessened_none, lessened_next, lesse
 use Rattle.orders.proofs.fills.subtract.Goals as goal
 
 pub loop-i-init : goal.loop-i-init
-loop-i-init c = let a = c.args in
+loop-i-init c =
+    let a = c.args in
     (omega arith, rw (lessened_none 0 c.requires.3) (holds_shows a.n a.x.now a.t.now c.requires.0))
 
 pub reduce-requires : goal.reduce-requires
-reduce-requires c = let l = c.loop-i in
+reduce-requires c =
+    let l = c.loop-i in
     let a = c.args in
     let f : length a.took.now ≡ most_takings = c.whole.ensures in (
       lessened_holds a.n a.x.now a.t.now l.t (take l.i (takings_in a.count a.took.now)) l.invariant.1,
@@ -26,7 +28,8 @@ reduce-requires c = let l = c.loop-i in
     )
 
 pub loop-i-preserved : goal.loop-i-preserved
-loop-i-preserved c = let l = c.loop-i in
+loop-i-preserved c =
+    let l = c.loop-i in
     let a = c.args in
     let f : length a.took.now ≡ most_takings = c.whole.ensures in
     let room : a.count ≤ length a.took.now = omega (arith, c.requires.1) in

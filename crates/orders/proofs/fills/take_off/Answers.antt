@@ -15,7 +15,8 @@ subtract-requires c =
     (p.0, p.2, all_alike (λ k l. omega (arith, l, p.1)) p.3, p.5)
 
 pub close_up-requires : goal.close_up-requires
-close_up-requires c = let a = c.args in
+close_up-requires c =
+    let a = c.args in
     let p = c.requires in
     let s = side a.n a.x.now a.t.now in
     let ks = takings_in a.count a.took.now in
@@ -27,7 +28,8 @@ close_up-requires c = let a = c.args in
     )
 
 pub returns : goal.returns
-returns c = let a = c.args in
+returns c =
+    let a = c.args in
     let s = side a.n a.x.now a.t.now in
     let ks = takings_in a.count a.took.now in
     let t = c.subtract.new.t in

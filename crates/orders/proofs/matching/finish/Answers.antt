@@ -23,17 +23,20 @@ use Rattle.orders.proofs.matching.finish.Goals.{After-conclude-len}
 module _ (c : After-conclude-len) where
   abbrev opposite : List Resting
   opposite = side c.args.m c.args.y.now c.args.opposite.now
+
   abbrev last : List Event
   last = last_line c.args.number c.args.left.0 c.args.end
+
   abbrev out : List ℕ
   out = c.conclude-len.new.out
+
   room : c.conclude-len.result + 27 * c.args.m ≤ length out
   room =
       omega (
         arith,
         c.conclude-len.ensures.value,
         last_long c.args.number c.args.left.0 c.args.end,
-                c.requires.5,
+        c.requires.5,
       )
 
 pub conclude-len-requires : goal.conclude-len-requires
@@ -46,7 +49,8 @@ pub slice_bounds-refill-start : goal.slice_bounds-refill-start
 slice_bounds-refill-start c = omega (arith, room (goal.at.slice_bounds-refill-start c).After-conclude-len)
 
 pub refill-refilled-requires : goal.refill-refilled-requires
-refill-refilled-requires c = let here = (goal.at.refill-refilled-requires c).After-conclude-len in
+refill-refilled-requires c =
+    let here = (goal.at.refill-refilled-requires c).After-conclude-len in
     let p = c.requires in
     let len = c.conclude-len.result in
     let g : 27 * c.args.m ≤ length (take (length (out here) - len) (drop len (out here))) = simp (length-take, length-drop) (omega (arith, room here)) in
@@ -54,7 +58,8 @@ refill-refilled-requires c = let here = (goal.at.refill-refilled-requires c).Aft
     (p.3, p.4, omega (arith, g, told_long refill_fate (opposite here), long))
 
 pub overflow_add-result : goal.overflow_add-result
-overflow_add-result c = let here = (goal.at.overflow_add-result c).After-conclude-len in
+overflow_add-result c =
+    let here = (goal.at.overflow_add-result c).After-conclude-len in
     let r : c.refill-refilled.result ≡ settled_in c.args.number first_move (not (buying c.args.o)) refill_fate (opposite here) = c.refill-refilled.ensures.value in
     let l : c.refill-refilled.result.length ≡ length (event_lines (told refill_fate (opposite here))) = ap (λ (m : Settled). m.length) r in
     let long = length_side c.args.m c.args.y.now c.args.opposite.now in
@@ -69,7 +74,8 @@ overflow_add-result c = let here = (goal.at.overflow_add-result c).After-conclud
     )
 
 pub returns : goal.returns
-returns c = let here = (goal.at.returns c).After-conclude-len in
+returns c =
+    let here = (goal.at.returns c).After-conclude-len in
     let a = c.args in
     let l = c.conclude-len in
     let f = c.refill-refilled in

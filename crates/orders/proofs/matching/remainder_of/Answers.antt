@@ -11,11 +11,13 @@ use Rattle.rules.proofs.LawsFloors.{shown_at_most}
 use Rattle.orders.proofs.matching.remainder_of.Goals as goal
 
 pub overflow_sub-reserve : goal.overflow_sub-reserve
-overflow_sub-reserve c = let a = c.args in
+overflow_sub-reserve c =
+    let a = c.args in
     rw c.shown_of-shown.ensures (omega (arith, shown_at_most c.floor_of-floor.result.0 a.left.0))
 
 pub returns : goal.returns
-returns c = let a = c.args in
+returns c =
+    let a = c.args in
     let shown : c.has-displayed.result ≡ has a.o.word displayed = c.has-displayed.ensures in
     let back : c.has-back.result ≡ has a.o.word cancel_back = c.has-back.ensures in
     let floor : c.floor_of-floor.result ≡ shares (floor_of a.o.carried) = c.floor_of-floor.ensures in

@@ -11,9 +11,11 @@ use Rattle.orders.proofs.pricing.bound_of.Goals.{After-struct_known-2-1}
 module _ (c : After-struct_known-2-1) where
   limit_is : c.limit_of-limit.result ≡ farthest c.args.o
   limit_is = c.limit_of-limit.ensures
+
   locking_is : c.locking_price-locking.result
       ≡ locking_price (buying c.args.o) c.args.away
   locking_is = c.locking_price-locking.ensures
+
   iso-is : c.has.result ≡ has c.args.o.word iso
   iso-is = c.has.ensures
 
@@ -25,14 +27,16 @@ locking_price-locking-requires c = c.requires.1
 
 pub returns-then-has-locking : goal.returns-then-has-locking
 unfolding bound_of
-returns-then-has-locking c = let here = (goal.at.returns-then-has-locking c).After-struct_known-2-1 in
+returns-then-has-locking c =
+    let here = (goal.at.returns-then-has-locking c).After-struct_known-2-1 in
     let a = c.args in
     let free : (has a.o.word iso || absent (locking_price (buying a.o) a.away)) ≡ true = rw (iso-is here, locking_is here) at c.if-has-locking.true in
     rw free (limit_is here)
 
 pub returns-then-within : goal.returns-then-within
 unfolding bound_of
-returns-then-within c = let here = (goal.at.returns-then-within c).After-struct_known-2-1 in
+returns-then-within c =
+    let here = (goal.at.returns-then-within c).After-struct_known-2-1 in
     let a = c.args in
     let bound : (has a.o.word iso || absent (locking_price (buying a.o) a.away)) ≡ false = rw (iso-is here, locking_is here) at c.if-has-locking.false in
     let within : not (beyond (buying a.o) (locking_price (buying a.o) a.away) (farthest a.o)) ≡ true =
@@ -41,7 +45,8 @@ returns-then-within c = let here = (goal.at.returns-then-within c).After-struct_
 
 pub returns : goal.returns
 unfolding bound_of
-returns c = let here = (goal.at.returns c).After-struct_known-2-1 in
+returns c =
+    let here = (goal.at.returns c).After-struct_known-2-1 in
     let a = c.args in
     let bound : (has a.o.word iso || absent (locking_price (buying a.o) a.away)) ≡ false = rw (iso-is here, locking_is here) at c.if-has-locking.false in
     let within : not (beyond (buying a.o) (locking_price (buying a.o) a.away) (farthest a.o)) ≡ false =

@@ -16,7 +16,8 @@ pub half_a_cent-requires : goal.half_a_cent-requires
 half_a_cent-requires c = omega (arith, c.if-bound-locked.true, c.requires.2)
 
 pub returns-then-bound-locked : goal.returns-then-bound-locked
-returns-then-bound-locked c = let a = c.args in
+returns-then-bound-locked c =
+    let a = c.args in
     let e : eqb c.bound_of-bound.result.0 a.locked.0 ≡ true = eq-eqb _ _ c.if-bound-locked.true in
     let under : c.half_a_cent.result ≡ bound_under (buying a.o) a.locked c.bound_of-bound.result =
     rw e c.half_a_cent.ensures in

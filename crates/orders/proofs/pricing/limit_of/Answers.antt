@@ -11,7 +11,8 @@ in_half_cents-requires c = c.requires
 
 pub returns-then-not-has : goal.returns-then-not-has
 unfolding farthest
-returns-then-not-has c = let h : has c.args.o.word market ≡ false = sym c.has.ensures ∙ c.if-not-has.true in
+returns-then-not-has c =
+    let h : has c.args.o.word market ≡ false = sym c.has.ensures ∙ c.if-not-has.true in
     rw h c.in_half_cents.ensures
 
 pub returns-then-o-eq0 : goal.returns-then-o-eq0

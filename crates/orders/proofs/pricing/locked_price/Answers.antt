@@ -34,9 +34,11 @@ unfolding locked_price ranked
 returns-then-n-eq0 c = rw c.if-n-eq0.true
 
 pub returns-then-best : goal.returns-then-best
-returns-then-best c = let shown : c.at-best.result.displayed ≡ true = c.if-best.true in
+returns-then-best c =
+    let shown : c.at-best.result.displayed ≡ true = c.if-best.true in
     sym (best-says (goal.at.returns-then-best c).After-at-best ∙ rw shown)
 
 pub returns : goal.returns
-returns c = let hidden : c.at-best.result.displayed ≡ false = c.if-best.false in
+returns c =
+    let hidden : c.at-best.result.displayed ≡ false = c.if-best.false in
     sym (best-says (goal.at.returns c).After-at-best ∙ rw hidden)

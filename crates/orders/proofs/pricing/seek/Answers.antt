@@ -17,8 +17,10 @@ module _ (c : After-struct_known-2-1) where
   locking_is : c.locking_price-locking.result
       ≡ locking_price (buying c.args.o) c.args.away
   locking_is = c.locking_price-locking.ensures
+
   limit_is : c.in_half_cents-price.result ≡ limit_of c.args.o
   limit_is = c.in_half_cents-price.ensures
+
   iso-is : c.has.result ≡ has c.args.o.word iso
   iso-is = c.has.ensures
 
@@ -27,13 +29,15 @@ module _ (c : After-has-displayed) where
   bound-is : (has c.args.o.word iso
       || absent (locking_price (buying c.args.o) c.args.away)) ≡ false
   bound-is = rw (iso-is c.before.before.before, locking_is c.before.before.before) at c.if-has-locking.false
+
   crosses-is : not c.within-crosses.result
       ≡ beyond (buying c.args.o) (locking_price (buying c.args.o) c.args.away)
       (limit_of c.args.o)
   crosses-is =
-    let e = ap not c.within-crosses.ensures in
+      let e = ap not c.within-crosses.ensures in
       let f = not_not (beyond (buying c.args.o) c.locking_price-locking.result c.in_half_cents-price.result) in
       rw (locking_is c.before.before.before, limit_is c.before.before.before) at (e ∙ f)
+
   displayed-is : c.has-displayed.result ≡ has c.args.o.word displayed
   displayed-is = c.has-displayed.ensures
 
@@ -45,18 +49,21 @@ locking_price-locking-requires c = omega (arith, c.requires.1)
 
 pub returns-then-has-locking : goal.returns-then-has-locking
 unfolding seeks
-returns-then-has-locking c = let here = (goal.at.returns-then-has-locking c).After-struct_known-2-1 in
+returns-then-has-locking c =
+    let here = (goal.at.returns-then-has-locking c).After-struct_known-2-1 in
     let a = c.args in
     let free : (has a.o.word iso || absent (locking_price (buying a.o) a.away)) ≡ true = rw (iso-is here, locking_is here) at c.if-has-locking.true in
     rw free (ap Rests (limit_is here))
 
 pub less_aggressive-requires : goal.less_aggressive-requires
-less_aggressive-requires c = let below : c.locking_price-locking.result.0 < largest - 1 = rw (locking_is (goal.at.less_aggressive-requires c).After-struct_known-2-1) c.requires.1 in
+less_aggressive-requires c =
+    let below : c.locking_price-locking.result.0 < largest - 1 = rw (locking_is (goal.at.less_aggressive-requires c).After-struct_known-2-1) c.requires.1 in
     below
 
 pub returns-then-displayed-price : goal.returns-then-displayed-price
 unfolding seeks
-returns-then-displayed-price c = let there = (goal.at.returns-then-displayed-price c).After-struct_known-2-1 in
+returns-then-displayed-price c =
+    let there = (goal.at.returns-then-displayed-price c).After-struct_known-2-1 in
     let here = (goal.at.returns-then-displayed-price c).After-has-displayed in
     let a = c.args in
     let l = locking_price (buying a.o) a.away in
@@ -66,7 +73,8 @@ returns-then-displayed-price c = let there = (goal.at.returns-then-displayed-pri
 
 pub returns-then-displayed-crosses : goal.returns-then-displayed-crosses
 unfolding seeks
-returns-then-displayed-crosses c = let there = (goal.at.returns-then-displayed-crosses c).After-struct_known-2-1 in
+returns-then-displayed-crosses c =
+    let there = (goal.at.returns-then-displayed-crosses c).After-struct_known-2-1 in
     let here = (goal.at.returns-then-displayed-crosses c).After-has-displayed in
     let a = c.args in
     let l = locking_price (buying a.o) a.away in
@@ -78,7 +86,8 @@ returns-then-displayed-crosses c = let there = (goal.at.returns-then-displayed-c
 
 pub returns : goal.returns
 unfolding seeks
-returns c = let there = (goal.at.returns c).After-struct_known-2-1 in
+returns c =
+    let there = (goal.at.returns c).After-struct_known-2-1 in
     let here = (goal.at.returns c).After-has-displayed in
     let a = c.args in
     let l = locking_price (buying a.o) a.away in

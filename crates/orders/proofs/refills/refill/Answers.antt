@@ -89,8 +89,7 @@ leaves c held below =
     let settled = settle_leaves l.m l.x l.t i.0 i.1 i.2 held o c.at-o.ensures (IsSet c.refill_order.result) fate
     (stay l.m.next) priced c.settle-m.result c.settle-m.new.x c.settle-m.new.t _ c.settle-m.ensures.value c.settle-m.ensures.shows
     c.settle-m.ensures.out_after in
-    let same : c.settle-m.result.held ≡ l.m.held = ap (λ (m : Settled). m.held) c.settle-m.ensures.value in
-    (
+    let same : c.settle-m.result.held ≡ l.m.held = ap (λ (m : Settled). m.held) c.settle-m.ensures.value in (
       settled.0,
       settled.1,
       settled.2,
@@ -100,7 +99,8 @@ leaves c held below =
     )
 
 pub loop-at-init : goal.loop-at-init
-loop-at-init c = let a = c.args in
+loop-at-init c =
+    let a = c.args in
     let p = c.requires.1 in (
       c.requires.0,
       settling_start refill_fate a.number a.buying first_move (side a.n a.x.now a.t.now) a.out.now p.ranked p.older,

@@ -11,7 +11,8 @@ use Rattle.orders.specs.Refills.{Refillable}
 use Rattle.orders.proofs.refills.refill.Given as goal
 
 abbrev pub invariant-loop-at : goal.invariant-loop-at
-invariant-loop-at l = let s = side l.m.held l.x l.t in
+invariant-loop-at l =
+    let s = side l.m.held l.x l.t in
     Holds l.m.held l.x l.t × Settling refill_fate l.number l.buying first_move (side l.n l.initial.x l.initial.t) l.initial.out s l.m.next l.m.length l.out
     × Stay refill_fate (take l.at s) × Stay refill_fate (drop l.reached s) × All Refillable s × (l.m.held ≡ l.n) × (length l.out ≡ length l.initial.out)
 

@@ -15,7 +15,8 @@ gives : (c : After-smaller-gives) → c.smaller-gives.result.0 ≡ part_gives c.
 gives c = ap (λ (n : Shares). n.0) c.smaller-gives.ensures ∙ sym (rw c.requires.2 refl)
 
 pub returns-then-gives-eq0 : goal.returns-then-gives-eq0
-returns-then-gives-eq0 c = let a = c.args in
+returns-then-gives-eq0 c =
+    let a = c.args in
     let z : part_gives a.left.0 a.p ≡ 0 = sym (gives (goal.at.returns-then-gives-eq0 c).After-smaller-gives) ∙ c.if-gives-eq0.true in
     let n = taking_none a.p in
     let count : a.count + 0 ≡ a.count = omega arith in
@@ -23,12 +24,14 @@ returns-then-gives-eq0 c = let a = c.args in
     record { value = rw (z, n, count, left); took_after = rw (z, n) (sym (take-append-drop a.count a.took.now)) }
 
 pub overflow_sub-result : goal.overflow_sub-result
-overflow_sub-result c = let a = c.args in
+overflow_sub-result c =
+    let a = c.args in
     let given : part_gives a.left.0 a.p ≡ min a.left.0 a.p.shares.0 = rw c.requires.2 refl in
     omega (arith, gives (goal.at.overflow_sub-result c).After-smaller-gives, given)
 
 pub returns : goal.returns
-returns c = let here = (goal.at.returns c).After-smaller-gives in
+returns c =
+    let here = (goal.at.returns c).After-smaller-gives in
     let a = c.args in
     let f : length a.took.now ≡ most_takings = c.whole.ensures in
     let g = c.smaller-gives.result.0 in

@@ -31,7 +31,8 @@ pub next-requires : goal.next-requires
 next-requires c = (c.requires, c.loop-left.invariant.is_at)
 
 pub take_from-taken-requires : goal.take_from-taken-requires
-take_from-taken-requires c = let l = c.loop-left in
+take_from-taken-requires c =
+    let l = c.loop-left in
     let a = c.args in
     let g = gave (goal.at.take_from-taken-requires c).In-Is in
     let k = less g in
@@ -42,7 +43,8 @@ pub loop-left-smaller-then-is_passed : goal.loop-left-smaller-then-is_passed
 loop-left-smaller-then-is_passed c = less (gave (goal.at.loop-left-smaller-then-is_passed c).In-Is)
 
 pub loop-left-preserved-then-is_passed : goal.loop-left-preserved-then-is_passed
-loop-left-preserved-then-is_passed c = let l = c.loop-left in
+loop-left-preserved-then-is_passed c =
+    let l = c.loop-left in
     let a = c.args in
     let p = c.in-Is.part in
     let m : is_within a.buying a.bound p ≡ true = sym c.within.ensures ∙ c.if-not-within.false in
@@ -53,7 +55,8 @@ pub loop-left-smaller : goal.loop-left-smaller
 loop-left-smaller c = less (gave (goal.at.loop-left-smaller c).In-Is)
 
 pub loop-left-preserved : goal.loop-left-preserved
-loop-left-preserved c = let l = c.loop-left in
+loop-left-preserved c =
+    let l = c.loop-left in
     let a = c.args in
     let p = c.in-Is.part in
     let g = part_gives l.left.0 p in
@@ -68,7 +71,8 @@ loop-left-preserved c = let l = c.loop-left in
     (rw passes refl) on)
 
 pub returns-then-left-eq0 : goal.returns-then-left-eq0
-returns-then-left-eq0 c = let told = ended_none c.loop-left.invariant c.if-left-eq0.true in
+returns-then-left-eq0 c =
+    let told = ended_none c.loop-left.invariant c.if-left-eq0.true in
     record { value = told.0; took_after = told.1 }
 
 pub returns-in_default : goal.returns-in_default
@@ -80,7 +84,8 @@ returns-in_default c =
     record { value = told.0; took_after = told.1 }
 
 pub returns-then-not-within : goal.returns-then-not-within
-returns-then-not-within c = let l = c.loop-left in
+returns-then-not-within c =
+    let l = c.loop-left in
     let a = c.args in
     let m : is_within a.buying a.bound c.in-Is.part ≡ false =
     sym c.within.ensures ∙ c.if-not-within.true in

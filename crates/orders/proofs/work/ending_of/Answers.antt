@@ -31,7 +31,8 @@ returns-then-has c =
 
 pub returns-then-has-2 : goal.returns-then-has-2
 unfolding ending_by_best
-returns-then-has-2 c = let now-or-never : has c.args.o.word ioc ≡ true = sym c.has-2.ensures ∙ c.if-has-2.true in
+returns-then-has-2 c =
+    let now-or-never : has c.args.o.word ioc ≡ true = sym c.has-2.ensures ∙ c.if-has-2.true in
     rw (ne_eqb _ _ c.if-left-eq0.false, not-fok (goal.at.returns-then-has-2 c).Else-has, now-or-never)
 
 pub seek-requires : goal.seek-requires
@@ -42,19 +43,22 @@ rest_unless_meets-requires c = let p = c.requires in (p.0, p.1)
 
 pub returns-in-Filled : goal.returns-in-Filled
 unfolding ending_by_best
-returns-in-Filled c = let a = c.args in
+returns-in-Filled c =
+    let a = c.args in
     let sought : seeks a.o a.away ≡ Filled = sym c.seek.ensures ∙ c.in-Filled.is in
     rw (ne_eqb _ _ c.if-left-eq0.false, not-fok (goal.at.returns-in-Filled c).Else-has, not-ioc (goal.at.returns-in-Filled c).Else-has-2, sought)
 
 pub returns-in-Cancels : goal.returns-in-Cancels
 unfolding ending_by_best
-returns-in-Cancels c = let a = c.args in
+returns-in-Cancels c =
+    let a = c.args in
     let sought : seeks a.o a.away ≡ Cancels c.in-Cancels.reason = sym c.seek.ensures ∙ c.in-Cancels.is in
     rw (ne_eqb _ _ c.if-left-eq0.false, not-fok (goal.at.returns-in-Cancels c).Else-has, not-ioc (goal.at.returns-in-Cancels c).Else-has-2, sought)
 
 pub returns-in-Rests : goal.returns-in-Rests
 unfolding ending_by_best
-returns-in-Rests c = let a = c.args in
+returns-in-Rests c =
+    let a = c.args in
     let sought : seeks a.o a.away ≡ Rests c.in-Rests.price =
     sym c.seek.ensures ∙ c.in-Rests.is in
     rw (ne_eqb _ _ c.if-left-eq0.false, not-fok (goal.at.returns-in-Rests c).Else-has, not-ioc (goal.at.returns-in-Rests c).Else-has-2, sought) c.rest_unless_meets.ensures

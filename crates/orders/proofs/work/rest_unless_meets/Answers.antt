@@ -43,21 +43,24 @@ returns-then-n-kept c =
 
 pub returns-then-meets : goal.returns-then-meets
 unfolding rests_unless_best_meets
-returns-then-meets c = let a = c.args in
+returns-then-meets c =
+    let a = c.args in
     let post : has a.o.word post_only ≡ true = sym c.has.ensures ∙ c.if-has.true in
     let met : meets_or_passes (buying a.o) a.price c.at-best.result ≡ true = sym c.meets.ensures ∙ c.if-meets.true in
     rw (best-left (goal.at.returns-then-meets c).After-has, post, met) refl
 
 pub returns-then-has : goal.returns-then-has
 unfolding rests_unless_best_meets
-returns-then-has c = let a = c.args in
+returns-then-has c =
+    let a = c.args in
     let post : has a.o.word post_only ≡ true = sym c.has.ensures ∙ c.if-has.true in
     let met : meets_or_passes (buying a.o) a.price c.at-best.result ≡ false = sym c.meets.ensures ∙ c.if-meets.false in
     rw (best-left (goal.at.returns-then-has c).After-has, post, met) refl
 
 pub returns-then-within-price : goal.returns-then-within-price
 unfolding rests_unless_best_meets
-returns-then-within-price c = let a = c.args in
+returns-then-within-price c =
+    let a = c.args in
     let h = c.at-best.result in
     let other : has a.o.word post_only ≡ false = sym c.has.ensures ∙ c.if-has.false in
     let reached : c.within.result ≡ reaches (buying a.o) a.price h.price =
@@ -67,7 +70,8 @@ returns-then-within-price c = let a = c.args in
 
 pub returns : goal.returns
 unfolding rests_unless_best_meets
-returns c = let a = c.args in
+returns c =
+    let a = c.args in
     let h = c.at-best.result in
     let other : has a.o.word post_only ≡ false = sym c.has.ensures ∙ c.if-has.false in
     let reached : c.within.result ≡ reaches (buying a.o) a.price h.price =

@@ -31,12 +31,14 @@ pub walk-w-requires : goal.walk-w-requires
 walk-w-requires c = c.requires
 
 pub overflow_sub-shares : goal.overflow_sub-shares
-overflow_sub-shares c = let left = ap (λ (r : Walked). r.left.0) c.walk-w.ensures.value in
+overflow_sub-shares c =
+    let left = ap (λ (r : Walked). r.left.0) c.walk-w.ensures.value in
     omega (arith, left)
 
 pub returns-then-shares-w : goal.returns-then-shares-w
 unfolding walk_for takings_for
-returns-then-shares-w c = let here = (goal.at.returns-then-shares-w c).After-walk-w in
+returns-then-shares-w c =
+    let here = (goal.at.returns-then-shares-w c).After-walk-w in
     let a = c.args in
     let s = side a.n a.x.now a.t.now in
     let undone : ltb (a.o.shares.0 - (bound_walk a.o a.bound s).left.0) (least_of a.o) ≡ true =
@@ -45,7 +47,8 @@ returns-then-shares-w c = let here = (goal.at.returns-then-shares-w c).After-wal
 
 pub returns : goal.returns
 unfolding walk_for takings_for
-returns c = let here = (goal.at.returns c).After-walk-w in
+returns c =
+    let here = (goal.at.returns c).After-walk-w in
     let a = c.args in
     let s = side a.n a.x.now a.t.now in
     let ks = takings_of (is_within (buying a.o) a.bound) a.o.shares.0 (parts s) in

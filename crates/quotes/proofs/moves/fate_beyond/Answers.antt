@@ -7,5 +7,6 @@ pub returns-then-o : goal.returns-then-o
 returns-then-o c = let back : c.args.o.back ≡ true = c.if-o.true in rw back
 
 pub returns : goal.returns
-returns c = let back : c.args.o.back ≡ false = c.if-o.false in
+returns c =
+    let back : c.args.o.back ≡ false = c.if-o.false in
     rw back

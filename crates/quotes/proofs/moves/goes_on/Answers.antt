@@ -53,7 +53,8 @@ pub at-o-requires : goal.at-o-requires
 at-o-requires c = (c.requires, (goes-on-at (goal.at.at-o-requires c).Else-n-at).0)
 
 pub returns : goal.returns
-returns c = let a = c.args in
+returns c =
+    let a = c.args in
     let s = side a.n a.x.now a.t.now in
     let read : c.at-o.result ≡ get_or s a.at unused = c.at-o.ensures in
     let tested : c.within.result ≡ not (beyond a.buying a.locking (get_or s a.at unused).price) =

@@ -23,7 +23,8 @@ abbrev pub quoted : Bool → HalfCents → Resting → Fate
 quoted buy locking h = if not (not h.displayed && not (absent locking) && beyond buy locking h.price) then Stays else fate_at locking h
 
 abbrev pub invariant-loop-number : goal.invariant-loop-number
-invariant-loop-number l = let fate = quoted l.buying l.locking in
+invariant-loop-number l =
+    let fate = quoted l.buying l.locking in
     let s = side l.m.held l.x l.t in
     Holds l.m.held l.x l.t
     × Settling fate l.number l.buying l.first (side l.n l.initial.x l.initial.t) l.initial.out s l.m.next l.m.length l.out

@@ -9,12 +9,14 @@ use Rattle.side.proofs.shifts.LawsShifts.{shows_inserted}
 use Rattle.side.proofs.shifts.insert.Goals as goal
 
 pub put_row-requires : goal.put_row-requires
-put_row-requires c = let a = c.args in
+put_row-requires c =
+    let a = c.args in
     let w : c.wide.result ≡ get_or a.x.now a.n 0 = c.wide.ensures in
     omega (arith, names_below a.x.now c.requires.0.names a.n c.requires.2)
 
 pub returns : goal.returns
-returns c = let a = c.args in
+returns c =
+    let a = c.args in
     let x = a.x.now in
     let slot = get_or x a.n 0 in
     let long = c.requires.0.names.long in

@@ -11,7 +11,8 @@ use Rattle.side.proofs.rows.LawsShown.{order_at, side_put}
 use Rattle.side.proofs.shifts.reduce.Goals as goal
 
 pub returns : goal.returns
-returns c = let a = c.args in
+returns c =
+    let a = c.args in
     let x = a.x.now in
     let t = a.t.now in
     let h = c.row-o.result in
