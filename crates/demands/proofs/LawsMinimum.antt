@@ -11,7 +11,7 @@ use borrow.Author.Tests.{eqb-true, eqb-false, ltb-true, ltb-false, leb-true, not
 use Rattle.basics.specs.Lists.{total, All, none, also, OneOf, Each, empty, with}
 use Rattle.basics.proofs.LawsChoice.{holds_or_not, by_choice, lt_or_le, and_left, and_right}
 use Rattle.basics.proofs.LawsLists.{all_alike, all_always, all_both, one_of_all}
-use Rattle.kinds.specs.Kinds.{shares, shares_in_range}
+use Rattle.kinds.specs.Kinds.{shares_in_range}
 use Rattle.kinds.specs.declared.HalfCents.{HalfCents}
 use Rattle.kinds.specs.declared.Number.{Number}
 use Rattle.kinds.specs.declared.Shares.{Shares}

@@ -1,7 +1,7 @@
 -- What an accepted quote does to the resting orders, in 02's words (W2), side by side: who crosses the away quote is set at the Locking
 -- Price behind all who stand there, or is cancelled, and is told; who does not cross stands as before. Assumes nothing.
 use Prim.Native.Nat.{ℕ, ◌+◌, ◌<◌}
-use mathlib.Core.Bool.{Bool, true, false, not, true≢false}
+use mathlib.Core.Bool.{Bool, true, false, true≢false}
 use mathlib.Core.List.{List, [], ◌∷◌, ◌++◌}
 use mathlib.Core.Logic.{⊎_elim}
 use mathlib.Core.Path.{◌≡◌, refl, sym, ap, subst, ◌∙◌}

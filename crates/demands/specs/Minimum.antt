@@ -2,7 +2,7 @@
 -- the walk in rank order falls short, and then executes nothing, nor does an incoming order whose walk gives less than its minimum. In every
 -- other walk an order reached is skipped exactly in the case above, and any other gives the smaller of its holding and what is left." Where
 -- there is no minimum, demand 3 stands as it was (`Executes`). `LawsMinimum` has the proofs.
-use Rattle.std.specs.Prelude.{ℕ, ◌-◌, ◌≤◌, ◌<◌, min, Bool, true, false, List, [], ◌∷◌, ◌⊎◌, ◌≡◌}
+use Rattle.std.specs.Prelude.{ℕ, ◌-◌, ◌≤◌, ◌<◌, min, true, false, List, [], ◌∷◌, ◌⊎◌, ◌≡◌}
 use Rattle.basics.specs.Lists.{All, OneOf}
 use Rattle.kinds.specs.declared.HalfCents.{HalfCents}
 use Rattle.rules.specs.declared.Away.{Away}

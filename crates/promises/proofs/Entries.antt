@@ -20,7 +20,6 @@ use Rattle.command_lines.specs.Pieces.{read_behind}
 use Rattle.rules.specs.declared.Body.{Body}
 use Rattle.rules.specs.declared.Body.TheVariants as body
 use Rattle.rules.specs.declared.EventReading.{EventReading}
-use Rattle.rules.specs.declared.Order.{Order}
 use Rattle.rules.specs.declared.Reading.{Reading}
 use Rattle.rules.specs.declared.Reading.TheVariants as reading
 use Rattle.rules.specs.Book as book

@@ -26,7 +26,7 @@ use Rattle.rules.specs.declared.Resting.{Resting}
 use Rattle.rules.specs.Book.{Book, BookRecord, places_a_side, fresh, in_rank_order, apart, sound, book_in, record_of, record_sound}
 use Rattle.rules.specs.CommandLines.{command_in, line_of, Fits}
 use Rattle.rules.specs.Commands.{does}
-use Rattle.rules.specs.Day.{printed, book_after, printed_of, output}
+use Rattle.rules.specs.Day.{printed, book_after, printed_of}
 use Rattle.rules.specs.EventLines.{FitsEvent, event_line, event_lines, refusal_line}
 use Rattle.rules.specs.EventReading.{event_in}
 use Rattle.rules.specs.Examples.{DeskExamples, QuoteExamples, ReserveExamples, LockExamples, MinimumExamples}
@@ -69,7 +69,6 @@ use Rattle.demands.proofs.LawsStillMeets as still
 use Rattle.demands.proofs.LawsWorst as worst
 use Rattle.demands.proofs.LawsWritten as written
 use Rattle.command_lines.specs.Pieces.{all_of}
-use Rattle.day.proofs.night.LawsTurns as turns
 use Rattle.tally.specs.declared.Stop.TheVariants.{Going}
 use Rattle.tally.specs.Tally.{tally_of, tally_of_pieces}
 use Rattle.tally.proofs.LawsAgree.{tally_agrees}

@@ -12,7 +12,7 @@ use native.Mathlib.Omega.{arith}
 use borrow.Author.Tests.{eqb-true, eqb-false}
 use Rattle.basics.specs.Choice.{if◌then◌else◌}
 use Rattle.basics.specs.Lists.{total, sum_of, All, Each, empty, with}
-use Rattle.basics.proofs.LawsChoice.{holds_or_not, by_choice, and_none}
+use Rattle.basics.proofs.LawsChoice.{holds_or_not, and_none}
 use Rattle.rules.specs.declared.Resting.{Resting}
 use Rattle.rules.specs.Book.{shares_left}
 use Rattle.rules.specs.Holdings.{Holding, shown_part, reserve_part, behind_its_price, holdings, orders_of, taken_of, reduced_by, keeping, after}

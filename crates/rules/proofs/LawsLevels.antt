@@ -1,12 +1,12 @@
 -- Laws of price levels: the holdings of a side are, price by price, the shown parts and then the reserves. This is the order in
 -- which a loop over the places of a side goes, twice over each price; so a loop is held to it. Assumes nothing.
 use Prim.Native.Nat.{ℕ}
-use mathlib.Core.Bool.{Bool, true, false, not, ◌&&◌}
+use mathlib.Core.Bool.{true, false}
 use mathlib.Core.List.{List, [], ◌∷◌, ◌++◌, map}
 use mathlib.Core.Path.{◌≡◌, refl, ap, ◌∙◌, subst⁻¹}
 use borrow.Author.Tests.{eqb-true}
 use lib.Dec.{eqb}
-use Rattle.basics.specs.Lists.{All, none, also}
+use Rattle.basics.specs.Lists.{All, also}
 use Rattle.basics.proofs.LawsChoice.{and_none}
 use Rattle.rules.specs.declared.Resting.{Resting}
 use Rattle.rules.specs.Holdings.{Holding, shown_part, reserve_part, behind_its_price, holdings}

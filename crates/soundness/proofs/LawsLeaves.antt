@@ -1,20 +1,17 @@
 -- A side of which nothing is taken stays as it is. Assumes nothing.
-use Prim.Native.Nat.{ℕ, ◌+◌, ◌-◌, ◌<◌, min}
-use mathlib.Core.Bool.{Bool, true, false}
+use Prim.Native.Nat.{ℕ, ◌-◌, min}
+use mathlib.Core.Bool.{false}
 use mathlib.Core.List.{List, ◌∷◌}
-use mathlib.Core.Logic.{◌≢◌, ◌⊎◌, inl, inr, ⊎_elim}
 use mathlib.Core.Path.{◌≡◌, refl, ap}
 use lib.Dec.{eqb}
 use native.Mathlib.Omega.{arith}
 use borrow.Author.Tests.{ne_eqb}
-use Rattle.basics.specs.Lists.{total, All, none, also, Each, empty, with}
-use Rattle.basics.proofs.LawsChoice.{holds_or_not}
-use Rattle.basics.proofs.LawsLists.{all_alike, all_always}
+use Rattle.basics.specs.Lists.{none, also, Each}
+use Rattle.basics.proofs.LawsLists.{all_always}
 use Rattle.rules.specs.declared.Resting.{Resting}
 use Rattle.rules.specs.Book.{shares_left}
-use Rattle.rules.specs.Holdings.{Holding, shown_part, reserve_part, size, holdings, nothing, walk, smaller, reduced_by, keeping, after}
-use Rattle.rules.proofs.LawsBest.{NoBetter, HoldingsBest, end, first}
-use Rattle.rules.proofs.LawsHoldings.{Parts, parts_alike, each_parts, keeping_all}
+use Rattle.rules.specs.Holdings.{Holding, holdings, nothing, keeping, after}
+use Rattle.rules.proofs.LawsHoldings.{Parts, each_parts}
 use Rattle.rules.proofs.LawsTakings.{nothing_each}
 use Rattle.soundness.proofs.LawsThinned.{Standing}
 

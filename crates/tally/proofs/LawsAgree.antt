@@ -11,7 +11,7 @@ use Rattle.basics.specs.Lists.{sum_of, All, none, also}
 use Rattle.basics.proofs.LawsChoice.{holds_or_not}
 use Rattle.basics.proofs.LawsLists.{sum_of_append}
 use Rattle.kinds.specs.declared.Number.{Number}
-use Rattle.kinds.specs.Kinds.{shares, largest}
+use Rattle.kinds.specs.Kinds.{largest}
 use Rattle.command_lines.specs.Pieces.{after_lines}
 use Rattle.rules.specs.declared.Body.{Body}
 use Rattle.rules.specs.declared.Body.TheVariants as body

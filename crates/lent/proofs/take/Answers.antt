@@ -1,5 +1,5 @@
 -- `lent::take` meets its contract: at the end of the loop all records of the array are those of the slice. Assumes nothing.
-use Rattle.std.proofs.Common.{◌≡◌, ◌≤◌, length, sym, ◌∙◌, arith}
+use Rattle.std.proofs.Common.{◌≤◌, length, sym, ◌∙◌, arith}
 use lib.Seq.{take_all}
 use Rattle.lent.proofs.take.Goals as goal
 

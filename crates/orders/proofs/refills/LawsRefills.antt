@@ -1,28 +1,22 @@
 -- Laws of the fates of a refill (02, W4), and of the orders behind those that a walk reached while refilled ones take their places. Assumes
 -- nothing.
-use Prim.Native.Nat.{ℕ, zero, suc, ◌+◌, ◌-◌, ◌≤◌, ◌<◌}
-use mathlib.Core.Bool.{Bool, true, false}
+use Prim.Native.Nat.{ℕ, zero, suc, ◌+◌, ◌≤◌, ◌<◌}
+use mathlib.Core.Bool.{Bool}
 use mathlib.Core.List.{List, [], ◌∷◌, ◌++◌}
-use mathlib.Core.Path.{◌≡◌, refl, sym, ap, subst, ◌∙◌}
-use lib.ListN.{length, get_or, take, drop}
+use mathlib.Core.Path.{◌≡◌, refl, ap, subst}
+use lib.ListN.{length, take, drop}
 use native.Mathlib.Omega.{arith}
 use borrow.Author.Tests.{eq-eqb, ne_eqb}
 use Rattle.basics.specs.Lists.{All, none, also, remove_at}
 use Rattle.basics.proofs.LawsLists.{all_both}
-use Rattle.kinds.specs.declared.Number.{Number}
-use Rattle.rules.specs.declared.Fate.{Fate}
-use Rattle.rules.specs.declared.Fate.TheVariants.{Stays, IsCancelled, IsSet}
+use Rattle.rules.specs.declared.Fate.TheVariants.{Stays, IsSet}
 use Rattle.rules.specs.declared.Resting.{Resting}
 use Rattle.rules.specs.declared.Stamp.{Stamp}
-use Rattle.rules.specs.Book.{shares_left, stamp}
-use Rattle.rules.specs.Settling.{refilled, shown_of, stamped_as, told_by, insert}
+use Rattle.rules.specs.Book.{shares_left}
+use Rattle.rules.specs.Settling.{refilled, stamped_as, insert}
 use Rattle.rules.specs.Working.{refill_fate}
 use Rattle.rules.proofs.LawsFloors.{shown_at_most, shown_some}
 use Rattle.soundness.proofs.LawsInsert.{Added, here, later, added_insert, added_all}
-use Rattle.side.specs.Looking.{price_bound}
-use Rattle.side.specs.Shifts.{Countable}
-use Rattle.settling.specs.OneByOne.{set_below, settled_at}
-use Rattle.settling.proofs.LawsOneByOne.{Stay, SetStays}
 use Rattle.orders.specs.Refills.{Refillable}
 
 -- ── The fate of one order ──

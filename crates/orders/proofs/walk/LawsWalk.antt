@@ -10,7 +10,7 @@ use native.Mathlib.Numerals.{add-one}
 use native.Mathlib.Omega.{arith}
 use borrow.Author.Tests.{ne_eqb}
 use Rattle.basics.specs.Choice.{if◌then◌else◌}
-use Rattle.basics.specs.Lists.{total, All, none, also}
+use Rattle.basics.specs.Lists.{total}
 use Rattle.basics.proofs.LawsLists.{map-append}
 use Rattle.kinds.specs.Kinds.{shares}
 use Rattle.rules.specs.declared.Resting.{Resting}

@@ -1,16 +1,16 @@
 -- The best of those that are left of the opposite side, and the locked price, tell what becomes of an order. Assumes nothing.
-use Prim.Native.Nat.{ℕ, zero, suc, ◌-◌, ◌≤◌, ◌<◌}
-use mathlib.Core.Bool.{Bool, true, false, not, ◌&&◌, ◌||◌}
+use Prim.Native.Nat.{ℕ, zero, suc, ◌≤◌, ◌<◌}
+use mathlib.Core.Bool.{true, false, not, ◌&&◌, ◌||◌}
 use mathlib.Core.List.{List, [], ◌∷◌}
 use mathlib.Core.Logic.{⊎_elim}
-use mathlib.Core.Path.{◌≡◌, refl, sym, ap, ◌∙◌}
+use mathlib.Core.Path.{◌≡◌, refl, ap, ◌∙◌}
 use lib.Dec.{eqb, ltb}
 use lib.ListN.{length, get_or, drop, drop_of_length-le}
 use native.Mathlib.Omega.{arith}
 use borrow.Author.Tests.{eqb-false, lt-ltb, le-ltb}
 use Rattle.basics.specs.Choice.{if◌then◌else◌}
-use Rattle.basics.specs.Lists.{All, any, total}
-use Rattle.basics.proofs.LawsChoice.{holds_or_not, lt_or_le, and_none}
+use Rattle.basics.specs.Lists.{any}
+use Rattle.basics.proofs.LawsChoice.{holds_or_not, lt_or_le}
 use Rattle.basics.proofs.LawsLists.{all_alike, all_at}
 use Rattle.kinds.specs.declared.HalfCents.{HalfCents}
 use Rattle.kinds.specs.Kinds.{resting_price_in_range}
@@ -21,11 +21,11 @@ use Rattle.rules.specs.declared.Ending.TheVariants.{Filled, Rests, Cancels}
 use Rattle.rules.specs.declared.Order.{Order}
 use Rattle.rules.specs.declared.Resting.{Resting}
 use Rattle.rules.specs.Book.{unused, in_rank_order}
-use Rattle.rules.specs.EventLines.{cancelled_back, no_price_in_range, post_only_meets, would_still_meet}
-use Rattle.rules.specs.Holdings.{holdings, nothing, after}
+use Rattle.rules.specs.EventLines.{post_only_meets}
+use Rattle.rules.specs.Holdings.{after}
 use Rattle.rules.specs.Instructions.{ioc, fok, post_only, displayed, cancel_back, iso, has}
-use Rattle.rules.specs.Working.{buying, beyond, reaches, is_displayed_at, meets_or_passes, limit_of, locking_price, absent, one_cent_less_aggressive, adjusted, seeks}
-use Rattle.rules.specs.Working.{Met, takings, remainder, still_meets, rests_unless_it_meets, unless_it_meets, ending_with, ending}
+use Rattle.rules.specs.Working.{buying, beyond, reaches, meets_or_passes, limit_of, locking_price, absent, one_cent_less_aggressive, adjusted, seeks}
+use Rattle.rules.specs.Working.{Met, takings, remainder, rests_unless_it_meets, unless_it_meets, ending_with, ending}
 use Rattle.soundness.proofs.LawsEndings.{chosen}
 use Rattle.soundness.proofs.LawsLeaves.{after_nothing}
 use Rattle.orders.specs.Locks.{locked_price}

@@ -10,17 +10,16 @@ use lib.ListN.{length, get_or}
 use native.Mathlib.Omega.{arith}
 use borrow.Author.Tests.{eq-eqb, ne_eqb, eqb-true, ltb-true, not-false}
 use Rattle.basics.specs.Choice.{if◌then◌else◌}
-use Rattle.basics.specs.Lists.{total, sum_of, any, All, none, also}
+use Rattle.basics.specs.Lists.{total, sum_of, All, none, also}
 use Rattle.basics.proofs.LawsChoice.{holds_or_not, by_choice, lt_or_le, or_neither}
 use Rattle.basics.proofs.LawsLists.{sum_of_append}
 use Rattle.kinds.specs.declared.HalfCents.{HalfCents}
 use Rattle.rules.specs.declared.Resting.{Resting}
 use Rattle.rules.specs.Book.{unused, shares_left}
 use Rattle.rules.specs.Holdings.{walk}
-use Rattle.rules.specs.Working.{reaches}
 use Rattle.orders.specs.declared.cursor.Part.{Part}
 use Rattle.orders.specs.Cursor.{shown_at, reserves, parts_from, parts, Placed, placed_at, part_of, placed_from}
-use Rattle.orders.specs.Fills.{taken_at, keeps}
+use Rattle.orders.specs.Fills.{taken_at}
 use Rattle.orders.specs.Walk.{is_passed, part_gives, taking, takings_from}
 use Rattle.orders.specs.Walk.{reached, first_skipped, takings_of}
 use Rattle.orders.proofs.cursor.LawsParts.{all_placed, present, parts_present}

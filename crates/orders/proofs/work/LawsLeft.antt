@@ -9,14 +9,13 @@ use lib.Dec.{ltb}
 use lib.ListN.{length, get_or}
 use native.Mathlib.Omega.{arith}
 use borrow.Author.Tests.{eq-eqb, ne_eqb, lt-ltb, le-ltb, ltb-false, le-leb, leb-true}
-use Rattle.basics.specs.Choice.{if◌then◌else◌}
 use Rattle.basics.specs.Lists.{any, All, none, also}
 use Rattle.basics.proofs.LawsChoice.{holds_or_not, by_choice, lt_or_le}
 use Rattle.basics.proofs.LawsLists.{all_alike, all_at, all_second}
 use Rattle.kinds.specs.declared.HalfCents.{HalfCents}
 use Rattle.rules.specs.declared.Resting.{Resting}
 use Rattle.rules.specs.Book.{places_a_side, unused, shares_left, better, in_rank_order}
-use Rattle.rules.specs.Holdings.{holdings, taken_of, after}
+use Rattle.rules.specs.Holdings.{after}
 use Rattle.rules.specs.Working.{reaches}
 use Rattle.rules.proofs.LawsBest.{HoldingsBest, ranked_best, holdings_best}
 use Rattle.rules.proofs.LawsRank.{ranked_rest, reaches_is}

@@ -1,7 +1,7 @@
 -- The walk of an order as it is made, over the parts that a cursor gives, with one bound for limit and away price and with Post Only and
 -- Fill-or-Kill told by what is left, takes what 01 takes. Assumes nothing.
 use Prim.Native.Nat.{ℕ, ◌*◌, ◌-◌, ◌≤◌, ◌<◌}
-use mathlib.Core.Bool.{Bool, true, false, not, ◌&&◌}
+use mathlib.Core.Bool.{Bool, true, false, not}
 use mathlib.Core.List.{List, [], ◌∷◌, map}
 use mathlib.Core.Logic.{⊎_elim}
 use mathlib.Core.Path.{◌≡◌, refl, sym, ap, subst, ◌∙◌}
@@ -17,7 +17,7 @@ use Rattle.rules.specs.declared.Order.{Order}
 use Rattle.rules.specs.declared.Resting.{Resting}
 use Rattle.rules.specs.Book.{unused}
 use Rattle.rules.specs.Holdings.{Holding, holdings, nothing, walk, smaller}
-use Rattle.rules.specs.Instructions.{fok, post_only, has}
+use Rattle.rules.specs.Instructions.{post_only, has}
 use Rattle.rules.specs.Working.{buying, least_of, Met, half_a_cent_the_incoming_way, execution_price, may_touch, walked, takings, remainder}
 use Rattle.rules.proofs.LawsBest.{HoldingsBest, ranked_best, holdings_best}
 use Rattle.rules.proofs.LawsTakings.{nothing_total, walk_at_most}

@@ -1,5 +1,4 @@
 -- `side::find` meets its contract. The loop's invariant: what is left gives the same rank. Assumes nothing.
-use Prim.Native.Nat.{◌-◌}
 use mathlib.Core.Path.{sym, ◌∙◌}
 use native.Mathlib.Omega.{arith}
 use borrow.Author.Rules.{rules}

@@ -1,4 +1,3 @@
-use Prim.Native.Nat.{◌-◌}
 use Rattle.side.proofs.LawsHalves.{passed, Within}
 use Rattle.side.proofs.place.Given as goal
 

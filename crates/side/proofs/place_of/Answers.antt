@@ -1,5 +1,5 @@
 -- `side::place_of` meets its contract: it looks at a place before it hands it on. Assumes nothing.
-use Prim.Native.Nat.{◌+◌, ◌-◌, ◌<◌, max}
+use Prim.Native.Nat.{◌+◌, ◌<◌, max}
 use mathlib.Core.Bool.{true, false}
 use mathlib.Core.Logic.{⊎_elim}
 use mathlib.Core.Path.{◌≡◌}

@@ -1,6 +1,5 @@
 -- `tally::feed` meets its contract. The loop's invariant (`Feeding`): the lines ahead lead the tally on to what all lines of the piece
 -- do. Assumes nothing.
-use Prim.Native.Nat.{◌-◌}
 use native.Mathlib.Omega.{arith}
 use Rattle.tally.proofs.LawsFed.{feeding_start, feeding_line, feeding_end}
 use Rattle.tally.proofs.feed.Goals as goal

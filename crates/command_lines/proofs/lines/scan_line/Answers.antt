@@ -1,5 +1,4 @@
 -- `command_lines::lines::scan_line` meets its contract. The loop passes bytes that are no line feed. Assumes nothing.
-use Prim.Native.Nat.{◌-◌}
 use mathlib.Core.Path.{sym, ◌∙◌}
 use native.Mathlib.Omega.{arith}
 use borrow.Author.Rules.{rules}

@@ -2,7 +2,7 @@
 -- body's. Assumes nothing.
 use Prim.Native.Nat.{ℕ, ◌-◌, ◌≤◌}
 use mathlib.Core.List.{List, [], ◌∷◌}
-use mathlib.Core.Path.{◌≡◌, refl, sym, ap, ◌∙◌}
+use mathlib.Core.Path.{◌≡◌, sym, ap, ◌∙◌}
 use lib.ListN.{length, take, drop, length-drop}
 use lib.Seq.{take_all}
 use native.Mathlib.Omega.{arith}
@@ -11,8 +11,8 @@ use Rattle.digits.specs.Digits.{number_at}
 use Rattle.digits.proofs.LawsDigits.{number_at_short}
 use Rattle.rules.specs.declared.BodyReading.{BodyReading}
 use Rattle.rules.specs.declared.BodyReading.TheVariants as body
-use Rattle.rules.specs.CommandLines.{are, numbers_from, header_form, body_in, command_in}
-use Rattle.rules.proofs.LawsFields.{fields_from, numbers_in, numbers_good, numbers_bad, also_none}
+use Rattle.rules.specs.CommandLines.{numbers_from, header_form, body_in, command_in}
+use Rattle.rules.proofs.LawsFields.{fields_from, numbers_good, numbers_bad, also_none}
 use Rattle.command_lines.proofs.reader.read_command.Goals as goal
 use Rattle.command_lines.proofs.reader.read_command.Goals.{After-field_at-time, After-read_body}
 

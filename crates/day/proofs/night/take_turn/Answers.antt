@@ -1,7 +1,6 @@
 -- `day::night::take_turn` meets its contract. Assumes nothing.
 use Prim.Native.Nat.{◌-◌}
 use mathlib.Core.Bool.{Bool, true, false}
-use mathlib.Core.Logic.{⊎_elim}
 use mathlib.Core.Path.{◌≡◌, sym}
 use lib.Dec.{ltb}
 use lib.ListN.{length}

@@ -1,7 +1,7 @@
 -- `event_lines::reader::read_at_price` meets its contract: the fields are read and tested at once. Assumes nothing.
 use Prim.Native.Nat.{ℕ}
 use mathlib.Core.List.{List, [], ◌∷◌}
-use mathlib.Core.Path.{◌≡◌, refl, sym}
+use mathlib.Core.Path.{◌≡◌, sym}
 use Rattle.digits.specs.declared.Field.{Field}
 use Rattle.rules.specs.EventLines.{rested_fields}
 use Rattle.rules.proofs.LawsFields.{fields_from, numbers_good, numbers_bad}

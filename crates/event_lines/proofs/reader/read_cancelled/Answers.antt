@@ -1,7 +1,7 @@
 -- `event_lines::reader::read_cancelled` meets its contract: the fields are read and tested at once. Assumes nothing.
 use Prim.Native.Nat.{ℕ}
 use mathlib.Core.List.{List, [], ◌∷◌}
-use mathlib.Core.Path.{◌≡◌, refl, sym}
+use mathlib.Core.Path.{◌≡◌, sym}
 use native.Mathlib.Omega.{arith}
 use Rattle.digits.specs.declared.Field.{Field}
 use Rattle.digits.proofs.LawsDigits.{field_fits}

@@ -1,6 +1,6 @@
 -- `orders::cursor::skip` meets its contract. The loop's invariant: from the place reached, the same reserves wait as from the start. Assumes
 -- nothing.
-use Prim.Native.Nat.{◌-◌, ◌<◌}
+use Prim.Native.Nat.{◌<◌}
 use mathlib.Core.Path.{◌≡◌, refl, sym, ap, ◌∙◌}
 use lib.ListN.{length, get_or}
 use native.Mathlib.Omega.{arith}

@@ -1,5 +1,5 @@
 -- `orders::fills::close_up` meets its contract. The loop's invariant is `Closing` of LawsClosing. Assumes nothing.
-use Prim.Native.Nat.{◌+◌, ◌-◌}
+use Prim.Native.Nat.{◌+◌}
 use mathlib.Core.Bool.{Bool}
 use mathlib.Core.List.{[]}
 use mathlib.Core.Path.{◌≡◌, ap, ◌∙◌}

@@ -1,5 +1,5 @@
 -- `orders::fills::subtract` meets its contract. The loop's invariant: the takings passed are off the orders. Assumes nothing.
-use Prim.Native.Nat.{◌-◌, ◌≤◌, ◌<◌}
+use Prim.Native.Nat.{◌≤◌, ◌<◌}
 use mathlib.Core.Path.{◌≡◌, ◌∙◌}
 use lib.ListN.{length, get_or, set, take}
 use lib.Seq.{take_all}

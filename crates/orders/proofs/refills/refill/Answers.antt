@@ -1,6 +1,6 @@
 -- `orders::refills::refill` meets its contract. The loop's invariant: what is still to be done to the side, with what was done, is what the
 -- refills do to it (`Settling` of `LawsSettling`), and behind the orders that the walk reached nothing is due. Assumes nothing.
-use Prim.Native.Nat.{ℕ, ◌+◌, ◌-◌, ◌≤◌, ◌<◌}
+use Prim.Native.Nat.{ℕ, ◌+◌, ◌≤◌, ◌<◌}
 use mathlib.Core.List.{List}
 use mathlib.Core.Path.{◌≡◌, refl, sym, ap, subst, ◌∙◌}
 use lib.ListN.{length, get_or, take}

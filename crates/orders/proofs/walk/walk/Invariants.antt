@@ -1,4 +1,3 @@
-use Prim.Native.Nat.{◌-◌}
 use lib.ListN.{length}
 use Rattle.side.specs.Table.{side}
 use Rattle.orders.specs.Cursor.{ahead}

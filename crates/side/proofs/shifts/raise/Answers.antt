@@ -1,6 +1,6 @@
 -- `side::shifts::raise` meets its contract. Invariant of both loops: the places passed are filled in, all but the one that is written last.
 -- Assumes nothing.
-use Prim.Native.Nat.{◌+◌, ◌-◌}
+use Prim.Native.Nat.{◌+◌}
 use mathlib.Core.Bool.{◌&&◌}
 use mathlib.Core.Path.{◌≡◌, refl, ◌∙◌}
 use lib.Dec.{ltb, leb}

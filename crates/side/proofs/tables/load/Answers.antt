@@ -1,5 +1,4 @@
 -- `side::tables::load` meets its contract. After each turn the first `i` places are copied. Assumes nothing.
-use Prim.Native.Nat.{◌-◌}
 use mathlib.Core.Path.{◌≡◌, refl, ap, ◌∙◌}
 use lib.ListN.{length, set, get_or}
 use mathlib.Core.List.{[]}
