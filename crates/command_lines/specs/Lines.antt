@@ -1,6 +1,5 @@
 -- The first line of some bytes, by the place of its line feed.
-use Rattle.std.specs.Prelude.{ℕ, suc, Bool, List, [], ◌∷◌, eqb, take}
-use Rattle.basics.specs.Choice.{if◌then◌else◌}
+use Rattle.std.specs.Prelude.{ℕ, suc, Bool, List, [], ◌∷◌, eqb, take, if◌then◌else◌}
 use Rattle.basics.specs.Lists.{first_where}
 use Rattle.digits.specs.Digits.{digit_of}
 use Rattle.rules.specs.declared.Reading.TheVariants as reading

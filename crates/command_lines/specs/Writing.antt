@@ -1,8 +1,7 @@
 -- What the command writer answers and leaves (01, What the machine says back): refusal 1, "for the command writer, room
 -- below the line's length"; else "0 and its line's length, and bytes past the line stay".
-use Rattle.std.specs.Prelude.{ℕ, Bool, List, ltb, length}
+use Rattle.std.specs.Prelude.{ℕ, Bool, List, ltb, length, if◌then◌else◌}
 use Rattle.basics.specs.Bytes.{onto}
-use Rattle.basics.specs.Choice.{if◌then◌else◌}
 use Rattle.rules.specs.CommandLines.{line_of}
 use Rattle.rules.specs.declared.Command.{Command}
 use Rattle.command_lines.specs.declared.writer.Written.{Written}

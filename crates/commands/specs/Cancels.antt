@@ -1,6 +1,5 @@
 -- Where the order of a number rests, and the line of one that a command cancels.
-use Rattle.std.specs.Prelude.{ℕ, List, ltb, length, get_or}
-use Rattle.basics.specs.Choice.{if◌then◌else◌}
+use Rattle.std.specs.Prelude.{ℕ, List, ltb, length, get_or, if◌then◌else◌}
 use Rattle.basics.specs.Lists.{first_where}
 use Rattle.kinds.specs.declared.Number.{Number}
 use Rattle.rules.specs.declared.Event.{Event}

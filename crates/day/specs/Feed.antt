@@ -1,7 +1,6 @@
 -- The whole lines of an input worked one after the other, as long as the output has room for the lines of a command.
-use Rattle.std.specs.Prelude.{ℕ, ◌+◌, ◌-◌, ◌≤◌, true, List, [], ◌∷◌, ◌++◌, ◌≡◌, ltb, length}
+use Rattle.std.specs.Prelude.{ℕ, ◌+◌, ◌-◌, ◌≤◌, true, List, [], ◌∷◌, ◌++◌, ◌≡◌, ltb, length, if◌then◌else◌}
 use Rattle.basics.specs.Bytes.{onto}
-use Rattle.basics.specs.Choice.{if◌then◌else◌}
 use Rattle.side.specs.Table.{Shows}
 use Rattle.rules.specs.declared.Reading.{Reading}
 use Rattle.rules.specs.Book.{Book}

@@ -2,9 +2,8 @@
 -- a read and a write stands one turn: the whole lines that were read are worked as far as the output has room, what they print
 -- is handed to `write`, and what is left of the bytes waits at the front. `LawsTurns` shows that whatever the reads give, all
 -- that is handed over is `Day.output` of the whole input.
-use Rattle.std.specs.Prelude.{ℕ, ◌-◌, ◌≤◌, Bool, true, false, not, List, [], ◌∷◌, ◌++◌, ◌≡◌, ltb, length, take, drop}
+use Rattle.std.specs.Prelude.{ℕ, ◌-◌, ◌≤◌, Bool, true, false, not, List, [], ◌∷◌, ◌++◌, ◌≡◌, ltb, length, take, drop, if◌then◌else◌}
 use Rattle.basics.specs.Bytes.{onto}
-use Rattle.basics.specs.Choice.{if◌then◌else◌}
 use Rattle.command_lines.specs.Pieces.{part_kept}
 use Rattle.rules.specs.Day.{cut}
 use Rattle.day.specs.Feed.{worked}

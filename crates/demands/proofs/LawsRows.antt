@@ -9,7 +9,7 @@ use lib.Dec.{eqb, leb, ltb}
 use lib.ListN.{length}
 use native.Mathlib.Omega.{arith}
 use borrow.Author.Tests.{ltb-true, leb-true, leb-false, eqb-false, not-true, not-false, lt-ltb, le-leb, lt-leb, ne_eqb}
-use Rattle.basics.specs.Choice.{if◌then◌else◌}
+use Rattle.std.specs.Prelude.{if◌then◌else◌}
 use Rattle.basics.specs.Lists.{any, All, none, also}
 use Rattle.basics.proofs.LawsChoice.{holds_or_not, and_left, and_right, and_none, or_neither}
 use Rattle.basics.proofs.LawsLists.{all_both}

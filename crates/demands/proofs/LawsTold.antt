@@ -8,7 +8,7 @@ use mathlib.Core.Path.{◌≡◌, refl, sym, ap, ◌∙◌}
 use lib.Dec.{eqb, leb}
 use native.Mathlib.Omega.{arith}
 use borrow.Author.Tests.{eqb-true}
-use Rattle.basics.specs.Choice.{if◌then◌else◌}
+use Rattle.std.specs.Prelude.{if◌then◌else◌}
 use Rattle.basics.specs.Lists.{All, none, also, Each, empty, with}
 use Rattle.basics.proofs.LawsChoice.{holds_or_not, by_choice, and_left, and_right}
 use Rattle.basics.proofs.LawsLists.{all_alike, all_both, one_of_all, gathered_all}

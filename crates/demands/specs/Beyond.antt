@@ -1,7 +1,6 @@
 -- Beyond the three demands: words for what else a broker may want to know of a day. `LawsBeyond`, `LawsStanding` and `LawsTraded` have the
 -- proofs.
-use Rattle.std.specs.Prelude.{ℕ, zero, suc, List, [], ◌∷◌, ◌++◌, ◌⊎◌, ◌≡◌, eqb}
-use Rattle.basics.specs.Choice.{if◌then◌else◌}
+use Rattle.std.specs.Prelude.{ℕ, zero, suc, List, [], ◌∷◌, ◌++◌, ◌⊎◌, ◌≡◌, eqb, if◌then◌else◌}
 use Rattle.basics.specs.Lists.{sum_of, OneOf}
 use Rattle.kinds.specs.Kinds.{half_cents}
 use Rattle.kinds.specs.declared.HalfCents.{HalfCents}

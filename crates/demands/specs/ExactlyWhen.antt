@@ -1,8 +1,7 @@
 -- When each refusal is given (01, What the machine says back): the table row by row, each in its own words, with 01's own definitions of
 -- sound, lawful and resting. "The lowest number that applies is given." (The command writer's half of row 1 is `written_for` of
 -- `command_lines/specs/Writing`.)
-use Rattle.std.specs.Prelude.{ℕ, ◌+◌, ◌≤◌, ◌<◌, true, false, List, ◌++◌, ◌≢◌, ◌⊎◌, ◌≡◌, eqb, length}
-use Rattle.basics.specs.Choice.{if◌then◌else◌}
+use Rattle.std.specs.Prelude.{ℕ, ◌+◌, ◌≤◌, ◌<◌, true, false, List, ◌++◌, ◌≢◌, ◌⊎◌, ◌≡◌, eqb, length, if◌then◌else◌}
 use Rattle.basics.specs.Lists.{All}
 use Rattle.kinds.specs.declared.Cents.{Cents}
 use Rattle.kinds.specs.declared.HalfCents.{HalfCents}

@@ -1,7 +1,6 @@
 -- Demand 3 of one accepted order, said of what its own lines tell: the customer's sentences one by one, each by the fields below it. With
 -- W4 the holdings of the opposite orders, shown parts and reserves, are "each as an order of its own at its rank in the walk".
-use Rattle.std.specs.Prelude.{◌≤◌, ◌<◌, true, false, not, List, [], ◌∷◌, ◌≡◌, eqb}
-use Rattle.basics.specs.Choice.{if◌then◌else◌}
+use Rattle.std.specs.Prelude.{◌≤◌, ◌<◌, true, false, not, List, [], ◌∷◌, ◌≡◌, eqb, if◌then◌else◌}
 use Rattle.basics.specs.Lists.{any, gathered, All}
 use Rattle.kinds.specs.Kinds.{shares}
 use Rattle.kinds.specs.declared.HalfCents.{HalfCents}

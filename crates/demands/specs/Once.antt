@@ -1,9 +1,8 @@
 -- Demand 1, in the customer's words: any bytes, with any book record lent, give event lines or one numbered refusal that hands back
 -- the same book and writes no byte; each command number acts at most once in a day; and the day with its refused commands struck
 -- out ends with the same book and the same event lines. These are the words of that statement; `LawsOnce` has its proofs.
-use Rattle.std.specs.Prelude.{ℕ, ◌≤◌, Bool, true, ◌&&◌, List, [], ◌∷◌, ◌++◌, ◌≡◌, eqb, leb, length, take}
+use Rattle.std.specs.Prelude.{ℕ, ◌≤◌, Bool, true, ◌&&◌, List, [], ◌∷◌, ◌++◌, ◌≡◌, eqb, leb, length, take, if◌then◌else◌}
 use Rattle.basics.specs.Bytes.{onto}
-use Rattle.basics.specs.Choice.{if◌then◌else◌}
 use Rattle.rules.specs.declared.Command.{Command}
 use Rattle.rules.specs.declared.Event.{Event}
 use Rattle.rules.specs.declared.Reading.{Reading}

@@ -2,8 +2,7 @@
 -- order's price, within the incoming limit if there is one, and, unless the order is an ISO, neither buys above the best away offer
 -- nor sells below the best away bid then held, and totals no more than the order." With W4 "lawful share-outs .. count both holdings, each
 -- as an order of its own". No word here is of the walk, but for the order in which the holdings stand.
-use Rattle.std.specs.Prelude.{ℕ, ◌+◌, ◌≤◌, ◌<◌, true, false, List, ◌∷◌, ◌≢◌, ◌≡◌, eqb}
-use Rattle.basics.specs.Choice.{if◌then◌else◌}
+use Rattle.std.specs.Prelude.{ℕ, ◌+◌, ◌≤◌, ◌<◌, true, false, List, ◌∷◌, ◌≢◌, ◌≡◌, eqb, if◌then◌else◌}
 use Rattle.basics.specs.Lists.{sum_of, Each, OneOf}
 use Rattle.kinds.specs.declared.HalfCents.{HalfCents}
 use Rattle.kinds.specs.Kinds.{in_half_cents}

@@ -1,7 +1,6 @@
 -- What the program's own lines tell, read back from their bytes: the events of an output, and from them what each order executed,
 -- gave and had cancelled. Demand 3 is said of these: what an order did is what its lines tell, not what the book's inside did.
-use Rattle.std.specs.Prelude.{ℕ, ◌+◌, Bool, false, ◌&&◌, List, [], ◌∷◌, ◌++◌, eqb}
-use Rattle.basics.specs.Choice.{if◌then◌else◌}
+use Rattle.std.specs.Prelude.{ℕ, ◌+◌, Bool, false, ◌&&◌, List, [], ◌∷◌, ◌++◌, eqb, if◌then◌else◌}
 use Rattle.basics.specs.Lists.{any, sum_of}
 use Rattle.kinds.specs.Kinds.{shares}
 use Rattle.kinds.specs.declared.Number.{Number}

@@ -1,6 +1,5 @@
 -- The tests of a line's size and ending (02, W1), of the four kinds at once: "short .., trailing bytes, bad digit or ending".
-use Rattle.std.specs.Prelude.{ℕ, ◌-◌, List, eqb, ltb, length, get_or}
-use Rattle.basics.specs.Choice.{if◌then◌else◌}
+use Rattle.std.specs.Prelude.{ℕ, ◌-◌, List, eqb, ltb, length, get_or, if◌then◌else◌}
 use Rattle.rules.specs.declared.EventReading.{EventReading}
 use Rattle.rules.specs.declared.EventReading.TheVariants.{Short, TrailingBytes, BadDigitOrEnding}
 use Rattle.rules.specs.CommandLines.{line_feed}

@@ -1,7 +1,6 @@
 // The reader of our own event lines, kinds 11 to 14, over any bytes (02, W1 and W2). Refusals are tried in this order: unknown kind, short
 // (also below two bytes), trailing bytes, bad digit or ending.
-ghost use Rattle.std.specs.Prelude.{◌≡◌, ◌≤◌};
-ghost use Rattle.basics.specs.Choice.{if◌then◌else◌};
+ghost use Rattle.std.specs.Prelude.{◌≡◌, ◌≤◌, if◌then◌else◌};
 ghost use Rattle.rules.specs.EventLines.{executed_fields, rested_fields, cancelled_fields};
 ghost use Rattle.rules.specs.EventReading.{executed_of, rested_of, cancelled_of, moved_of, event_of, event_in};
 ghost use Rattle.event_lines.specs.Ended.{when_ended};

@@ -11,7 +11,7 @@ use native.Mathlib.Numerals.{add-one}
 use native.Mathlib.Omega.{arith}
 use borrow.Author.Tests.{not-true, not-false, eqb-true, eqb-false}
 use Rattle.basics.proofs.LawsLists.{map_take, map_drop, ahead_none, ahead_cons}
-use Rattle.basics.specs.Choice.{if◌then◌else◌}
+use Rattle.std.specs.Prelude.{if◌then◌else◌}
 use Rattle.basics.specs.Lists.{any}
 use Rattle.basics.proofs.LawsChoice.{holds_or_not, or_neither}
 use Rattle.kinds.specs.declared.Number.{Number}

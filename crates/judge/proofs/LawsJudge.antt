@@ -1,7 +1,7 @@
 -- A choice by values, as the judges make it. Assumes nothing.
 use mathlib.Core.Bool.{Bool, true, false, not, ◌&&◌, ◌||◌}
 use mathlib.Core.Path.{◌≡◌, refl}
-use Rattle.basics.specs.Choice.{if◌then◌else◌}
+use Rattle.std.specs.Prelude.{if◌then◌else◌}
 
 pub choice_by_values : (t a b : Bool) → (t && a || not t && b) ≡ (if t then a else b)
 choice_by_values true true b = refl

@@ -1,8 +1,7 @@
 -- One side as a lent table of resting-order records (01, The book): "The table (64 records, else refusal 2) stands for that side and is
 -- left as the core would leave it; a refusal leaves it untouched. The book lent with it has all places of that side zero, else
 -- refusal 2, and comes back so." With W5 it has 256 records.
-use Rattle.std.specs.Prelude.{ℕ, Bool, false, ◌&&◌, List, ◌≡◌, eqb, length, replicate}
-use Rattle.basics.specs.Choice.{if◌then◌else◌}
+use Rattle.std.specs.Prelude.{ℕ, Bool, false, ◌&&◌, List, ◌≡◌, eqb, length, replicate, if◌then◌else◌}
 use Rattle.basics.specs.Lists.{every, first_where}
 use Rattle.rules.specs.declared.Resting.{Resting}
 use Rattle.rules.specs.Book.{Places, BookRecord, places_a_side, unused, is_unused}

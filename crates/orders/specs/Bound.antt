@@ -1,7 +1,6 @@
 -- One bound for the walk (01, How an order is worked, 1): the limit and the away price in one price, and with it the lock of 02's W6.
 -- LawsBound shows that a price is within it exactly where the order may touch it.
-use Rattle.std.specs.Prelude.{Bool, not, ◌||◌, eqb}
-use Rattle.basics.specs.Choice.{if◌then◌else◌}
+use Rattle.std.specs.Prelude.{Bool, not, ◌||◌, eqb, if◌then◌else◌}
 use Rattle.kinds.specs.declared.HalfCents.{HalfCents}
 use Rattle.kinds.specs.Kinds.{largest, half_cents}
 use Rattle.rules.specs.declared.Away.{Away}

@@ -1,8 +1,7 @@
 -- A cursor over the parts of a side's orders, as a walk reaches them (02, W4): "the shown part at its rank, the reserve behind every other
 -- order at that price, reserves among themselves in the rank of their shown parts". A reserve that is empty is no part. `LawsParts` shows
 -- that these are 01's and 02's holdings.
-use Rattle.std.specs.Prelude.{ℕ, ◌+◌, ◌≤◌, ◌<◌, max, not, ◌&&◌, List, [], ◌∷◌, ◌++◌, ◌≡◌, eqb, length, get_or, take, drop}
-use Rattle.basics.specs.Choice.{if◌then◌else◌}
+use Rattle.std.specs.Prelude.{ℕ, ◌+◌, ◌≤◌, ◌<◌, max, not, ◌&&◌, List, [], ◌∷◌, ◌++◌, ◌≡◌, eqb, length, get_or, take, drop, if◌then◌else◌}
 use Rattle.kinds.specs.declared.HalfCents.{HalfCents}
 use Rattle.kinds.specs.Kinds.{half_cents, shares}
 use Rattle.rules.specs.declared.Resting.{Resting}

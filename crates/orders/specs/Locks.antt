@@ -1,6 +1,5 @@
 -- The locks of 02's W6 by one price: LawsLocks shows that a hidden order of the opposite side is locked exactly where it rests at it.
-use Rattle.std.specs.Prelude.{List, [], ◌∷◌, Bool, ◌≡◌, eqb}
-use Rattle.basics.specs.Choice.{if◌then◌else◌}
+use Rattle.std.specs.Prelude.{List, [], ◌∷◌, Bool, ◌≡◌, eqb, if◌then◌else◌}
 use Rattle.kinds.specs.declared.HalfCents.{HalfCents}
 use Rattle.kinds.specs.Kinds.{half_cents}
 use Rattle.rules.specs.declared.Resting.{Resting}

@@ -1,6 +1,5 @@
 -- What an order leaves in a header.
-use Rattle.std.specs.Prelude.{ℕ, Bool, eqb}
-use Rattle.basics.specs.Choice.{if◌then◌else◌}
+use Rattle.std.specs.Prelude.{ℕ, Bool, eqb, if◌then◌else◌}
 use Rattle.kinds.specs.declared.Number.{Number}
 use Rattle.orders.specs.declared.matching.Matched.{Matched}
 use Rattle.rules.specs.Commands.{with_accepted}

@@ -1,8 +1,7 @@
 -- What a walk takes, as a list (01, Some places and their forms: "a loop over ranked resting orders, left by break with
 -- remaining shares and the place where it stopped"). The walk itself is `walk` of rules, part by part; a taking is what one
 -- part gives of it.
-use Rattle.std.specs.Prelude.{ℕ, ◌+◌, ◌*◌, ◌-◌, ◌<◌, min, max, Bool, not, ◌||◌, List, [], ◌∷◌, ◌++◌, map, eqb, ltb, length, get_or, take, drop}
-use Rattle.basics.specs.Choice.{if◌then◌else◌}
+use Rattle.std.specs.Prelude.{ℕ, ◌+◌, ◌*◌, ◌-◌, ◌<◌, min, max, Bool, not, ◌||◌, List, [], ◌∷◌, ◌++◌, map, eqb, ltb, length, get_or, take, drop, if◌then◌else◌}
 use Rattle.basics.specs.Lists.{total}
 use Rattle.kinds.specs.declared.HalfCents.{HalfCents}
 use Rattle.kinds.specs.Kinds.{half_cents, shares}

@@ -1,6 +1,5 @@
 // What the takings of a walk do to the side that was walked.
-ghost use Rattle.std.specs.Prelude.{true, ◌≡◌, ◌+◌, ◌≤◌, ◌<◌, length, drop};
-ghost use Rattle.basics.specs.Choice.{if◌then◌else◌};
+ghost use Rattle.std.specs.Prelude.{true, ◌≡◌, ◌+◌, ◌≤◌, ◌<◌, length, drop, if◌then◌else◌};
 ghost use Rattle.basics.specs.Lists.{All, every};
 ghost use Rattle.side.specs.Table.{side, Holds, Shows};
 ghost use Rattle.rules.specs.Book.{places_a_side};

@@ -1,8 +1,7 @@
 // An order matched in place, all of 01's steps on two sides that are lent, its own and the opposite one, with refusal 11 for a full side.
 // One function for both sides of the market.
-ghost use Rattle.std.specs.Prelude.{true, not, ◌++◌, ◌≡◌, ◌≤◌, ◌<◌, ◌+◌, ◌*◌, length};
+ghost use Rattle.std.specs.Prelude.{true, not, ◌++◌, ◌≡◌, ◌≤◌, ◌<◌, ◌+◌, ◌*◌, length, if◌then◌else◌};
 ghost use Rattle.basics.specs.Bytes.{onto};
-ghost use Rattle.basics.specs.Choice.{if◌then◌else◌};
 ghost use Rattle.side.specs.Table.{side, Holds, Shows};
 ghost use Rattle.rules.specs.Book.{places_a_side};
 ghost use Rattle.rules.specs.EventLines.{event_lines};

@@ -1,6 +1,5 @@
 -- How far a moved quote goes over a side, and what becomes of an order that it reaches.
-use Rattle.std.specs.Prelude.{ℕ, Bool, not, ◌&&◌, List, ltb, length, get_or}
-use Rattle.basics.specs.Choice.{if◌then◌else◌}
+use Rattle.std.specs.Prelude.{ℕ, Bool, not, ◌&&◌, List, ltb, length, get_or, if◌then◌else◌}
 use Rattle.kinds.specs.declared.HalfCents.{HalfCents}
 use Rattle.rules.specs.declared.Fate.{Fate}
 use Rattle.rules.specs.declared.Fate.TheVariants.{IsCancelled, IsSet}

@@ -8,7 +8,7 @@ use lib.ListN.{length}
 use native.Mathlib.Nat.{zero-add}
 use native.Mathlib.Omega.{arith}
 use borrow.Author.Tests.{le-ltb, not-true, not-false}
-use Rattle.basics.specs.Choice.{if◌then◌else◌}
+use Rattle.std.specs.Prelude.{if◌then◌else◌}
 use Rattle.basics.specs.Lists.{gathered}
 use Rattle.basics.proofs.LawsChoice.{by_choice, and_left, and_right, and_none}
 use Rattle.kinds.specs.declared.HalfCents.{HalfCents}

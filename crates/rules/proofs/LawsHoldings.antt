@@ -10,7 +10,7 @@ use lib.Dec.{eqb}
 use lib.ListN.{length}
 use native.Mathlib.Omega.{arith}
 use borrow.Author.Tests.{eqb-true, eqb-false}
-use Rattle.basics.specs.Choice.{if◌then◌else◌}
+use Rattle.std.specs.Prelude.{if◌then◌else◌}
 use Rattle.basics.specs.Lists.{total, sum_of, All, Each, empty, with}
 use Rattle.basics.proofs.LawsChoice.{holds_or_not, and_none}
 use Rattle.rules.specs.declared.Resting.{Resting}

@@ -9,7 +9,7 @@ use lib.Dec.{eqb}
 use lib.ListN.{length}
 use native.Mathlib.Omega.{arith}
 use borrow.Author.Tests.{eq-eqb, ne_eqb, eqb-true, eqb-false, le-ltb, ltb-true, not-true}
-use Rattle.basics.specs.Choice.{if◌then◌else◌}
+use Rattle.std.specs.Prelude.{if◌then◌else◌}
 use Rattle.basics.specs.Lists.{All, none, also, OneOf, first, later}
 use Rattle.basics.proofs.LawsChoice.{holds_or_not, by_choice, and_left, and_right, and_none}
 use Rattle.basics.proofs.LawsLists.{all_alike, each_there}

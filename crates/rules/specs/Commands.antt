@@ -1,6 +1,5 @@
 -- What every accepted command does (01, How an order is worked, with cancel, quote and close): a chain of steps on what is done so far.
-use Rattle.std.specs.Prelude.{ℕ, Bool, true, not, ◌&&◌, [], eqb}
-use Rattle.basics.specs.Choice.{if◌then◌else◌}
+use Rattle.std.specs.Prelude.{ℕ, Bool, true, not, ◌&&◌, [], eqb, if◌then◌else◌}
 use Rattle.kinds.specs.declared.Number.{Number}
 use Rattle.rules.specs.declared.Away.{Away}
 use Rattle.rules.specs.declared.Body.{Body}

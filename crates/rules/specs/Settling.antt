@@ -1,8 +1,7 @@
 -- What becomes of resting orders by a command, other than by executions: a cancel, the moves of a quote (02, W2), a close and the refills
 -- after an order (02, W4) all have this one shape. Each resting order has a fate; those that stay, those that are set anew, and the lines
 -- of all that do not stay follow from it.
-use Rattle.std.specs.Prelude.{ℕ, suc, ◌+◌, ◌-◌, min, Bool, true, false, List, [], ◌∷◌, ◌++◌, eqb, length}
-use Rattle.basics.specs.Choice.{if◌then◌else◌}
+use Rattle.std.specs.Prelude.{ℕ, suc, ◌+◌, ◌-◌, min, Bool, true, false, List, [], ◌∷◌, ◌++◌, eqb, length, if◌then◌else◌}
 use Rattle.basics.specs.Lists.{gathered}
 use Rattle.kinds.specs.declared.HalfCents.{HalfCents}
 use Rattle.kinds.specs.declared.Number.{Number}

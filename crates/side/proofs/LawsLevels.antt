@@ -9,7 +9,7 @@ use lib.ListN.{length, get_or}
 use native.Mathlib.Nat.{mod-eq_of_lt}
 use native.Mathlib.Omega.{arith}
 use borrow.Author.Tests.{eq-eqb, ne_eqb, eqb-true, eqb-false, ltb-true, lt-ltb, le-ltb}
-use Rattle.basics.specs.Choice.{if◌then◌else◌}
+use Rattle.std.specs.Prelude.{if◌then◌else◌}
 use Rattle.basics.specs.Lists.{first_where, All, none, also}
 use Rattle.basics.proofs.LawsChoice.{holds_or_not, lt_or_le}
 use Rattle.rules.specs.declared.Resting.{Resting}

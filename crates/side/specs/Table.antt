@@ -1,6 +1,5 @@
 -- A side of the book in a table of rows and an index: which word of a row is which field, and which rows hold the side, in which order.
-use Rattle.std.specs.Prelude.{ℕ, zero, suc, ◌+◌, ◌-◌, ◌*◌, ◌%◌, ◌≤◌, Bool, true, false, not, List, [], ◌∷◌, map, ◌≡◌, eqb, length, get_or, take}
-use Rattle.basics.specs.Choice.{if◌then◌else◌}
+use Rattle.std.specs.Prelude.{ℕ, zero, suc, ◌+◌, ◌-◌, ◌*◌, ◌%◌, ◌≤◌, Bool, true, false, not, List, [], ◌∷◌, map, ◌≡◌, eqb, length, get_or, take, if◌then◌else◌}
 use Rattle.basics.specs.Lists.{times, insert_at, remove_at}
 use Rattle.kinds.specs.Kinds.{half_cents, shares, number}
 use Rattle.rules.specs.declared.Resting.{Resting}

@@ -1,6 +1,5 @@
 -- The book, and the record, that a header and two sides that are lent hold.
-use Rattle.std.specs.Prelude.{ℕ, ◌-◌, ◌<◌, List, map, ◌≡◌, ltb, length, get_or}
-use Rattle.basics.specs.Choice.{if◌then◌else◌}
+use Rattle.std.specs.Prelude.{ℕ, ◌-◌, ◌<◌, List, map, ◌≡◌, ltb, length, get_or, if◌then◌else◌}
 use Rattle.rules.specs.Book.{Book, Places, BookRecord, places_a_side}
 use Rattle.side.specs.Table.{order_of, side, index_size}
 use Rattle.side.specs.declared.tables.Head.{Head}

@@ -9,8 +9,7 @@ pub mod rows;
 pub mod shifts;
 pub mod tables;
 
-ghost use Rattle.std.specs.Prelude.{true, [], ◌≡◌, ◌≤◌, ◌<◌, max, eqb, ltb, get_or};
-ghost use Rattle.basics.specs.Choice.{if◌then◌else◌};
+ghost use Rattle.std.specs.Prelude.{true, [], ◌≡◌, ◌≤◌, ◌<◌, max, eqb, ltb, get_or, if◌then◌else◌};
 ghost use Rattle.basics.specs.Lists.{first_where, distinct};
 ghost use Rattle.side.specs.Table.{level_in, side, Names, Holds};
 ghost use Rattle.rules.specs.Book.{places_a_side, unused, numbers, earlier as earlierStamp, ranks_before, in_rank_order};

@@ -1,6 +1,5 @@
 // Orders moved in and out of one side, in place: the index is turned, and the rows stay where they are.
-ghost use Rattle.std.specs.Prelude.{◌&&◌, ◌≡◌, ◌+◌, ◌-◌, ◌≤◌, ◌<◌, min, ltb, leb, get_or, set};
-ghost use Rattle.basics.specs.Choice.{if◌then◌else◌};
+ghost use Rattle.std.specs.Prelude.{◌&&◌, ◌≡◌, ◌+◌, ◌-◌, ◌≤◌, ◌<◌, min, ltb, leb, get_or, set, if◌then◌else◌};
 ghost use Rattle.basics.specs.Lists.{insert_at, remove_at};
 ghost use Rattle.side.specs.Table.{places_a_part, rotated, side, Holds, Shows};
 ghost use Rattle.rules.specs.Book.{places_a_side, unused};

@@ -8,7 +8,7 @@ use mathlib.Core.Path.{◌≡◌, refl}
 use lib.Dec.{eqb}
 use native.Mathlib.Omega.{arith}
 use borrow.Author.Tests.{eq-eqb, eqb-true, not-true}
-use Rattle.basics.specs.Choice.{if◌then◌else◌}
+use Rattle.std.specs.Prelude.{if◌then◌else◌}
 use Rattle.basics.specs.Lists.{any, distinct, sum_of}
 use Rattle.basics.proofs.LawsChoice.{holds_or_not, and_left, and_right, or_neither}
 use Rattle.rules.specs.declared.Resting.{Resting}

@@ -7,7 +7,7 @@ use mathlib.Core.Path.{◌≡◌, refl, ap, subst}
 use lib.Dec.{eqb}
 use lib.ListN.{length}
 use native.Mathlib.Omega.{arith}
-use Rattle.basics.specs.Choice.{if◌then◌else◌}
+use Rattle.std.specs.Prelude.{if◌then◌else◌}
 use Rattle.basics.specs.Lists.{sum_of, gathered, All, none, also, OneOf, first, later}
 use Rattle.basics.proofs.LawsLists.{all_alike, one_of_all, each_there, sum_of_append, gathered_all, gathered_has}
 use Rattle.kinds.specs.declared.Number.{Number}

@@ -9,7 +9,7 @@ use lib.ListN.{length}
 use native.Mathlib.Omega.{arith}
 use borrow.Author.Tests.{le-leb, leb-true, ne_eqb}
 use Rattle.basics.proofs.LawsLists.{all_alike, all_both, sum_of_append}
-use Rattle.basics.specs.Choice.{if◌then◌else◌}
+use Rattle.std.specs.Prelude.{if◌then◌else◌}
 use Rattle.basics.specs.Lists.{every, any, distinct, sum_of, All, none, also}
 use Rattle.basics.proofs.LawsChoice.{and_left, and_right}
 use Rattle.kinds.specs.declared.Number.{Number}

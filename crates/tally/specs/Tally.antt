@@ -1,7 +1,6 @@
 -- The tally (02, W1): "a tally that takes a day's lines and gives, for one order number, shares executed and cancelled. The tally passes
 -- over `1f` lines, stops with the reader's refusal at any other bad line .. A sum that would pass 4,294,967,295 is refused by name."
-use Rattle.std.specs.Prelude.{ℕ, ◌+◌, ◌-◌, Bool, true, false, ◌||◌, List, [], eqb, ltb, length}
-use Rattle.basics.specs.Choice.{if◌then◌else◌}
+use Rattle.std.specs.Prelude.{ℕ, ◌+◌, ◌-◌, Bool, true, false, ◌||◌, List, [], eqb, ltb, length, if◌then◌else◌}
 use Rattle.kinds.specs.declared.Number.{Number}
 use Rattle.kinds.specs.Kinds.{shares, largest}
 use Rattle.rules.specs.declared.Event.{Event}

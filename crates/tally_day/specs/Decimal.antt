@@ -1,7 +1,6 @@
 -- An order number as a clerk writes it: one to ten decimal digits, the most significant first, at most the largest number that four
 -- bytes hold.
-use Rattle.std.specs.Prelude.{ℕ, ◌+◌, ◌-◌, ◌*◌, Bool, true, ◌&&◌, ◌||◌, List, [], ◌∷◌, leb, ltb, eqb, length}
-use Rattle.basics.specs.Choice.{if◌then◌else◌}
+use Rattle.std.specs.Prelude.{ℕ, ◌+◌, ◌-◌, ◌*◌, Bool, true, ◌&&◌, ◌||◌, List, [], ◌∷◌, leb, ltb, eqb, length, if◌then◌else◌}
 use Rattle.digits.specs.declared.Value.{Value}
 use Rattle.digits.specs.declared.Value.TheVariants.{Is, Bad}
 use Rattle.kinds.specs.Kinds.{largest}

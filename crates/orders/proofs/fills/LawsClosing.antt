@@ -10,7 +10,7 @@ use lib.Seq.{get_or-set_same, get_or-set_other}
 use native.Mathlib.Numerals.{add-one}
 use native.Mathlib.Omega.{arith}
 use borrow.Author.Tests.{eqb-true, eqb-false}
-use Rattle.basics.specs.Choice.{if◌then◌else◌}
+use Rattle.std.specs.Prelude.{if◌then◌else◌}
 use Rattle.basics.specs.Lists.{every, times}
 use Rattle.basics.proofs.LawsChoice.{holds_or_not, lt_or_le}
 use Rattle.side.specs.Table.{order_of, row_of, ranked, rows_at, side, Names, Holds, Shows}

@@ -10,7 +10,7 @@ use lib.Seq.{take-suc, drop-append_seam}
 use native.Mathlib.Numerals.{add-one}
 use native.Mathlib.Omega.{arith}
 use borrow.Author.Tests.{eq-eqb, ne_eqb, eqb-true, eqb-false}
-use Rattle.basics.specs.Choice.{if◌then◌else◌}
+use Rattle.std.specs.Prelude.{if◌then◌else◌}
 use Rattle.basics.specs.Lists.{All, none, also, every}
 use Rattle.basics.proofs.LawsChoice.{holds_or_not, lt_or_le, and_left, and_right}
 use Rattle.basics.proofs.LawsLists.{all_alike}

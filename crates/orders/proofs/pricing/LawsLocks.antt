@@ -11,7 +11,7 @@ use borrow.Author.Tests.{eqb-true, eqb-false, eq-eqb, ne_eqb, ltb-true, ltb-fals
 use Rattle.basics.specs.Lists.{All, any, none, also}
 use Rattle.basics.proofs.LawsChoice.{holds_or_not, and_left, and_right, and_none}
 use Rattle.basics.proofs.LawsLists.{all_alike}
-use Rattle.basics.specs.Choice.{if◌then◌else◌}
+use Rattle.std.specs.Prelude.{if◌then◌else◌}
 use Rattle.kinds.specs.declared.HalfCents.{HalfCents}
 use Rattle.kinds.specs.Kinds.{half_cents}
 use Rattle.rules.specs.declared.Resting.{Resting}

@@ -9,7 +9,7 @@ use lib.Seq.{drop-drop, take_at, drop_at, set_split}
 use native.Mathlib.Numerals.{add-one}
 use native.Mathlib.Omega.{arith}
 use borrow.Author.Tests.{ne_eqb}
-use Rattle.basics.specs.Choice.{if◌then◌else◌}
+use Rattle.std.specs.Prelude.{if◌then◌else◌}
 use Rattle.basics.specs.Lists.{total}
 use Rattle.basics.proofs.LawsLists.{map-append}
 use Rattle.kinds.specs.Kinds.{shares}

@@ -9,7 +9,7 @@ use lib.Dec.{eqb}
 use lib.ListN.{length, get_or}
 use native.Mathlib.Omega.{arith}
 use borrow.Author.Tests.{eq-eqb, ne_eqb, eqb-true, ltb-true, not-false}
-use Rattle.basics.specs.Choice.{if◌then◌else◌}
+use Rattle.std.specs.Prelude.{if◌then◌else◌}
 use Rattle.basics.specs.Lists.{total, sum_of, All, none, also}
 use Rattle.basics.proofs.LawsChoice.{holds_or_not, by_choice, lt_or_le, or_neither}
 use Rattle.basics.proofs.LawsLists.{sum_of_append}

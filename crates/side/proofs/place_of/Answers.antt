@@ -6,7 +6,7 @@ use mathlib.Core.Path.{◌≡◌}
 use lib.Dec.{eqb}
 use lib.ListN.{get_or}
 use native.Mathlib.Omega.{arith}
-use Rattle.basics.specs.Choice.{if◌then◌else◌}
+use Rattle.std.specs.Prelude.{if◌then◌else◌}
 use Rattle.basics.proofs.LawsChoice.{holds_or_not}
 use Rattle.side.specs.Table.{places_a_part}
 use Rattle.side.proofs.rows.LawsSteps.{counted, steps, step_at}

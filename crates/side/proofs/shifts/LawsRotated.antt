@@ -11,7 +11,7 @@ use native.Mathlib.Nat.{suc-add}
 use native.Mathlib.Numerals.{add-one}
 use native.Mathlib.Omega.{arith}
 use borrow.Author.Tests.{eqb-true, eqb-false, lt-ltb, le-ltb, le-leb, lt-leb}
-use Rattle.basics.specs.Choice.{if◌then◌else◌}
+use Rattle.std.specs.Prelude.{if◌then◌else◌}
 use Rattle.basics.specs.Lists.{insert_at, remove_at}
 use Rattle.basics.proofs.LawsChoice.{holds_or_not, lt_or_le}
 use Rattle.basics.proofs.LawsLists.{length_remove_at}

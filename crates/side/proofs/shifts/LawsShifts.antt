@@ -7,7 +7,7 @@ use lib.ListN.{length, get_or, set, length-set}
 use lib.Seq.{get_or-set_other}
 use native.Mathlib.Numerals.{add-one}
 use native.Mathlib.Omega.{arith}
-use Rattle.basics.specs.Choice.{if◌then◌else◌}
+use Rattle.std.specs.Prelude.{if◌then◌else◌}
 use Rattle.basics.specs.Lists.{times, insert_at, remove_at}
 use Rattle.basics.proofs.LawsLists.{length_remove_at}
 use Rattle.rules.specs.declared.Resting.{Resting}

@@ -10,7 +10,7 @@ use lib.ListN.{length, get_or, take, length-map}
 use lib.Seq.{ext_get_or, get_or-take, length-take-le}
 use native.Mathlib.Omega.{arith}
 use borrow.Author.Tests.{eqb-true, lt-ltb, le-ltb}
-use Rattle.basics.specs.Choice.{if◌then◌else◌}
+use Rattle.std.specs.Prelude.{if◌then◌else◌}
 use Rattle.basics.specs.Lists.{times}
 use Rattle.basics.proofs.LawsChoice.{holds_or_not, lt_or_le}
 use Rattle.basics.proofs.LawsLists.{map_take}

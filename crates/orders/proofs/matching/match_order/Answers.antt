@@ -6,7 +6,7 @@ use mathlib.Core.Path.{◌≡◌, refl, sym, ap, subst, ◌∙◌}
 use lib.ListN.{length, take, drop, length-take, length-drop, length-append}
 use native.Mathlib.Omega.{arith}
 use Rattle.basics.specs.Bytes.{onto}
-use Rattle.basics.specs.Choice.{if◌then◌else◌}
+use Rattle.std.specs.Prelude.{if◌then◌else◌}
 use Rattle.basics.specs.Lists.{All, every}
 use Rattle.basics.proofs.LawsBytes.{onto_none}
 use Rattle.basics.proofs.LawsLists.{all_alike}

@@ -1,7 +1,7 @@
 -- `side::prices::within` meets its contract, for a buy and for a sell. Assumes nothing.
 use mathlib.Core.Bool.{Bool, true, false, not, ◌&&◌, ◌||◌}
 use mathlib.Core.Path.{◌≡◌, refl}
-use Rattle.basics.specs.Choice.{if◌then◌else◌}
+use Rattle.std.specs.Prelude.{if◌then◌else◌}
 use Rattle.side.proofs.prices.within.Goals as goal
 
 by_side : (buy above below : Bool) → not (buy && above || not buy && below) ≡ not (if buy then above else below)

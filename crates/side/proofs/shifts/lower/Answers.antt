@@ -6,7 +6,7 @@ use mathlib.Core.Path.{◌≡◌, refl, ◌∙◌}
 use lib.Dec.{ltb, leb}
 use lib.ListN.{length, get_or, length-set}
 use native.Mathlib.Omega.{arith}
-use Rattle.basics.specs.Choice.{if◌then◌else◌}
+use Rattle.std.specs.Prelude.{if◌then◌else◌}
 use Rattle.side.specs.Table.{index_size, places_a_part}
 use Rattle.side.proofs.rows.LawsSteps.{counted, steps, step_at}
 use Rattle.side.proofs.shifts.LawsRotated.{lowering_step, filled_end, within_le, within_lt}
