@@ -41,7 +41,8 @@ pub fn header_refusal(h: Held, c: Command) -> u8
     let time = c.time;
     let body = c.body;
     let closing = is_close(body);
-    if number.0 <= h.last.0 {
+    let seen = number.0 <= h.last.0;
+    if seen {
         return 4;
     }
     if 1 < number.0 - h.last.0 {

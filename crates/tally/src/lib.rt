@@ -69,7 +69,8 @@ fn executed_shares(number: Number, e: Event) -> u32
             shares,
             ..
         } => {
-            if (number.0 == incoming.0) | (number.0 == resting.0) {
+            let named = (number.0 == incoming.0) | (number.0 == resting.0);
+            if named {
                 return shares.0;
             }
             0

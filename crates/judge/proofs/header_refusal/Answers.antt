@@ -11,25 +11,25 @@ use Rattle.judge.specs.Judge.{book_holding}
 use Rattle.judge.proofs.LawsJudge.{late_by_values}
 use Rattle.judge.proofs.header_refusal.Goals as goal
 
-pub returns-then-number-h : goal.returns-then-number-h
+pub returns-then-seen : goal.returns-then-seen
 unfolding first_of header_refusals
-returns-then-number-h c =
+returns-then-seen c =
     let a = c.args in
-    rw (le-leb a.c.number.0 a.h.last.0 c.if-number-h.true)
+    rw (le-leb a.c.number.0 a.h.last.0 c.if-seen.true)
 
 pub returns-then-number-h-gt1 : goal.returns-then-number-h-gt1
 unfolding first_of header_refusals
 returns-then-number-h-gt1 c =
     let a = c.args in
     let over : a.h.last.0 + 1 < a.c.number.0 = omega arith in
-    rw (lt-leb _ _ c.if-number-h.false, lt-ltb _ _ over)
+    rw (lt-leb _ _ c.if-seen.false, lt-ltb _ _ over)
 
 pub returns-then-h : goal.returns-then-h
 unfolding first_of header_refusals
 returns-then-h c =
     let a = c.args in
     let next : a.c.number.0 ≤ a.h.last.0 + 1 = omega arith in
-    rw (lt-leb _ _ c.if-number-h.false, le-ltb _ _ next, c.if-h.true)
+    rw (lt-leb _ _ c.if-seen.false, le-ltb _ _ next, c.if-h.true)
 
 pub returns-then-time-h : goal.returns-then-time-h
 unfolding first_of header_refusals
@@ -40,7 +40,7 @@ returns-then-time-h c =
     let late : untimely (book_holding a.h) a.c ≡ true =
     sym (late_by_values (ltb a.c.time a.h.time) (ltb a.c.time opening) (is_close a.c.body) (ltb closing a.c.time) (leb closing a.c.time))
     ∙ (rw cl at c.if-time-h.true) in
-    rw (lt-leb _ _ c.if-number-h.false, le-ltb _ _ next, c.if-h.false, late)
+    rw (lt-leb _ _ c.if-seen.false, le-ltb _ _ next, c.if-h.false, late)
 
 pub returns : goal.returns
 unfolding first_of header_refusals
@@ -51,4 +51,4 @@ returns c =
     let timely : untimely (book_holding a.h) a.c ≡ false =
     sym (late_by_values (ltb a.c.time a.h.time) (ltb a.c.time opening) (is_close a.c.body) (ltb closing a.c.time) (leb closing a.c.time))
     ∙ (rw cl at c.if-time-h.false) in
-    rw (lt-leb _ _ c.if-number-h.false, le-ltb _ _ next, c.if-h.false, timely)
+    rw (lt-leb _ _ c.if-seen.false, le-ltb _ _ next, c.if-h.false, timely)

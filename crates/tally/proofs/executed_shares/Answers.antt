@@ -4,16 +4,16 @@ use mathlib.Core.Path.{◌≡◌}
 use lib.Dec.{eqb}
 use Rattle.tally.proofs.executed_shares.Goals as goal
 
-pub returns-then-number-incoming : goal.returns-then-number-incoming
-returns-then-number-incoming c =
+pub returns-then-named : goal.returns-then-named
+returns-then-named c =
     let number = c.args.number in
-    let one : eqb number.0 c.in-Executed.incoming.0 || eqb number.0 c.in-Executed.resting.0 ≡ true = c.if-number-incoming.true in
+    let one : eqb number.0 c.in-Executed.incoming.0 || eqb number.0 c.in-Executed.resting.0 ≡ true = c.if-named.true in
     rw (c.in-Executed.is, one)
 
-pub returns-else-number-incoming : goal.returns-else-number-incoming
-returns-else-number-incoming c =
+pub returns-else-named : goal.returns-else-named
+returns-else-named c =
     let number = c.args.number in
-    let neither : eqb number.0 c.in-Executed.incoming.0 || eqb number.0 c.in-Executed.resting.0 ≡ false = c.if-number-incoming.false in
+    let neither : eqb number.0 c.in-Executed.incoming.0 || eqb number.0 c.in-Executed.resting.0 ≡ false = c.if-named.false in
     rw (c.in-Executed.is, neither)
 
 pub returns-in-Rested : goal.returns-in-Rested
