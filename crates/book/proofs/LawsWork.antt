@@ -1,11 +1,12 @@
 -- What a command leaves in the tables is what a step over the record returns. Assumes nothing.
 use Prim.Native.Nat.{ℕ, ◌≤◌}
 use mathlib.Core.Bool.{true, false}
-use mathlib.Core.List.{List}
-use mathlib.Core.Logic.{⊎_elim}
+use mathlib.Core.List.{List, []}
+use mathlib.Core.Logic.{⊎_elim, ◌≢◌}
 use mathlib.Core.Path.{◌≡◌, refl, sym, ap, ◌∙◌}
 use lib.Dec.{eqb}
 use lib.ListN.{length}
+use borrow.Author.Tests.{ne_eqb}
 use Rattle.basics.specs.Bytes.{onto}
 use Rattle.std.specs.Prelude.{if◌then◌else◌}
 use Rattle.basics.proofs.LawsChoice.{holds_or_not}
@@ -30,9 +31,17 @@ use Rattle.book.proofs.LawsStep.{step_answer}
 abbrev reply : ℕ → ℕ → value.Book → Reply
 reply refusal length book = record { refusal = refusal; length = length; book = book }
 
-reply_is_lem : {refusal refusal' length length' : ℕ} {book book' : value.Book} → refusal ≡ refusal' → length ≡ length' → book ≡ book'
+reply_alike : {refusal refusal' length length' : ℕ} {book book' : value.Book} → refusal ≡ refusal' → length ≡ length' → book ≡ book'
     → reply refusal length book ≡ reply refusal' length' book'
-reply_is_lem d e f = rw (d, e, f)
+reply_alike d e f = rw (d, e, f)
+
+reply_is_lem : {refusal length length' : ℕ} {book book' : value.Book} → length ≡ length' → book ≡ book' → reply refusal length book ≡ reply refusal length' book'
+reply_is_lem e f = reply_alike refl e f
+
+-- a refusal has no event
+no_event : (c : Command) (b : Book) → (answer_of c b).refusal ≢ 0 → (answer_of c b).events ≡ []
+unfolding answer_of answer
+no_event c b e = rw (ne_eqb _ 0 e)
 
 -- a refusal leaves the book
 as_it_came : (c : Command) (b : Book) → eqb (answer_of c b).refusal 0 ≡ false → (answer_of c b).book ≡ b
@@ -68,6 +77,14 @@ module _ (b : value.Book) (c : Command) (out : List ℕ) (is_sound : record_soun
   out_is_lem : out' ≡ (step_on (record_in b) (reading.Is c) out).out
   out_is_lem = left_it.1.1.1 ∙ ap (λ (x : Returned). x.out) (sym returns_it)
 
+  pub work_refused : s.refusal ≢ 0
+      → (reply s.refusal 0 b ≡ reply_of (step_on (record_in b) (reading.Is c) out)) × (out' ≡ (step_on (record_in b) (reading.Is c) out).out)
+  unfolding it event_lines
+  work_refused e =
+      let f : it.refusal ≢ 0 = λ z. e (refusal_is ∙ z) in
+      let g : it.events ≡ [] = no_event c (book_in (record_in b)) f in
+      (rw (returns_it, refusal_is, ne_eqb it.refusal 0 f, g), out_is_lem)
+
   -- what is to be saved is held
   pub left_holds : Holds s.head.buys x' t' × Holds s.head.sells y' u'
   left_holds =
@@ -83,13 +100,19 @@ module _ (b : value.Book) (c : Command) (out : List ℕ) (is_sound : record_soun
       (λ (z : eqb it.refusal 0 ≡ false). rw z (ap record_of (as_it_came c (book_in (record_in b)) z) ∙ record_whole (record_in b) is_sound))
       (holds_or_not (eqb it.refusal 0))
 
-  pub work_done : (book : value.Book) → book ≡ book_with (record_of (book_on s.head x' t' y' u'))
+  pub work_left : (book : value.Book) → book ≡ book_with (record_of (book_on s.head x' t' y' u'))
       → (reply s.refusal s.length book ≡ reply_of (step_on (record_in b) (reading.Is c) out))
       × (out' ≡ (step_on (record_in b) (reading.Is c) out).out)
-  work_done book saved =
+  work_left book saved =
       let long : s.length ≡ length (event_lines it.events) = ap (λ (z : Step). z.length) left_it.0 in
       let head : s.head ≡ head_of it.book = ap (λ (z : Step). z.head) left_it.0 in
       let back : book_on s.head x' t' y' u' ≡ it.book =
       ap (λ (g : Head). book_on g x' t' y' u') head ∙ book_back it.book x' t' y' u' left_it.1.0 left_it.1.1.0 in
       let all : record_of (book_on s.head x' t' y' u') ≡ (returned (record_in b) out it).book = ap record_of back ∙ record_is in
-      (reply_is_lem refusal_is long (saved ∙ ap book_with all) ∙ rw returns_it, out_is_lem)
+      (reply_alike refusal_is long (saved ∙ ap book_with all) ∙ rw returns_it, out_is_lem)
+
+  pub work_done : s.refusal ≡ 0 → (book : value.Book) → book ≡ book_with (record_of (book_on s.head x' t' y' u'))
+      → (reply 0 s.length book ≡ reply_of (step_on (record_in b) (reading.Is c) out)) × (out' ≡ (step_on (record_in b) (reading.Is c) out).out)
+  work_done e book saved =
+      let told = work_left book saved in
+      (ap (λ (r : ℕ). reply r s.length book) (sym e) ∙ told.0, told.1)

@@ -1,4 +1,5 @@
--- What the walks by hand share. Assumes `Logic` where it speaks of what is owned, and else nothing.
+-- Laws of a record and of an array of records as values of the machine, and of a list copied place by place. Assumes `Logic` where it speaks of what
+-- is owned, and else nothing.
 --     Records, resting, records, word      the array's type, and the MIR types of a record, of the array and of a `usize`
 --     record-typed, array_typed            a record's machine value is of its MIR type, and so is the array's
 --     by-test, fits                        the outcome of the loop's test, as an equation; and a place is a `usize`

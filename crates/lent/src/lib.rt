@@ -25,7 +25,7 @@ struct GivenBack {
     places: [Resting; PLACES],
 }
 
-// ── The slice taken apart and put together: a function over a slice of structs is proved by hand ──
+// ── The slice taken apart and put together ──
 
 // The record at a place.
 fn get(s: &[Resting], i: usize) -> Resting

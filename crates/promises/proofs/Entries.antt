@@ -172,7 +172,7 @@ close_says κs a r s = refl
 
 -- ── One side lent as a slice of records ──
 
--- `lent::answer(book, buys, table, line, out)`. The checker writes no `Post` of a slice of structs; what its `ensures` states, in every model of the logic, is one fact
+-- `lent::answer(book, buys, table, line, out)`. What its `ensures` states, in every model of the logic, is one fact
 pub lent_is_proved : {M : Type 1} → lent-statement.statement M
 lent_is_proved = lent_met.met
 

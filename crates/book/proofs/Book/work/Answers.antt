@@ -1,7 +1,7 @@
 -- `Book::work` meets its contract: the command is worked on the two sides that the book is loaded into, and what they then hold is
 -- saved. Assumes nothing.
 use Rattle.book.proofs.LawsRecord.{counts_fit, book_as, stands_as}
-use Rattle.book.proofs.LawsWork.{left_holds, work_done}
+use Rattle.book.proofs.LawsWork.{left_holds, work_left}
 use Rattle.book.proofs.Book.work.Goals as goal
 
 pub number-requires : goal.number-requires
@@ -53,6 +53,6 @@ returns c =
     let stood = book_as a.self p.self_value.0 head.result x.new.x t y.new.x u head.ensures
     p.buys_value.0 p.buys_value.1 x.ensures y.ensures in
     let left = c.apply-step in
-    let told = work_done a.self a.c a.out.now p.self_value.0 p.self_value.1 head.result x.new.x t y.new.x u stood
+    let told = work_left a.self a.c a.out.now p.self_value.0 p.self_value.1 head.result x.new.x t y.new.x u stood
     left.result _ _ _ _ _ left.ensures c.save-book.result c.save-book.ensures in
     record { value = told.0; out_after = told.1 }
