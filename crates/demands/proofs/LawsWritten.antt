@@ -2,7 +2,7 @@
 -- command leaves of the number, the time, the away quote and the session. Assumes nothing.
 use Prim.Native.Nat.{ℕ, ◌+◌, ◌≤◌, ◌<◌, min}
 use mathlib.Core.Bool.{Bool, true, false, not, ◌||◌, true≢false}
-use mathlib.Core.List.{List, [], ◌∷◌, ◌++◌, map}
+use mathlib.Core.List.{List, [], ◌∷◌, ◌++◌, map, map-append}
 use mathlib.Core.Logic.{◌≢◌, ⊎_elim}
 use mathlib.Core.Path.{◌≡◌, refl, sym, ap, subst, ◌∙◌}
 use lib.Dec.{eqb}
@@ -10,7 +10,7 @@ use native.Mathlib.Omega.{arith}
 use borrow.Author.Tests.{eq-eqb, ne_eqb, eqb-true, eqb-false, not-false}
 use Rattle.basics.specs.Lists.{any, total, gathered, All, none, also, OneOf, first, later, Each, empty, with}
 use Rattle.basics.proofs.LawsChoice.{holds_or_not}
-use Rattle.basics.proofs.LawsLists.{map-append, all_alike, one_of_all, each_there, in_front_lem, behind, gathered_append, gathered_all, gathered_has}
+use Rattle.basics.proofs.LawsLists.{all_alike, one_of_all, each_there, in_front_lem, behind, gathered_append, gathered_all, gathered_has}
 use Rattle.kinds.specs.Kinds.{shares, number}
 use Rattle.kinds.specs.declared.HalfCents.{HalfCents}
 use Rattle.kinds.specs.declared.Number.{Number}

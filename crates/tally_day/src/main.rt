@@ -157,7 +157,7 @@ fn say_usage(rt: &impl Eprint) -> Result<()> {
 }
 
 // The order number that the one argument writes.
-fn asked(rt: &impl Env) -> Value {
+fn asked(rt: &HostRuntime) -> Value {
     let mut word = [0u8; 16];
     let Ok(length) = rt.arg(1, &mut word) else {
         return Value::Bad;

@@ -31,8 +31,8 @@ module _ (n : ℕ) (x : List ℕ) (t : List (List ℕ)) where
   abbrev events : List Event
   events = map (cancelled_for at_close) (side n x t)
 
-  events-length : length (event_lines events) ≡ 21 * n
-  events-length =
+  events_length : length (event_lines events) ≡ 21 * n
+  events_length =
       lines_length (cancelled_for at_close) 21 (λ h. cancelled_length h.number (shares (shares_left h)) at_close) (side n x t)
       ∙ ap (λ (k : ℕ). 21 * k) (length_side n x t)
 
@@ -42,8 +42,8 @@ module _ (n : ℕ) (x : List ℕ) (t : List (List ℕ)) where
       subst (λ (s : List Resting). Shows s x t) (drop_of_length-le (side n x t) most) (side_dropped n x t h n (omega arith))
 
 -- both sides have room for their lines
-room-behind : (c : After-slice_known-2-1) → c.report_cancelled-len.result + 21 * c.args.h.sells ≤ length c.report_cancelled-len.new.out
-room-behind c =
+room_behind : (c : After-slice_known-2-1) → c.report_cancelled-len.result + 21 * c.args.h.sells ≤ length c.report_cancelled-len.new.out
+room_behind c =
     let r = c.report_cancelled-len in
     let p = c.requires in
     omega (arith, r.ensures.value, r.auto.out, p.0.buys.fits, p.0.sells.fits, p.1)
@@ -52,16 +52,19 @@ pub report_cancelled-len-requires : goal.report_cancelled-len-requires
 report_cancelled-len-requires c = let p = c.requires in (p.0.buys, omega (arith, p.0.buys.fits, p.1), all_countable true _ p.0.is_sound)
 
 pub slice_bounds-report_cancelled-count : goal.slice_bounds-report_cancelled-count
-slice_bounds-report_cancelled-count c = omega (arith, room-behind (goal.at.slice_bounds-report_cancelled-count c).After-slice_known-2-1)
+slice_bounds-report_cancelled-count c = omega (arith, room_behind (goal.at.slice_bounds-report_cancelled-count c).After-slice_known-2-1)
 
 pub slice_bounds-report_cancelled-start : goal.slice_bounds-report_cancelled-start
-slice_bounds-report_cancelled-start c = omega (arith, room-behind (goal.at.slice_bounds-report_cancelled-start c).After-slice_known-2-1)
+slice_bounds-report_cancelled-start c = omega (arith, room_behind (goal.at.slice_bounds-report_cancelled-start c).After-slice_known-2-1)
 
 pub report_cancelled-more-requires : goal.report_cancelled-more-requires
 report_cancelled-more-requires c =
     let r = c.report_cancelled-len in
     let out = r.new.out in
-    let g : 21 * c.args.h.sells ≤ length (take (length out - r.result) (drop r.result out)) = simp (length-take, length-drop) (omega (arith, room-behind (goal.at.report_cancelled-more-requires c).After-slice_known-2-1)) in
+    let g : 21 * c.args.h.sells ≤ length (take (length out - r.result) (drop r.result out)) = simp (length-take, length-drop) (omega (
+      arith,
+      room_behind (goal.at.report_cancelled-more-requires c).After-slice_known-2-1,
+    )) in
     (c.requires.0.sells, g, all_countable false _ c.requires.0.is_sound)
 
 pub overflow_add-result : goal.overflow_add-result
@@ -78,8 +81,8 @@ returns c =
     let q = c.report_cancelled-more in
     let bought = events a.h.buys a.x.now a.buys.now in
     let sold = events a.h.sells a.y.now a.sells.now in
-    let len : r.result ≡ length (event_lines bought) = r.ensures.value ∙ sym (events-length a.h.buys a.x.now a.buys.now) in
-    let more : q.result ≡ length (event_lines sold) = q.ensures.value ∙ sym (events-length a.h.sells a.y.now a.sells.now) in
+    let len : r.result ≡ length (event_lines bought) = r.ensures.value ∙ sym (events_length a.h.buys a.x.now a.buys.now) in
+    let more : q.result ≡ length (event_lines sold) = q.ensures.value ∙ sym (events_length a.h.sells a.y.now a.sells.now) in
     let all : r.result + q.result ≡ length (event_lines (bought ++ sold)) =
     rw (event_lines_append bought sold) (omega (arith, length-append (event_lines bought) (event_lines sold), len, more)) in
     let head : Head = record { held = shut (with_accepted a.number a.time a.h.held); buys = 0; sells = 0 } in

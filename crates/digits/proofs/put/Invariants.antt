@@ -1,3 +1,4 @@
+-- `digits::put`: what its loop keeps, and its measure.
 use Prim.Native.Nat.{◌-◌, ◌≤◌}
 use mathlib.Core.Path.{◌≡◌}
 use mathlib.Core.List.{◌++◌}

@@ -1,3 +1,4 @@
+-- `digits::word`: what its loop keeps, and its measure.
 use Prim.Native.Nat.{◌≤◌}
 use mathlib.Core.Path.{◌≡◌}
 use Rattle.digits.specs.Digits.{digit_of}

@@ -1,3 +1,4 @@
+-- `examples::copy_on`: what its loop keeps, and its measure.
 use Prim.Native.Nat.{◌+◌, ◌-◌, ◌≤◌}
 use lib.ListN.{length}
 use Rattle.examples.proofs.copy_on.Given as goal

@@ -1,3 +1,4 @@
+-- `examples::day_after`: what its loop keeps, and its measure.
 use Prim.Native.Nat.{◌-◌, ◌≤◌}
 use lib.ListN.{length}
 use Rattle.examples.proofs.day_after.Given as goal

@@ -1,3 +1,4 @@
+-- `examples::read_full`: what its loop keeps, and its measure.
 use Prim.Native.Nat.{◌-◌, ◌≤◌}
 use lib.ListN.{length}
 use Rattle.examples.proofs.read_full.Given as goal

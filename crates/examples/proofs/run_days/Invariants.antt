@@ -1,3 +1,4 @@
+-- `examples::run_days`: what its loop keeps, and its measure.
 use Prim.Native.Nat.{◌-◌, ◌≤◌}
 use lib.ListN.{length}
 use Rattle.examples.proofs.run_days.Given as goal

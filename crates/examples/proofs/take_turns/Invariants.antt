@@ -1,3 +1,4 @@
+-- `examples::take_turns`: what its loop keeps, and its measure.
 use Prim.Native.Nat.{◌≤◌}
 use lib.ListN.{length}
 use Rattle.side.specs.Answers.{Stands}

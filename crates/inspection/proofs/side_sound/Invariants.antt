@@ -1,3 +1,4 @@
+-- `inspection::side_sound`: what its loop keeps, and its measure.
 use Prim.Native.Nat.{◌-◌, ◌≤◌}
 use mathlib.Core.List.{map}
 use mathlib.Core.Path.{◌≡◌}

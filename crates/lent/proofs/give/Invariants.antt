@@ -1,3 +1,4 @@
+-- `lent::give`: what its loop keeps, and its measure.
 use Rattle.std.proofs.Common.{◌≡◌, ◌-◌, ◌≤◌, take}
 use Rattle.rules.specs.Book.{places_a_side}
 use Rattle.lent.proofs.give.Given as goal

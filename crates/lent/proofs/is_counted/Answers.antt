@@ -9,12 +9,12 @@ use Rattle.book.specs.Record.{side_with}
 use Rattle.lent.specs.Lent.{is_counted}
 use Rattle.lent.proofs.is_counted.Goals as goal
 
-counted-found : (p : Places) (side : Side) → side ≡ side_with p → (used : ℕ) → used ≡ first_where is_unused side.places
+counted_found : (p : Places) (side : Side) → side ≡ side_with p → (used : ℕ) → used ≡ first_where is_unused side.places
     → eqb side.used used ≡ is_counted p
-counted-found p side side_is used used_is = rw (used_is, side_is)
+counted_found p side side_is used used_is = rw (used_is, side_is)
 
 pub returns : goal.returns
 returns c =
     let side = c.side_of-side in
     let used = c.used_in in
-    counted-found _ side.result side.ensures used.result used.ensures.value
+    counted_found _ side.result side.ensures used.result used.ensures.value

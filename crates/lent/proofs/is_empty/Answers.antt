@@ -19,10 +19,10 @@ use Rattle.inspection.proofs.LawsInspection.{none_used}
 use Rattle.lent.specs.Lent.{is_empty}
 use Rattle.lent.proofs.is_empty.Goals as goal
 
-empty-found : (last : Number) (used : ℕ) (places : List Resting) (t : List (List ℕ)) (found : Bool) → t ≡ map row_of places
+empty_found : (last : Number) (used : ℕ) (places : List Resting) (t : List (List ℕ)) (found : Bool) → t ≡ map row_of places
     → length t ≡ places_a_side → found ≡ side_sound true last [] 0 (map order_of t) → (eqb used 0 && found) ≡ is_empty (record { used = used; places = places })
 unfolding is_empty
-empty-found last used places t found is long told =
+empty_found last used places t found is long told =
     let all : length places ≡ places_a_side = sym (length-map places row_of) ∙ (rw is at long) in
     rw (told, is, orders_rows places, none_used true last [] places, eq-eqb (length places) places_a_side all) (skipped (eqb used 0) (every is_unused places))
   where
@@ -34,5 +34,5 @@ pub returns : goal.returns
 returns c =
     let s = c.side_of-s in
     let sound = c.side_sound in
-    empty-found _ s.result.used s.result.places _ sound.result c.load.ensures c.whole.ensures sound.ensures
+    empty_found _ s.result.used s.result.places _ sound.result c.load.ensures c.whole.ensures sound.ensures
     ∙ ap (λ (x : Side). is_empty (places_on x)) s.ensures

@@ -11,14 +11,14 @@ use Rattle.book.specs.Record.{record_in, book_with}
 use Rattle.lent.specs.Lent.{places_lent, with_places}
 use Rattle.lent.proofs.put_in.Goals as goal
 
-counted-so : (buys : Bool) (book : Book) (places : List Resting) (used : ℕ) → used ≡ first_where is_unused places
+counted_so : (buys : Bool) (book : Book) (places : List Resting) (used : ℕ) → used ≡ first_where is_unused places
     → (whole : Book) → whole ≡ book_with (with_places buys (record { used = used; places = places }) (record_in book))
     → whole ≡ book_with (with_places buys (places_lent places) (record_in book))
-counted-so buys book places used used_is whole whole_is = rw used_is at whole_is
+counted_so buys book places used used_is whole whole_is = rw used_is at whole_is
 
 pub returns : goal.returns
 returns c =
     let a = c.args in
     let used = c.used_in in
     let whole = c.with_side in
-    record { value = counted-so a.buys a.book a.places used.result used.ensures.value whole.result whole.ensures; places_len = used.ensures.places_len }
+    record { value = counted_so a.buys a.book a.places used.result used.ensures.value whole.result whole.ensures; places_len = used.ensures.places_len }

@@ -1,3 +1,4 @@
+-- `lent::take`: what its loop keeps, and its measure.
 use Rattle.std.proofs.Common.{◌≡◌, ◌-◌, ◌≤◌, length, take}
 use Rattle.rules.specs.Book.{places_a_side}
 use Rattle.lent.proofs.take.Given as goal

@@ -9,14 +9,14 @@ use Rattle.book.specs.Record.{record_in, book_with}
 use Rattle.lent.specs.Lent.{no_places, side_of, with_places, apart_of}
 use Rattle.lent.proofs.take_apart.Goals as goal
 
-taken-apart : (buys : Bool) (reply : Reply) (left : List Resting) → left ≡ (side_of buys (record_in reply.book)).places
+taken_apart : (buys : Bool) (reply : Reply) (left : List Resting) → left ≡ (side_of buys (record_in reply.book)).places
     → (apart : Book) → apart ≡ book_with (with_places buys no_places (record_in reply.book))
     → record { reply = record { refusal = reply.refusal; length = reply.length; book = apart }; places = left } ≡ apart_of buys reply
-taken-apart buys reply left left_is apart apart_is = rw (left_is, apart_is)
+taken_apart buys reply left left_is apart apart_is = rw (left_is, apart_is)
 
 pub returns : goal.returns
 returns c =
     let a = c.args in
     let left = c.places_in-left in
     let apart = c.take_out-apart in
-    c.worked_of.ensures ∙ taken-apart a.buys a.reply left.result left.ensures apart.result apart.ensures
+    c.worked_of.ensures ∙ taken_apart a.buys a.reply left.result left.ensures apart.result apart.ensures

@@ -4,7 +4,7 @@ use mathlib.Core.Path.{◌≡◌, sym, ◌∙◌}
 use borrow.Author.Tests.{eq-eqb, ne_eqb}
 use Rattle.rules.specs.Book.{Book}
 use Rattle.basics.proofs.LawsChoice.{and_left}
-use Rattle.rules.specs.Instructions.{displayed, reserve, has, needs as needs-of, lawful}
+use Rattle.rules.specs.Instructions.{displayed, reserve, has, needs as needs_of, lawful}
 use Rattle.rules.specs.Refusals.{carries_floor, carries_minimum, order_lawful, order_in_range}
 use Rattle.rules.specs.Working.{buying}
 use Rattle.side.specs.Tables.{book_on}
@@ -21,12 +21,12 @@ book s = let a = s.args in book_on a.h a.x.now a.buys.now a.y.now a.sells.now
 is_lawful : (c : Else-not-order_lawful) → order_lawful c.args.o ≡ true
 is_lawful c = sym c.order_lawful.ensures ∙ c.if-not-order_lawful.false
 
-word-lawful : (c : Else-not-order_lawful) → lawful c.args.o.word ≡ true
-word-lawful c =
+word_lawful : (c : Else-not-order_lawful) → lawful c.args.o.word ≡ true
+word_lawful c =
     let o = c.args.o in
     let tied = beq (has o.word reserve) (carries_floor o.carried) in
     and_left (lawful o.word) tied
-    (and_left (lawful o.word && tied) (needs-of (carries_minimum o.carried) (not (has o.word displayed))) (is_lawful c))
+    (and_left (lawful o.word && tied) (needs_of (carries_minimum o.carried) (not (has o.word displayed))) (is_lawful c))
 
 -- and in range
 in_range : (c : Else-not-order_in_range) → order_in_range c.args.o ≡ true
@@ -53,8 +53,12 @@ pub match_order-r-requires : goal.match_order-r-requires
 match_order-r-requires c =
     let a = c.args in
     let p = c.requires in
-    let q : buying a.o ≡ true = eq-eqb _ _ c.if-o-eq0.true in
-    (p.0.buys, p.0.sells, ready a.o a.number true (book (goal.at.match_order-r-requires c).Start) p.0.is_sound p.2 (word-lawful (goal.at.match_order-r-requires c).Else-not-order_lawful) (in_range (goal.at.match_order-r-requires c).Else-not-order_in_range) q, p.1)
+    let q : buying a.o ≡ true = eq-eqb _ _ c.if-o-eq0.true in (
+      p.0.buys,
+      p.0.sells,
+      ready a.o a.number true (book (goal.at.match_order-r-requires c).Start) p.0.is_sound p.2 (word_lawful (goal.at.match_order-r-requires c).Else-not-order_lawful) (in_range (goal.at.match_order-r-requires c).Else-not-order_in_range) q,
+      p.1,
+    )
 
 pub returns-then-o-eq0 : goal.returns-then-o-eq0
 returns-then-o-eq0 c =
@@ -70,8 +74,12 @@ pub match_order-r-requires-2 : goal.match_order-r-requires-2
 match_order-r-requires-2 c =
     let a = c.args in
     let p = c.requires in
-    let q : buying a.o ≡ false = ne_eqb _ _ c.if-o-eq0.false in
-    (p.0.sells, p.0.buys, ready a.o a.number false (book (goal.at.match_order-r-requires-2 c).Start) p.0.is_sound p.2 (word-lawful (goal.at.match_order-r-requires-2 c).Else-not-order_lawful) (in_range (goal.at.match_order-r-requires-2 c).Else-not-order_in_range) q, p.1)
+    let q : buying a.o ≡ false = ne_eqb _ _ c.if-o-eq0.false in (
+      p.0.sells,
+      p.0.buys,
+      ready a.o a.number false (book (goal.at.match_order-r-requires-2 c).Start) p.0.is_sound p.2 (word_lawful (goal.at.match_order-r-requires-2 c).Else-not-order_lawful) (in_range (goal.at.match_order-r-requires-2 c).Else-not-order_in_range) q,
+      p.1,
+    )
 
 pub returns : goal.returns
 returns c =

@@ -2,7 +2,7 @@
 -- events of a walk's takings are the executions of 01. Assumes nothing.
 use Prim.Native.Nat.{ℕ, ◌+◌, ◌-◌, ◌*◌, ◌<◌}
 use mathlib.Core.Bool.{true, false}
-use mathlib.Core.List.{List, [], ◌∷◌, ◌++◌, map, append-nil}
+use mathlib.Core.List.{List, [], ◌∷◌, ◌++◌, map, append-nil, map-append}
 use mathlib.Core.Logic.{⊎_elim}
 use mathlib.Core.Path.{◌≡◌, refl, sym, ap, ◌∙◌}
 use lib.Dec.{eqb}
@@ -15,7 +15,7 @@ use Rattle.basics.specs.Bytes.{onto, onto_from}
 use Rattle.basics.specs.Lists.{All, none, also}
 use Rattle.basics.proofs.LawsBytes.{onto_next, onto_part}
 use Rattle.basics.proofs.LawsChoice.{holds_or_not}
-use Rattle.basics.proofs.LawsLists.{map-append, all_at}
+use Rattle.basics.proofs.LawsLists.{all_at}
 use Rattle.kinds.specs.declared.HalfCents.{HalfCents}
 use Rattle.kinds.specs.declared.Number.{Number}
 use Rattle.rules.specs.declared.Event.{Event}

@@ -1,3 +1,4 @@
+-- `program::run`: what its loop keeps, and its measure.
 use Prim.Native.Nat.{◌≤◌}
 use lib.ListN.{length}
 use Rattle.side.specs.Answers.{Stands}

@@ -34,9 +34,9 @@ tested : {bid offer : Bool} (away : Away) (v : Bool) → bid ≡ away_in_range a
 tested away v bid offer is = ap not (rw (bid, offer) at is)
 
 -- where both are in range, both sides are ready for their moves
-sides-ready : (c : Else-not-away_in_range) (buy : Bool) (k : ℕ) → let a = c.args in
+sides_ready : (c : Else-not-away_in_range) (buy : Bool) (k : ℕ) → let a = c.args in
     Ready buy (book_on a.h a.x.now a.buys.now a.y.now a.sells.now) a.number k a.away
-sides-ready c buy k =
+sides_ready c buy k =
     let a = c.args in
     let p = c.requires in
     let accepted = tested a.away true c.away_in_range.ensures c.away_in_range-2.ensures c.if-not-away_in_range.false in
@@ -50,19 +50,19 @@ module _ (c : After-move_side-bought) where
   abbrev fate : Resting → Fate
   fate = quote_fate c.args.away true
 
-  bought-is : c.move_side-bought.result ≡ settled_in c.args.number first_move true fate book.buys
-  bought-is = c.move_side-bought.ensures.value
+  bought_is : c.move_side-bought.result ≡ settled_in c.args.number first_move true fate book.buys
+  bought_is = c.move_side-bought.ensures.value
 
-  bought-long : c.move_side-bought.result.length ≡ length (event_lines (told fate book.buys))
-  bought-long = ap (λ (m : Settled). m.length) bought-is
+  bought_long : c.move_side-bought.result.length ≡ length (event_lines (told fate book.buys))
+  bought_long = ap (λ (m : Settled). m.length) bought_is
 
   next_is : c.move_side-bought.result.next ≡ next_move c.args.away book
-  next_is = ap (λ (m : Settled). m.next) bought-is
+  next_is = ap (λ (m : Settled). m.next) bought_is
 
   -- the bytes behind their lines
   room : length (event_lines (told fate book.buys)) ≤ 27 * places_a_side
       → c.move_side-bought.result.length + 27 * places_a_side ≤ length c.move_side-bought.new.out
-  room lines = omega (arith, bought-long, lines, c.move_side-bought.auto.out, c.requires.1)
+  room lines = omega (arith, bought_long, lines, c.move_side-bought.auto.out, c.requires.1)
 
 -- what the moves of the sells leave
 module _ (c : After-move_side-sold) where
@@ -79,14 +79,14 @@ module _ (c : After-move_side-sold) where
   behind : c.move_side-bought.result.next ≡ next_move away whole
   behind = ap (λ (m : Settled). m.next) c.move_side-bought.ensures.value
 
-  sold-is : c.move_side-sold.result ≡ settled_in number (next_move away whole) false (quote_fate away false) whole.sells
-  sold-is = c.move_side-sold.ensures.value ∙ ap (λ (k : ℕ). settled_in number k false (quote_fate away false) whole.sells) behind
+  sold_is : c.move_side-sold.result ≡ settled_in number (next_move away whole) false (quote_fate away false) whole.sells
+  sold_is = c.move_side-sold.ensures.value ∙ ap (λ (k : ℕ). settled_in number k false (quote_fate away false) whole.sells) behind
 
-  sold-long : c.move_side-sold.result.length ≡ length (event_lines (told (quote_fate away false) whole.sells))
-  sold-long = ap (λ (m : Settled). m.length) sold-is
+  sold_long : c.move_side-sold.result.length ≡ length (event_lines (told (quote_fate away false) whole.sells))
+  sold_long = ap (λ (m : Settled). m.length) sold_is
 
-  sold-shown : Shows (settled_side number (next_move away whole) false (quote_fate away false) whole.sells) c.move_side-sold.new.x c.move_side-sold.new.t
-  sold-shown =
+  sold_shown : Shows (settled_side number (next_move away whole) false (quote_fate away false) whole.sells) c.move_side-sold.new.x c.move_side-sold.new.t
+  sold_shown =
       subst (λ (k : ℕ). Shows (settled_side number k false (quote_fate away false) whole.sells) c.move_side-sold.new.x c.move_side-sold.new.t)
       behind c.move_side-sold.ensures.shows
 
@@ -97,16 +97,16 @@ returns-then-not-away_in_range c =
     let a = c.args in
     let b = book_on a.h a.x.now a.buys.now a.y.now a.sells.now in
     let refused : c.refuse.result ≡ record { refusal = 9; head = a.h; length = 0 } = c.refuse.ensures in
-    let out-of-range = tested a.away false c.away_in_range.ensures c.away_in_range-2.ensures c.if-not-away_in_range.true in
+    let out_of_range = tested a.away false c.away_in_range.ensures c.away_in_range-2.ensures c.if-not-away_in_range.true in
     rw refused
     (left_refused a.h a.x.now a.buys.now a.y.now a.sells.now c.requires.0 9 a.out.now
-    (body_answer a.number a.time (body.Quote a.away) b) (quote_refused a.number a.time a.away b out-of-range))
+    (body_answer a.number a.time (body.Quote a.away) b) (quote_refused a.number a.time a.away b out_of_range))
 
 -- ── The buys ──
 
 pub move_side-bought-requires : goal.move_side-bought-requires
 move_side-bought-requires c =
-    let r = sides-ready (goal.at.move_side-bought-requires c).Else-not-away_in_range true first_move in
+    let r = sides_ready (goal.at.move_side-bought-requires c).Else-not-away_in_range true first_move in
     let p = c.requires in
     (p.0.buys, r.ranked, omega (arith, p.0.buys.fits), omega (arith, r.lines, p.1), (r.priced, r.older), r.countable)
 
@@ -115,12 +115,12 @@ move_side-bought-requires c =
 pub slice_bounds-move_side-count : goal.slice_bounds-move_side-count
 slice_bounds-move_side-count c =
     let at = goal.at.slice_bounds-move_side-count c in
-    omega (arith, room at.After-move_side-bought (sides-ready at.Else-not-away_in_range true first_move).lines)
+    omega (arith, room at.After-move_side-bought (sides_ready at.Else-not-away_in_range true first_move).lines)
 
 pub slice_bounds-move_side-start : goal.slice_bounds-move_side-start
 slice_bounds-move_side-start c =
     let at = goal.at.slice_bounds-move_side-start c in
-    omega (arith, room at.After-move_side-bought (sides-ready at.Else-not-away_in_range true first_move).lines)
+    omega (arith, room at.After-move_side-bought (sides_ready at.Else-not-away_in_range true first_move).lines)
 
 pub move_side-sold-requires : goal.move_side-sold-requires
 move_side-sold-requires c =
@@ -128,8 +128,8 @@ move_side-sold-requires c =
     let here = at.After-move_side-bought in
     let m = c.move_side-bought.result in
     let y = c.move_side-bought.new.out in
-    let first = sides-ready at.Else-not-away_in_range true first_move in
-    let r = sides-ready at.Else-not-away_in_range false m.next in
+    let first = sides_ready at.Else-not-away_in_range true first_move in
+    let r = sides_ready at.Else-not-away_in_range false m.next in
     let p = c.requires in
     let fits : 27 * places_a_side ≤ length (take (length y - m.length) (drop m.length y)) =
     simp (length-take, length-drop) (omega (arith, room here first.lines)) in
@@ -139,9 +139,9 @@ move_side-sold-requires c =
 pub overflow_add-result : goal.overflow_add-result
 overflow_add-result c =
     let at = goal.at.overflow_add-result c in
-    let bought = (sides-ready at.Else-not-away_in_range true first_move).lines in
-    let sold = (sides-ready at.Else-not-away_in_range false first_move).lines in
-    record { fits = omega (arith, bought-long at.After-move_side-bought, sold-long at.After-move_side-sold, bought, sold) }
+    let bought = (sides_ready at.Else-not-away_in_range true first_move).lines in
+    let sold = (sides_ready at.Else-not-away_in_range false first_move).lines in
+    record { fits = omega (arith, bought_long at.After-move_side-bought, sold_long at.After-move_side-sold, bought, sold) }
 
 pub returns : goal.returns
 returns c =
@@ -158,13 +158,13 @@ returns c =
     let after : Head = record { held = d.book.held; buys = bought.result.held; sells = sold.result.held } in
     let head : after ≡ head_of d.book =
     head_is_lem d.book bought.result.held sold.result.held
-    (sym (ap (λ (m : Settled). m.held) (bought-is x))) (sym (ap (λ (m : Settled). m.held) (sold-is y))) in
+    (sym (ap (λ (m : Settled). m.held) (bought_is x))) (sym (ap (λ (m : Settled). m.held) (sold_is y))) in
     let lines = told (quote_fate a.away true) b.buys in
     let more = told (quote_fate a.away false) b.sells in
     let long : len ≡ length (event_lines (lines ++ more)) =
-    rw (event_lines_append lines more, length-append (event_lines lines) (event_lines more)) (omega (arith, bought-long x, sold-long y)) in
+    rw (event_lines_append lines more, length-append (event_lines lines) (event_lines more)) (omega (arith, bought_long x, sold_long y)) in
     let written =
-    lines_behind lines more bought.result.length bought.new.out a.out.now sold.new.out (bought-long x) bought.ensures.out_after sold.ensures.out_after in
+    lines_behind lines more bought.result.length bought.new.out a.out.now sold.new.out (bought_long x) bought.ensures.out_after sold.ensures.out_after in
     left_done d after len bought.new.x bought.new.t sold.new.x sold.new.t _ a.out.now
     (body_answer a.number a.time (body.Quote a.away) b) (quote_done a.number a.time a.away b accepted) head long
-    bought.ensures.shows (sold-shown y) written
+    bought.ensures.shows (sold_shown y) written

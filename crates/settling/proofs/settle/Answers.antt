@@ -26,13 +26,13 @@ behind : (len size : ℕ) (out : List ℕ) → len + size ≤ length out → siz
 behind len size out room = simp (length-take, length-drop) (omega arith)
 
 -- the length of the buffer is a number of 64 bits; a search behind the calls does not reach back to where that is known
-buffer-fits : (c : Start) → length c.args.out.now < 18446744073709551616
-buffer-fits c = c.well_formed.1.1.1.1.1.1.1.1.0.0
+buffer_fits : (c : Start) → length c.args.out.now < 18446744073709551616
+buffer_fits c = c.well_formed.1.1.1.1.1.1.1.1.0.0
 
 -- that it is, and the room for its line
-cancelled-at : (c : In-IsCancelled) → let a = c.args in
+cancelled_at : (c : In-IsCancelled) → let a = c.args in
     (a.fate ≡ IsCancelled c.in-IsCancelled.reason) × (a.m.length + 21 ≤ length a.out.now)
-cancelled-at c =
+cancelled_at c =
     let a = c.args in
     let is : a.fate ≡ IsCancelled c.in-IsCancelled.reason = c.in-IsCancelled.is in
     let room : a.m.length + length (event_lines (told_by a.fate a.o)) ≤ length a.out.now = c.requires.3 in
@@ -52,10 +52,10 @@ set_at c =
     (is, omega (arith, rw (is, event_lines_one e) at room, moved_length new.number new.price new.shares))
 
 -- the side without it
-left-side : (c : After-remove-in-IsSet) → let a = c.args in
+left_side : (c : After-remove-in-IsSet) → let a = c.args in
     let x = c.remove-in-IsSet.new.x in
     (side (a.m.held - 1) x a.t.now ≡ remove_at a.at (side a.m.held a.x.now a.t.now)) × Holds (a.m.held - 1) x a.t.now
-left-side c =
+left_side c =
     let a = c.args in
     let x = c.remove-in-IsSet.new.x in
     let s = side a.m.held a.x.now a.t.now in
@@ -87,10 +87,15 @@ shares_left-left-requires c = c.requires.5
 pub write_cancelled-more-requires : goal.write_cancelled-more-requires
 write_cancelled-more-requires c =
     let a = c.args in
-    behind a.m.length 21 a.out.now (cancelled-at (goal.at.write_cancelled-more-requires c).In-IsCancelled).1
+    behind a.m.length 21 a.out.now (cancelled_at (goal.at.write_cancelled-more-requires c).In-IsCancelled).1
 
 pub overflow_add-result : goal.overflow_add-result
-overflow_add-result c = omega (arith, c.write_cancelled-more.ensures.value, (cancelled-at (goal.at.overflow_add-result c).In-IsCancelled).1, buffer-fits (goal.at.overflow_add-result c).Start)
+overflow_add-result c = omega (
+  arith,
+  c.write_cancelled-more.ensures.value,
+  (cancelled_at (goal.at.overflow_add-result c).In-IsCancelled).1,
+  buffer_fits (goal.at.overflow_add-result c).Start,
+)
 
 pub returns-in-IsCancelled : goal.returns-in-IsCancelled
 returns-in-IsCancelled c =
@@ -105,20 +110,27 @@ returns-in-IsCancelled c =
     w.ensures.out_after ∙ rw counted in
     let gone : Shows (remove_at a.at (side a.m.held a.x.now a.t.now)) c.remove.new.x a.t.now =
     c.remove.ensures in
-    rw ((cancelled-at (goal.at.returns-in-IsCancelled c).In-IsCancelled).0, event_lines_one e) record { value = ap (λ (l : ℕ). record { held = a.m.held - 1; next = a.m.next; length = a.m.length + l }) more; shows = gone; out_after = onto_part a.m.length (event_line e) a.out.now w.new.out written }
+    rw ((cancelled_at (goal.at.returns-in-IsCancelled c).In-IsCancelled).0, event_lines_one e) record {
+      value = ap (λ (l : ℕ). record { held = a.m.held - 1; next = a.m.next; length = a.m.length + l }) more;
+      shows = gone;
+      out_after = onto_part a.m.length (event_line e) a.out.now w.new.out written;
+    }
 
 -- ── It is set anew ──
 
 pub rest-requires : goal.rest-requires
 rest-requires c =
-    let left = left-side (goal.at.rest-requires c).After-remove-in-IsSet in
+    let left = left_side (goal.at.rest-requires c).After-remove-in-IsSet in
     let a = c.args in
     let fits = c.requires.0.fits in
     let below : set_below a.fate = c.requires.6.0 in (
       left.1,
       omega (arith, fits, c.requires.1),
       ap (in_rank_order a.buying) left.0 ∙ c.requires.2,
-      rw (set_is (goal.at.rest-requires c).After-stamped_as, left.0) (record { priced = rw (set_at (goal.at.rest-requires c).In-IsSet).0 at below; others = c.requires.6.1 }),
+      rw (set_is (goal.at.rest-requires c).After-stamped_as, left.0) (record {
+        priced = rw (set_at (goal.at.rest-requires c).In-IsSet).0 at below;
+        others = c.requires.6.1;
+      }),
     )
 
 pub write_moved-more-requires : goal.write_moved-more-requires
@@ -127,13 +139,18 @@ write_moved-more-requires c =
     behind a.m.length 27 a.out.now (set_at (goal.at.write_moved-more-requires c).In-IsSet).1
 
 pub overflow_add-result-in-IsSet-2 : goal.overflow_add-result-in-IsSet-2
-overflow_add-result-in-IsSet-2 c = omega (arith, c.write_moved-more.ensures.value, (set_at (goal.at.overflow_add-result-in-IsSet-2 c).In-IsSet).1, buffer-fits (goal.at.overflow_add-result-in-IsSet-2 c).Start)
+overflow_add-result-in-IsSet-2 c = omega (
+  arith,
+  c.write_moved-more.ensures.value,
+  (set_at (goal.at.overflow_add-result-in-IsSet-2 c).In-IsSet).1,
+  buffer_fits (goal.at.overflow_add-result-in-IsSet-2 c).Start,
+)
 
 pub returns-in-IsSet : goal.returns-in-IsSet
 returns-in-IsSet c =
     let w = c.write_moved-more in
     let rest = c.rest in
-    let left = left-side (goal.at.returns-in-IsSet c).After-remove-in-IsSet in
+    let left = left_side (goal.at.returns-in-IsSet c).After-remove-in-IsSet in
     let a = c.args in
     let new = c.in-IsSet.new in
     let e = Moved new.number new.price new.shares in
@@ -142,4 +159,8 @@ returns-in-IsSet c =
     let x = c.remove-in-IsSet.new.x in
     let put : Shows (insert a.buying c.stamped_as.result (side (a.m.held - 1) x a.t.now))
     rest.new.x rest.new.t = rest.ensures in
-    rw ((set_at (goal.at.returns-in-IsSet c).In-IsSet).0, event_lines_one e) record { value = ap (λ (l : ℕ). record { held = a.m.held; next = a.m.next + 1; length = a.m.length + l }) more; shows = rw (set_is (goal.at.returns-in-IsSet c).After-stamped_as, left.0) at put; out_after = onto_part a.m.length (event_line e) a.out.now w.new.out written }
+    rw ((set_at (goal.at.returns-in-IsSet c).In-IsSet).0, event_lines_one e) record {
+      value = ap (λ (l : ℕ). record { held = a.m.held; next = a.m.next + 1; length = a.m.length + l }) more;
+      shows = rw (set_is (goal.at.returns-in-IsSet c).After-stamped_as, left.0) at put;
+      out_after = onto_part a.m.length (event_line e) a.out.now w.new.out written;
+    }

@@ -1,3 +1,4 @@
+-- `side::find`: what its loop keeps, and its measure.
 use Prim.Native.Nat.{◌+◌, ◌-◌, ◌≤◌}
 use mathlib.Core.Path.{◌≡◌}
 use lib.ListN.{drop}

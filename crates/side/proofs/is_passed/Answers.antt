@@ -11,10 +11,10 @@ use Rattle.side.proofs.is_passed.Goals as goal
 use Rattle.side.proofs.is_passed.Goals.{After-level_at-level}
 
 -- the level that was read
-level-is : (c : After-level_at-level)
+level_is : (c : After-level_at-level)
     → let a = c.args in
     c.level_at-level.result ≡ level_in a.buying (get_or a.t.now (get_or a.x.now a.i 0) [])
-level-is c =
+level_is c =
     let a = c.args in
     let w : c.wide.result ≡ get_or a.x.now a.i 0 = c.wide.ensures in
     c.level_at-level.ensures ∙ ap (λ (j : ℕ). level_in a.buying (get_or a.t.now j [])) w
@@ -26,7 +26,7 @@ level_at-level-requires c =
     omega (arith, names_below a.x.now c.requires.0 a.i c.requires.1)
 
 pub returns-then-mine-level : goal.returns-then-mine-level
-returns-then-mine-level c = rw (← level-is (goal.at.returns-then-mine-level c).After-level_at-level, lt-ltb _ _ c.if-mine-level.true)
+returns-then-mine-level c = rw (← level_is (goal.at.returns-then-mine-level c).After-level_at-level, lt-ltb _ _ c.if-mine-level.true)
 
 pub returns-else-mine-level : goal.returns-else-mine-level
-returns-else-mine-level c = rw (← level-is (goal.at.returns-else-mine-level c).After-level_at-level, le-ltb _ _ c.if-mine-level.false)
+returns-else-mine-level c = rw (← level_is (goal.at.returns-else-mine-level c).After-level_at-level, le-ltb _ _ c.if-mine-level.false)

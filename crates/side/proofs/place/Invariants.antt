@@ -1,3 +1,4 @@
+-- `side::place`: what its loops keep, and their measures.
 use Rattle.side.proofs.LawsHalves.{passed, Within}
 use Rattle.side.proofs.place.Given as goal
 

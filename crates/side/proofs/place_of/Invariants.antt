@@ -1,3 +1,4 @@
+-- `side::place_of`: what its loops keep, and their measures.
 use Prim.Native.Nat.{◌+◌, ◌-◌, ◌≤◌, ◌<◌}
 use Rattle.side.specs.Table.{places_a_part}
 use Rattle.side.proofs.place_of.Given as goal

@@ -1,12 +1,11 @@
 -- A list copied place by place onto another, each element changed by a function: loading and saving are both this. Assumes nothing.
 use Prim.Native.Nat.{ℕ, ◌+◌, ◌≤◌, ◌<◌}
-use mathlib.Core.List.{List, [], ◌∷◌, ◌++◌, map, append-nil}
+use mathlib.Core.List.{List, [], ◌∷◌, ◌++◌, map, append-nil, map-append}
 use mathlib.Core.Path.{◌≡◌, ◌∙◌}
 use lib.ListN.{length, take, drop, get_or, set, length-map, drop_of_length-le}
 use lib.Seq.{take-suc, drop-cons, set_at, length-take-le, take_all, append_snoc}
 use native.Mathlib.Numerals.{add-one}
 use native.Mathlib.Omega.{arith}
-use Rattle.basics.proofs.LawsLists.{map-append}
 
 -- the first i places are copied
 abbrev pub copied : {A B : Type 0} → (A → B) → List A → List B → ℕ → List B

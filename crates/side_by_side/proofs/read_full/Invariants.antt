@@ -1,3 +1,4 @@
+-- `side_by_side::read_full`: what its loop keeps, and its measure.
 use Prim.Native.Nat.{◌-◌, ◌≤◌}
 use lib.ListN.{length}
 use Rattle.side_by_side.proofs.read_full.Given as goal

@@ -1,3 +1,4 @@
+-- `side_by_side::run_day`: what its loop keeps, and its measure.
 use Prim.Native.Nat.{◌-◌, ◌≤◌}
 use lib.ListN.{length}
 use Rattle.side_by_side.proofs.run_day.Given as goal

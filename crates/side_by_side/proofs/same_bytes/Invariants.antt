@@ -1,3 +1,4 @@
+-- `side_by_side::same_bytes`: what its loop keeps, and its measure.
 use Prim.Native.Nat.{◌-◌, ◌≤◌}
 use lib.ListN.{length}
 use Rattle.side_by_side.proofs.same_bytes.Given as goal

@@ -1,3 +1,4 @@
+-- `side_by_side::same_places`: what its loop keeps, and its measure.
 use Prim.Native.Nat.{◌-◌, ◌≤◌}
 use Rattle.rules.specs.Book.{places_a_side}
 use Rattle.side_by_side.proofs.same_places.Given as goal

@@ -26,5 +26,5 @@ unfolding added
 returns c =
     let a = c.args in
     let within : a.t.executed.0 + a.executed ≤ largest = omega arith in
-    let within-too : a.t.cancelled.0 + a.cancelled ≤ largest = omega arith in
-    rw (le-ltb _ _ within, le-ltb _ _ within-too, c.one_more.ensures)
+    let within_too : a.t.cancelled.0 + a.cancelled ≤ largest = omega arith in
+    rw (le-ltb _ _ within, le-ltb _ _ within_too, c.one_more.ensures)

@@ -1,3 +1,4 @@
+-- `tally::feed`: what its loop keeps, and its measure.
 use Prim.Native.Nat.{◌-◌}
 use lib.ListN.{length}
 use Rattle.tally.proofs.LawsFed.{Feeding}

@@ -10,9 +10,9 @@ use Rattle.rules.specs.EventLines.{refusal_kind}
 use Rattle.rules.specs.EventReading.{is_kind}
 use Rattle.tally.proofs.tells_a_refusal.Goals as goal
 
-is-kind : (kind : ℕ) (v : Value) → is_kind kind v ≡ ((field_of v).good && eqb (field_of v).number kind)
-is-kind kind (Is n) = refl
-is-kind kind Bad = refl
+is_kind_lem : (kind : ℕ) (v : Value) → is_kind kind v ≡ ((field_of v).good && eqb (field_of v).number kind)
+is_kind_lem kind (Is n) = refl
+is_kind_lem kind Bad = refl
 
 pub returns : goal.returns
-returns c = rw c.field_at-kind.ensures (sym (is-kind refusal_kind (number_at 1 0 c.args.line.now)))
+returns c = rw c.field_at-kind.ensures (sym (is_kind_lem refusal_kind (number_at 1 0 c.args.line.now)))

@@ -1,3 +1,4 @@
+-- `tally_day::decimal_in`: what its loop keeps, and its measure.
 use Prim.Native.Nat.{◌-◌}
 use lib.ListN.{length}
 use Rattle.tally_day.proofs.LawsDecimal.{Reading}

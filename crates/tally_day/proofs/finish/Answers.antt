@@ -17,10 +17,10 @@ module _ (n : Number) (t : Tally) where
   no_part [] e = refl
   no_part (c ∷ part) e = absurd (omega (arith, e))
 
-  some-part : (part : List ℕ) → 0 < length part → turn n t part ≡ after_part (turn n) t part
+  some_part : (part : List ℕ) → 0 < length part → turn n t part ≡ after_part (turn n) t part
   unfolding unended_line after_lines
-  some-part [] l = absurd (omega (arith, l))
-  some-part (c ∷ part) l = refl
+  some_part [] l = absurd (omega (arith, l))
+  some_part (c ∷ part) l = refl
 
 pub returns-then-part-eq0 : goal.returns-then-part-eq0
 returns-then-part-eq0 c =
@@ -30,4 +30,4 @@ returns-then-part-eq0 c =
 pub returns : goal.returns
 returns c =
     let a = c.args in
-    c.take_line.ensures ∙ some-part a.number a.t a.part.now (omega (arith, c.if-part-eq0.false))
+    c.take_line.ensures ∙ some_part a.number a.t a.part.now (omega (arith, c.if-part-eq0.false))

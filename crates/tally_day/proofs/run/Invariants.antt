@@ -1,3 +1,4 @@
+-- `tally_day::run`: what its loop keeps, and its measure.
 use Prim.Native.Nat.{◌≤◌}
 use Rattle.command_lines.specs.Pieces.{part_kept}
 use Rattle.tally_day.proofs.run.Given as goal

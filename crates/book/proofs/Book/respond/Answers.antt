@@ -31,7 +31,10 @@ returns-in_default c =
 pub work-requires : goal.work-requires
 work-requires c =
     let a = c.args in
-    record { self_value = fit (record_in a.self) a.out.now (sym c.if-refusal-ne0.false ∙ c.unfit-refusal.ensures); buys_value = (c.load.ensures.buys_after, c.load.ensures.sells_after) }
+    record {
+      self_value = fit (record_in a.self) a.out.now (sym c.if-refusal-ne0.false ∙ c.unfit-refusal.ensures);
+      buys_value = (c.load.ensures.buys_after, c.load.ensures.sells_after);
+    }
 
 pub returns : goal.returns
 returns c = rw c.in-Is.is c.work.ensures

@@ -35,8 +35,8 @@ module _ (i from end most : ℕ) where
 
   -- the bytes up to `i` are then those that are carried
   module _ (a : List ℕ) (l : from ≤ end) (w : end ≤ length a) (e : i ≡ min end (from + most)) where
-    moved-is : drop from (take i a) ≡ carried a from end most
-    moved-is =
+    moved_is : drop from (take i a) ≡ carried a from end most
+    moved_is =
         let s = take end a in
         let u : length s ≡ end = length-take-le end a w in
         ⊎_elim
@@ -49,12 +49,12 @@ module _ (i from end most : ℕ) where
         (drop_at (take from s) (take most (drop from s)) from (length-take-le from s (omega arith))))
         (lt_or_le end (from + most))
 
-    carried-long : i - from ≡ length (carried a from end most)
-    carried-long = simp (length-take, length-drop) (omega arith)
+    carried_long : i - from ≡ length (carried a from end most)
+    carried_long = simp (length-take, length-drop) (omega arith)
 
-    carried-front : moved a from i ≡ onto (carried a from end most) a
+    carried_front : moved a from i ≡ onto (carried a from end most) a
     unfolding onto
-    carried-front = rw (moved-is, carried-long)
+    carried_front = rw (moved_is, carried_long)
 
 on : (c : In-loop-i)
     → (c.loop-i.i < c.args.end) × (c.loop-i.i - c.args.from < c.args.most)
@@ -94,4 +94,7 @@ returns c =
     let l = c.loop-i in
     let a = c.args in
     let p = c.requires in
-    let e = ended l.i a.from a.end a.most l.invariant.0 l.invariant.1 l.invariant.2 c.loop-i-test.false in record { value = carried-long l.i a.from a.end a.most a.input.now p.0 p.1 e; input_after = l.invariant.4 ∙ carried-front l.i a.from a.end a.most a.input.now p.0 p.1 e }
+    let e = ended l.i a.from a.end a.most l.invariant.0 l.invariant.1 l.invariant.2 c.loop-i-test.false in record {
+      value = carried_long l.i a.from a.end a.most a.input.now p.0 p.1 e;
+      input_after = l.invariant.4 ∙ carried_front l.i a.from a.end a.most a.input.now p.0 p.1 e;
+    }

@@ -21,8 +21,8 @@ module _ (c : After-field_at-number) where
   abbrev read : List Field
   read = c.field_at-number.result ∷ []
 
-  are-read : fields_from 0 cancel_form body ≡ read
-  are-read =
+  are_read : fields_from 0 cancel_form body ≡ read
+  are_read =
       let number = c.field_at-number.ensures in
       λ i. sym number i ∷ []
 
@@ -34,10 +34,10 @@ pub returns-then-not-number : goal.returns-then-not-number
 unfolding body_of_form
 returns-then-not-number c =
     let here = (goal.at.returns-then-not-number c).After-field_at-number in
-    rw (ended here, numbers_bad 0 cancel_form (body here) (read here) (are-read here) (not-true _ c.if-not-number.true))
+    rw (ended here, numbers_bad 0 cancel_form (body here) (read here) (are_read here) (not-true _ c.if-not-number.true))
 
 pub returns : goal.returns
 unfolding body_of_form
 returns c =
     let here = (goal.at.returns c).After-field_at-number in
-    rw (ended here, numbers_good 0 cancel_form (body here) (read here) (are-read here) (not-false _ c.if-not-number.false))
+    rw (ended here, numbers_good 0 cancel_form (body here) (read here) (are_read here) (not-false _ c.if-not-number.false))

@@ -31,8 +31,8 @@ module _ (c : After-field_at-last) where
       let e = sym c.is_ended-2.ensures ∙ c.if-not-is_ended-2.false in
       rw (ne_eqb _ _ c.if-kind-eq1.false, c.if-not-kind.false, e)
 
-  is-good : (b : Bool) → c.field_at-last.result.good ≡ b → (field_of (number_at 4 22 body)).good ≡ b
-  is-good b e = sym (ap (λ (x : Field). x.good) c.field_at-last.ensures) ∙ e
+  is_good : (b : Bool) → c.field_at-last.result.good ≡ b → (field_of (number_at 4 22 body)).good ≡ b
+  is_good b e = sym (ap (λ (x : Field). x.good) c.field_at-last.ensures) ∙ e
 
 pub returns-then-not-is_ended : goal.returns-then-not-is_ended
 unfolding carried_in
@@ -59,14 +59,14 @@ returns-then-not-is_ended-2 c =
 pub returns-then-not-last : goal.returns-then-not-last
 returns-then-not-last c =
     let here = (goal.at.returns-then-not-last c).After-field_at-last in
-    rw (has_number here, last_bad (last_of (kind here)) (number_at 4 22 (body here)) (is-good here false (not-true _ c.if-not-last.true)))
+    rw (has_number here, last_bad (last_of (kind here)) (number_at 4 22 (body here)) (is_good here false (not-true _ c.if-not-last.true)))
 
 pub returns-then-kind-eq5 : goal.returns-then-kind-eq5
 returns-then-kind-eq5 c =
     let here = (goal.at.returns-then-kind-eq5 c).After-field_at-last in
     rw (
       has_number here,
-      last_good (last_of (kind here)) (number_at 4 22 (body here)) (is-good here true (not-false _ c.if-not-last.false)),
+      last_good (last_of (kind here)) (number_at 4 22 (body here)) (is_good here true (not-false _ c.if-not-last.false)),
       eq-eqb _ _ c.if-kind-eq5.true,
       c.field_at-last.ensures,
     )
@@ -76,7 +76,7 @@ returns c =
     let here = (goal.at.returns c).After-field_at-last in
     rw (
       has_number here,
-      last_good (last_of (kind here)) (number_at 4 22 (body here)) (is-good here true (not-false _ c.if-not-last.false)),
+      last_good (last_of (kind here)) (number_at 4 22 (body here)) (is_good here true (not-false _ c.if-not-last.false)),
       ne_eqb _ _ c.if-kind-eq5.false,
       c.field_at-last.ensures,
     )

@@ -24,8 +24,8 @@ module _ (c : After-field_at-time) where
   abbrev read : List Field
   read = c.field_at-kind.result ∷ c.field_at-number.result ∷ c.field_at-time.result ∷ []
 
-  are-read : fields_from 0 header_form whole ≡ read
-  are-read =
+  are_read : fields_from 0 header_form whole ≡ read
+  are_read =
       let kind = c.field_at-kind.ensures in
       let number = c.field_at-number.ensures in
       let time = c.field_at-time.ensures in
@@ -51,18 +51,18 @@ pub returns-then-not-kind-number : goal.returns-then-not-kind-number
 unfolding command_in
 returns-then-not-kind-number c =
     let here = (goal.at.returns-then-not-kind-number c).After-field_at-time in
-    rw (numbers_bad 0 header_form (whole here) (read here) (are-read here) (c.if-not-kind-number.true))
+    rw (numbers_bad 0 header_form (whole here) (read here) (are_read here) c.if-not-kind-number.true)
 
 pub returns-in_default : goal.returns-in_default
 unfolding command_in
 returns-in_default c =
     let here = (goal.at.returns-in_default c).After-read_body in
     let header = (goal.at.returns-in_default c).After-field_at-time in
-    rw (numbers_good 0 header_form (whole header) (read header) (are-read header) c.if-not-kind-number.false, body_is here body.Bad c.in_default.is)
+    rw (numbers_good 0 header_form (whole header) (read header) (are_read header) c.if-not-kind-number.false, body_is here body.Bad c.in_default.is)
 
 pub returns : goal.returns
 unfolding command_in
 returns c =
     let here = (goal.at.returns c).After-read_body in
     let header = (goal.at.returns c).After-field_at-time in
-    rw (numbers_good 0 header_form (whole header) (read header) (are-read header) c.if-not-kind-number.false, body_is here (body.Is c.in-Is.body) c.in-Is.is)
+    rw (numbers_good 0 header_form (whole header) (read header) (are_read header) c.if-not-kind-number.false, body_is here (body.Is c.in-Is.body) c.in-Is.is)

@@ -27,8 +27,8 @@ module _ (c : After-field_at-shares) where
   abbrev read : List Field
   read = c.field_at-side.result ∷ c.field_at-word.result ∷ c.field_at-price.result ∷ c.field_at-shares.result ∷ []
 
-  are-read : fields_from 0 order_form c.args.s.now ≡ read
-  are-read =
+  are_read : fields_from 0 order_form c.args.s.now ≡ read
+  are_read =
       let side = c.field_at-side.ensures in
       let word = c.field_at-word.ensures in
       let price = c.field_at-price.ensures in
@@ -49,7 +49,7 @@ returns-then-not-side-word c =
     rw (
       order_body (body e) e.args.kind,
       carries e (Is c.in-Is.carried) c.in-Is.is,
-      numbers_bad 0 order_form (body e) (read here) (are-read here) (c.if-not-side-word.true),
+      numbers_bad 0 order_form (body e) (read here) (are_read here) c.if-not-side-word.true,
     )
 
 pub overflow_cast-result : goal.overflow_cast-result
@@ -66,5 +66,5 @@ returns c =
     rw (
       order_body (body e) e.args.kind,
       carries e (Is c.in-Is.carried) c.in-Is.is,
-      numbers_good 0 order_form (body e) (read here) (are-read here) (c.if-not-side-word.false),
+      numbers_good 0 order_form (body e) (read here) (are_read here) c.if-not-side-word.false,
     )

@@ -20,8 +20,8 @@ module _ (c : After-field_at-offer) where
   abbrev read : List Field
   read = c.field_at-bid.result ∷ c.field_at-offer.result ∷ []
 
-  are-read : fields_from 0 quote_form body ≡ read
-  are-read =
+  are_read : fields_from 0 quote_form body ≡ read
+  are_read =
       let bid = c.field_at-bid.ensures in
       let offer = c.field_at-offer.ensures in
       λ i. sym bid i ∷ sym offer i ∷ []
@@ -34,10 +34,10 @@ pub returns-then-not-bid-offer : goal.returns-then-not-bid-offer
 unfolding body_of_form
 returns-then-not-bid-offer c =
     let here = (goal.at.returns-then-not-bid-offer c).After-field_at-offer in
-    rw (ended here, numbers_bad 0 quote_form (body here) (read here) (are-read here) (c.if-not-bid-offer.true))
+    rw (ended here, numbers_bad 0 quote_form (body here) (read here) (are_read here) c.if-not-bid-offer.true)
 
 pub returns : goal.returns
 unfolding body_of_form
 returns c =
     let here = (goal.at.returns c).After-field_at-offer in
-    rw (ended here, numbers_good 0 quote_form (body here) (read here) (are-read here) (c.if-not-bid-offer.false))
+    rw (ended here, numbers_good 0 quote_form (body here) (read here) (are_read here) c.if-not-bid-offer.false)

@@ -10,13 +10,16 @@ returns-in-Order c = rw c.in-Order.is c.order_digits.ensures
 pub returns-in-Cancel : goal.returns-in-Cancel
 returns-in-Cancel c =
     let n = c.in-Cancel.number in
-    rw c.in-Cancel.is record { value = refl; fitting = fits 4 n.0 (omega (arith, c.in-Cancel.known_told-in-Cancel-1-own.given)) empty }
+    rw c.in-Cancel.is record { value = refl; fitting = fits 4 n.0 (omega arith) empty }
 
 pub returns-in-Quote : goal.returns-in-Quote
 returns-in-Quote c =
     let a = c.in-Quote.away in
     rw c.in-Quote.is
-    record { value = refl; fitting = fits 4 a.bid.0 (omega (arith, c.in-Quote.known_told-in-Quote-1-own.given)) (fits 4 a.offer.0 (omega (arith, c.in-Quote.known_told-in-Quote-1-own.given)) empty) }
+    record {
+      value = refl;
+      fitting = fits 4 a.bid.0 (omega arith) (fits 4 a.offer.0 (omega arith) empty);
+    }
 
 pub returns-in-Close : goal.returns-in-Close
 returns-in-Close c = rw c.in-Close.is record { value = refl; fitting = empty }

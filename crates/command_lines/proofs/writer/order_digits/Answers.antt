@@ -21,12 +21,12 @@ pub returns-in-MaxFloor : goal.returns-in-MaxFloor
 returns-in-MaxFloor c =
     let o = c.args.order in
     let floor = c.in-MaxFloor.floor in
-    let last = fits 4 floor.0 (omega (arith, c.in-MaxFloor.known_told-1-own.given)) empty in
+    let last = fits 4 floor.0 (omega arith) empty in
     rw c.in-MaxFloor.is record { value = refl; fitting = fields_fit o (omega arith) (omega arith) (omega arith) (omega arith) last }
 
 pub returns-in-Minimum : goal.returns-in-Minimum
 returns-in-Minimum c =
     let o = c.args.order in
     let least = c.in-Minimum.least in
-    let last = fits 4 least.0 (omega (arith, c.in-Minimum.known_told-in-Minimum-1-own.given)) empty in
+    let last = fits 4 least.0 (omega arith) empty in
     rw c.in-Minimum.is record { value = refl; fitting = fields_fit o (omega arith) (omega arith) (omega arith) (omega arith) last }

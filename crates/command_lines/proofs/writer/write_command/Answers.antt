@@ -17,8 +17,8 @@ use Rattle.command_lines.proofs.writer.write_command.Goals as goal
 use Rattle.command_lines.proofs.writer.write_command.Goals.{After-digits_in, Else-out-length}
 
 -- the command's fields fit, so its line reads back
-reads-back : (c : After-digits_in) → command_in (line_of c.args.c) ≡ Is c.args.c
-reads-back c =
+reads_back : (c : After-digits_in) → command_in (line_of c.args.c) ≡ Is c.args.c
+reads_back c =
     let a = c.args in
     command_in_line_of a.c (record { header = header_fits a.c (omega arith) (omega arith); body = c.digits_in.ensures.fitting })
 
@@ -33,7 +33,7 @@ unfolding written_for buffer_of
 returns-then-out-length c =
     let a = c.args in
     let short : length a.out.now < length (line_of a.c) = omega (arith, length_line_of a.c, c.digits_in.ensures.value) in
-    record { value = rw (lt-ltb _ _ short); out_after = rw (lt-ltb _ _ short); c_value = reads-back (goal.at.returns-then-out-length c).After-digits_in }
+    record { value = rw (lt-ltb _ _ short); out_after = rw (lt-ltb _ _ short); c_value = reads_back (goal.at.returns-then-out-length c).After-digits_in }
 
 pub returns : goal.returns
 unfolding written_for buffer_of line_of
@@ -54,5 +54,5 @@ returns c =
       value = rw (le-ltb _ _ room, long);
       out_after = onto_part 18 body c.write_header.new.out c.write_body.new.out c.write_body.ensures
           ∙ rw (le-ltb _ _ room, x) joined;
-      c_value = reads-back (goal.at.returns c).After-digits_in;
+      c_value = reads_back (goal.at.returns c).After-digits_in;
     }

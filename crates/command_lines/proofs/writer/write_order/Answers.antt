@@ -20,8 +20,8 @@ long Nothing = omega arith
 long (MaxFloor floor) = omega arith
 long (Minimum least) = omega arith
 
-as-carried : {x y : Carried} → x ≡ y → (n : ℕ) → digits_in (order_form_of x) < n → digits_in (order_form_of y) < n
-as-carried e n l = rw e at l
+as_carried : {x y : Carried} → x ≡ y → (n : ℕ) → digits_in (order_form_of x) < n → digits_in (order_form_of y) < n
+as_carried e n l = rw e at l
 
 roomy : (c : Start) → digits_in order_form < length c.args.out.now
 roomy c = omega (arith, long c.args.order.carried, c.requires)
@@ -35,29 +35,29 @@ entry c = c.before.before.before
 abbrev at_side : After-write_two → After-write_one
 at_side c = c.before.before.before.before
 
-abbrev at-word : After-write_four → After-write_two
-at-word c = c.before.before.before.before
+abbrev at_word : After-write_four → After-write_two
+at_word c = c.before.before.before.before
 
-abbrev at-price : After-write_four-2 → After-write_four
-at-price c = c.before.before.before.before
+abbrev at_price : After-write_four-2 → After-write_four
+at_price c = c.before.before.before.before
 
 abbrev start : After-write_four-2 → Start
-start c = entry (at_side (at-word (at-price c)))
+start c = entry (at_side (at_word (at_price c)))
 
-fields-written : (c : After-write_four-2) → (let o = (start c).args.order in
+fields_written : (c : After-write_four-2) → (let o = (start c).args.order in
     Wrote (start c).args.out.now order_form (o.side ∷ o.word ∷ o.price.0 ∷ o.shares.0 ∷ []) c.write_four-2.new.out)
-fields-written c =
+fields_written c =
     let o = (start c).args.order in
-    let side = field 1 o.side nothing (at_side (at-word (at-price c))).write_one.ensures in
-    let word = field 2 o.word side (at-word (at-price c)).write_two.ensures in
-    let price = field 4 o.price.0 word (at-price c).write_four.ensures in
+    let side = field 1 o.side nothing (at_side (at_word (at_price c))).write_one.ensures in
+    let word = field 2 o.word side (at_word (at_price c)).write_two.ensures in
+    let price = field 4 o.price.0 word (at_price c).write_four.ensures in
     field 4 o.shares.0 price c.write_four-2.ensures
 
-reserve-roomy : (c : In-MaxFloor) → digits_in reserve_form < length c.args.out.now
-reserve-roomy c = as-carried c.in-MaxFloor.is _ c.requires
+reserve_roomy : (c : In-MaxFloor) → digits_in reserve_form < length c.args.out.now
+reserve_roomy c = as_carried c.in-MaxFloor.is _ c.requires
 
-minimum-roomy : (c : In-Minimum) → digits_in minimum_form < length c.args.out.now
-minimum-roomy c = as-carried c.in-Minimum.is _ c.requires
+minimum_roomy : (c : In-Minimum) → digits_in minimum_form < length c.args.out.now
+minimum_roomy c = as_carried c.in-Minimum.is _ c.requires
 
 pub write_one-requires : goal.write_one-requires
 write_one-requires c = omega (arith, roomy (goal.at.write_one-requires c).Start)
@@ -69,7 +69,7 @@ pub write_four-requires : goal.write_four-requires
 write_four-requires c = omega (arith, roomy (entry (at_side (goal.at.write_four-requires c).After-write_two)))
 
 pub write_four-requires-2 : goal.write_four-requires-2
-write_four-requires-2 c = omega (arith, roomy (entry (at_side (at-word (goal.at.write_four-requires-2 c).After-write_four))))
+write_four-requires-2 c = omega (arith, roomy (entry (at_side (at_word (goal.at.write_four-requires-2 c).After-write_four))))
 
 -- ── Nothing carried ──
 
@@ -83,15 +83,15 @@ pub returns-in-Nothing : goal.returns-in-Nothing
 returns-in-Nothing c =
     let here = (goal.at.returns-in-Nothing c).After-write_four-2 in
     let none = c.in-Nothing.is in
-    rw none (wrote_line (fields-written here) (as-carried none _ (start here).requires))
+    rw none (wrote_line (fields_written here) (as_carried none _ (start here).requires))
 
 -- ── A Max Floor ──
 
 pub write_four-requires-in-MaxFloor : goal.write_four-requires-in-MaxFloor
-write_four-requires-in-MaxFloor c = omega (arith, reserve-roomy (goal.at.write_four-requires-in-MaxFloor c).In-MaxFloor)
+write_four-requires-in-MaxFloor c = omega (arith, reserve_roomy (goal.at.write_four-requires-in-MaxFloor c).In-MaxFloor)
 
 pub bounds-out-30 : goal.bounds-out-30
-bounds-out-30 c = omega (arith, reserve-roomy (goal.at.bounds-out-30 c).In-MaxFloor)
+bounds-out-30 c = omega (arith, reserve_roomy (goal.at.bounds-out-30 c).In-MaxFloor)
 
 pub shape_of-out-in-MaxFloor : goal.shape_of-out-in-MaxFloor
 shape_of-out-in-MaxFloor c = simp length-set (omega arith)
@@ -101,15 +101,15 @@ returns-in-MaxFloor c =
     let here = (goal.at.returns-in-MaxFloor c).In-MaxFloor in
     let floor = c.in-MaxFloor.floor in
     rw c.in-MaxFloor.is
-    (wrote_line (field 4 floor.0 (fields-written (goal.at.returns-in-MaxFloor c).After-write_four-2) c.write_four-in-MaxFloor.ensures) (reserve-roomy here))
+    (wrote_line (field 4 floor.0 (fields_written (goal.at.returns-in-MaxFloor c).After-write_four-2) c.write_four-in-MaxFloor.ensures) (reserve_roomy here))
 
 -- ── A minimum ──
 
 pub write_four-requires-in-Minimum : goal.write_four-requires-in-Minimum
-write_four-requires-in-Minimum c = omega (arith, minimum-roomy (goal.at.write_four-requires-in-Minimum c).In-Minimum)
+write_four-requires-in-Minimum c = omega (arith, minimum_roomy (goal.at.write_four-requires-in-Minimum c).In-Minimum)
 
 pub bounds-out-30-in-Minimum : goal.bounds-out-30-in-Minimum
-bounds-out-30-in-Minimum c = omega (arith, minimum-roomy (goal.at.bounds-out-30-in-Minimum c).In-Minimum)
+bounds-out-30-in-Minimum c = omega (arith, minimum_roomy (goal.at.bounds-out-30-in-Minimum c).In-Minimum)
 
 pub shape_of-out-in-Minimum : goal.shape_of-out-in-Minimum
 shape_of-out-in-Minimum c = simp length-set (omega arith)
@@ -119,4 +119,4 @@ returns-in-Minimum c =
     let here = (goal.at.returns-in-Minimum c).In-Minimum in
     let least = c.in-Minimum.least in
     rw c.in-Minimum.is
-    (wrote_line (field 4 least.0 (fields-written (goal.at.returns-in-Minimum c).After-write_four-2) c.write_four-in-Minimum.ensures) (minimum-roomy here))
+    (wrote_line (field 4 least.0 (fields_written (goal.at.returns-in-Minimum c).After-write_four-2) c.write_four-in-Minimum.ensures) (minimum_roomy here))

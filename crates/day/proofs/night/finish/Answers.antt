@@ -15,10 +15,10 @@ unfolding printed_at_end
 no_part [] e = refl
 no_part (b ∷ part) e = let z : ⊥ = omega arith in absurd z
 
-some-part : (part : List ℕ) → (length part ≡ 0 → ⊥) → printed_at_end part ≡ refusal_line 3
+some_part : (part : List ℕ) → (length part ≡ 0 → ⊥) → printed_at_end part ≡ refusal_line 3
 unfolding printed_at_end
-some-part [] n = absurd (n refl)
-some-part (b ∷ part) n = refl
+some_part [] n = absurd (n refl)
+some_part (b ∷ part) n = refl
 
 pub returns-then-part-eq0 : goal.returns-then-part-eq0
 returns-then-part-eq0 c =
@@ -29,4 +29,4 @@ pub returns : goal.returns
 returns c =
     let a = c.args in
     let w = c.write_refusal in
-    rw (some-part a.part.now c.if-part-eq0.false) (record { value = w.ensures.value ∙ sym (refusal_length 3); out_after = w.ensures.out_after })
+    rw (some_part a.part.now c.if-part-eq0.false) (record { value = w.ensures.value ∙ sym (refusal_length 3); out_after = w.ensures.out_after })

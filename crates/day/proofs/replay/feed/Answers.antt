@@ -13,11 +13,11 @@ use Rattle.day.proofs.replay.feed.Goals as goal
 use Rattle.day.proofs.replay.feed.Goals.{After-slice_known-1, After-struct_known-in-loop-out-1, Start}
 
 -- lengths of slices are numbers of the machine
-out-fits : (c : After-slice_known-1) → length c.args.out.now < 18446744073709551616
-out-fits c = search rules
+out_fits : (c : After-slice_known-1) → length c.args.out.now < 18446744073709551616
+out_fits c = search rules
 
-input-fits : (c : After-slice_known-1) → length c.args.input.now < 18446744073709551616
-input-fits c = search rules
+input_fits : (c : After-slice_known-1) → length c.args.input.now < 18446744073709551616
+input_fits c = search rules
 
 -- what holds after a turn
 abbrev Turned : After-struct_known-in-loop-out-1 → Type 0
@@ -43,8 +43,8 @@ turned c =
     (ap (λ r. r.head) p.ensures.0) (ap (λ r. r.length) p.ensures.0) p.ensures.1.0 p.ensures.1.1.0 p.ensures.1.1.1 (search rules)
 
 -- what is left where nothing more is worked
-abbrev start-book : Start → Book
-start-book s = let a = s.args in book_on a.h a.x.now a.buys.now a.y.now a.sells.now
+abbrev start_book : Start → Book
+start_book s = let a = s.args in book_on a.h a.x.now a.buys.now a.y.now a.sells.now
 
 pub loop-out-init : goal.loop-out-init
 loop-out-init c =
@@ -55,13 +55,13 @@ pub overflow_add-length : goal.overflow_add-length
 overflow_add-length c =
     let a = c.args in
     let fit : c.loop-out.length + c.print_line-p.result.length ≤ length a.out.now = (turned (goal.at.overflow_add-length c).After-struct_known-in-loop-out-1).fits in
-    omega (arith, fit, out-fits (goal.at.overflow_add-length c).After-slice_known-1)
+    omega (arith, fit, out_fits (goal.at.overflow_add-length c).After-slice_known-1)
 
 pub overflow_add-at : goal.overflow_add-at
-overflow_add-at c = omega (arith, c.if-input-at.false, input-fits (goal.at.overflow_add-at c).After-slice_known-1)
+overflow_add-at c = omega (arith, c.if-input-at.false, input_fits (goal.at.overflow_add-at c).After-slice_known-1)
 
 pub overflow_add-at-in-loop-out : goal.overflow_add-at-in-loop-out
-overflow_add-at-in-loop-out c = omega (arith, c.if-input-at.false, input-fits (goal.at.overflow_add-at-in-loop-out c).After-slice_known-1)
+overflow_add-at-in-loop-out c = omega (arith, c.if-input-at.false, input_fits (goal.at.overflow_add-at-in-loop-out c).After-slice_known-1)
 
 pub loop-out-preserved : goal.loop-out-preserved
 loop-out-preserved c = turned (goal.at.loop-out-preserved c).After-struct_known-in-loop-out-1
@@ -71,7 +71,7 @@ returns-then-out-length-lt-LEAST_ROOM c =
     let a = c.args in
     let l = c.loop-out in
     let f = l.invariant in
-    let b = start-book (goal.at.returns-then-out-length-lt-LEAST_ROOM c).Start in
+    let b = start_book (goal.at.returns-then-out-length-lt-LEAST_ROOM c).Start in
     let k = left_end a.input.now a.out.now b l.x l.buys l.y l.sells l.out l.head l.at l.length f
     (ends_full a.input.now a.out.now b l.x l.buys l.y l.sells l.out l.head l.at l.length f c.if-out-length-lt-LEAST_ROOM.true) in
     (k.0, (k.1.0, (k.1.1.0, (k.1.1.1, ((f.within, f.fits), f.stands)))))
@@ -81,7 +81,7 @@ returns-then-input-at c =
     let a = c.args in
     let l = c.loop-out in
     let f = l.invariant in
-    let b = start-book (goal.at.returns-then-input-at c).Start in
+    let b = start_book (goal.at.returns-then-input-at c).Start in
     let k = left_end a.input.now a.out.now b l.x l.buys l.y l.sells l.out l.head l.at l.length f
     (ends_found a.input.now a.out.now b l.x l.buys l.y l.sells l.out l.head l.at l.length f
     c.first_line-line.result c.first_line-line.ensures (omega (arith, c.if-input-at.true))) in

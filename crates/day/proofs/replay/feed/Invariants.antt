@@ -1,3 +1,4 @@
+-- `day::replay::feed`: what its loop keeps, and its measure.
 use Prim.Native.Nat.{◌-◌}
 use lib.ListN.{length}
 use Rattle.side.specs.Tables.{book_on}

@@ -16,8 +16,8 @@ module _ (c : After-field_at-shares) where
   abbrev read : List Field
   read = c.field_at-number.result ∷ c.field_at-price.result ∷ c.field_at-shares.result ∷ []
 
-  are-read : fields_from 2 rested_fields whole ≡ read
-  are-read =
+  are_read : fields_from 2 rested_fields whole ≡ read
+  are_read =
       let number = c.field_at-number.ensures in
       let price = c.field_at-price.ensures in
       let shares = c.field_at-shares.ensures in
@@ -26,14 +26,14 @@ module _ (c : After-field_at-shares) where
 pub returns-then-not-number-price : goal.returns-then-not-number-price
 returns-then-not-number-price c =
     let here = (goal.at.returns-then-not-number-price c).After-field_at-shares in
-    rw (numbers_bad 2 rested_fields (whole here) (read here) (are-read here) (c.if-not-number-price.true))
+    rw (numbers_bad 2 rested_fields (whole here) (read here) (are_read here) c.if-not-number-price.true)
 
 pub returns-then-moved : goal.returns-then-moved
 returns-then-moved c =
     let here = (goal.at.returns-then-moved c).After-field_at-shares in
-    rw (c.if-moved.true, numbers_good 2 rested_fields (whole here) (read here) (are-read here) (c.if-not-number-price.false))
+    rw (c.if-moved.true, numbers_good 2 rested_fields (whole here) (read here) (are_read here) c.if-not-number-price.false)
 
 pub returns : goal.returns
 returns c =
     let here = (goal.at.returns c).After-field_at-shares in
-    rw (c.if-moved.false, numbers_good 2 rested_fields (whole here) (read here) (are-read here) (c.if-not-number-price.false))
+    rw (c.if-moved.false, numbers_good 2 rested_fields (whole here) (read here) (are_read here) c.if-not-number-price.false)

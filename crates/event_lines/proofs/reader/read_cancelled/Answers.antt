@@ -18,8 +18,8 @@ module _ (c : After-field_at-reason) where
   abbrev read : List Field
   read = c.field_at-number.result ∷ c.field_at-shares.result ∷ c.field_at-reason.result ∷ []
 
-  are-read : fields_from 2 cancelled_fields whole ≡ read
-  are-read =
+  are_read : fields_from 2 cancelled_fields whole ≡ read
+  are_read =
       let number = c.field_at-number.ensures in
       let shares = c.field_at-shares.ensures in
       let reason = c.field_at-reason.ensures in
@@ -28,7 +28,7 @@ module _ (c : After-field_at-reason) where
 pub returns-then-not-number-shares : goal.returns-then-not-number-shares
 returns-then-not-number-shares c =
     let here = (goal.at.returns-then-not-number-shares c).After-field_at-reason in
-    rw (numbers_bad 2 cancelled_fields (whole here) (read here) (are-read here) (c.if-not-number-shares.true))
+    rw (numbers_bad 2 cancelled_fields (whole here) (read here) (are_read here) c.if-not-number-shares.true)
 
 pub overflow_cast-result : goal.overflow_cast-result
 overflow_cast-result c = omega (arith, field_fits 1 18 (whole (goal.at.overflow_cast-result c).After-field_at-reason) c.field_at-reason.ensures)
@@ -36,4 +36,4 @@ overflow_cast-result c = omega (arith, field_fits 1 18 (whole (goal.at.overflow_
 pub returns : goal.returns
 returns c =
     let here = (goal.at.returns c).After-field_at-reason in
-    rw (numbers_good 2 cancelled_fields (whole here) (read here) (are-read here) (c.if-not-number-shares.false))
+    rw (numbers_good 2 cancelled_fields (whole here) (read here) (are_read here) c.if-not-number-shares.false)

@@ -16,8 +16,8 @@ module _ (c : After-field_at-shares) where
   abbrev read : List Field
   read = c.field_at-incoming.result ∷ c.field_at-resting.result ∷ c.field_at-price.result ∷ c.field_at-shares.result ∷ []
 
-  are-read : fields_from 2 executed_fields whole ≡ read
-  are-read =
+  are_read : fields_from 2 executed_fields whole ≡ read
+  are_read =
       let incoming = c.field_at-incoming.ensures in
       let resting = c.field_at-resting.ensures in
       let price = c.field_at-price.ensures in
@@ -27,9 +27,9 @@ module _ (c : After-field_at-shares) where
 pub returns-then-not-incoming-resting : goal.returns-then-not-incoming-resting
 returns-then-not-incoming-resting c =
     let here = (goal.at.returns-then-not-incoming-resting c).After-field_at-shares in
-    rw (numbers_bad 2 executed_fields (whole here) (read here) (are-read here) (c.if-not-incoming-resting.true))
+    rw (numbers_bad 2 executed_fields (whole here) (read here) (are_read here) c.if-not-incoming-resting.true)
 
 pub returns : goal.returns
 returns c =
     let here = (goal.at.returns c).After-field_at-shares in
-    rw (numbers_good 2 executed_fields (whole here) (read here) (are-read here) (c.if-not-incoming-resting.false))
+    rw (numbers_good 2 executed_fields (whole here) (read here) (are_read here) c.if-not-incoming-resting.false)

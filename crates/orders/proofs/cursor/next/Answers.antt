@@ -60,7 +60,7 @@ returns c =
     let l : a.c.at < length s = omega (arith, c.if-n-at.false) in
     let o : r.result ≡ get_or s a.c.at unused = r.ensures in
     let level : a.c.waits < a.c.at → (get_or s a.c.at unused).price.0 ≡ a.c.level.0 =
-    λ p. rw (← o) (same-level _ _ _ _ c.if-waits-at-2.false p) in
+    λ p. rw (← o) (same_level _ _ _ _ c.if-waits-at-2.false p) in
     let w : c.first_waiting-first.result ≡ first_waiting a.c.at a.c.waits (get_or s a.c.at unused).reserve.0 =
     c.first_waiting-first.ensures ∙ rw o in
     record {
@@ -74,5 +74,5 @@ returns c =
       };
     }
   where
-    same-level : (x y p q : ℕ) → (ltb x y && not (eqb p q)) ≡ false → x < y → p ≡ q
-    same-level x y p q e l = eqb-true p q (not-false _ (rw (lt-ltb x y l) at e))
+    same_level : (x y p q : ℕ) → (ltb x y && not (eqb p q)) ≡ false → x < y → p ≡ q
+    same_level x y p q e l = eqb-true p q (not-false _ (rw (lt-ltb x y l) at e))

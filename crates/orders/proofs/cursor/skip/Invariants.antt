@@ -1,3 +1,4 @@
+-- `orders::cursor::skip`: what its loop keeps, and its measure.
 use Prim.Native.Nat.{◌-◌, ◌≤◌}
 use mathlib.Core.Path.{◌≡◌}
 use Rattle.side.specs.Table.{side}

@@ -1,3 +1,4 @@
+-- `orders::fills::close_up`: what its loop keeps, and its measure.
 use Prim.Native.Nat.{◌-◌}
 use Rattle.orders.proofs.fills.LawsClosing.{Closing}
 use Rattle.orders.proofs.fills.close_up.Given as goal

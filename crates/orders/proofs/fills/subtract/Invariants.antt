@@ -1,3 +1,4 @@
+-- `orders::fills::subtract`: what its loop keeps, and its measure.
 use Prim.Native.Nat.{◌-◌, ◌≤◌}
 use lib.ListN.{take}
 use Rattle.side.specs.Table.{side, Shows}

@@ -39,7 +39,11 @@ returns-in-Cancels c =
     let a = c.args in
     let w = c.write_cancelled in
     let e : Event = Cancelled a.number a.left c.in-Cancels.reason in
-    rw c.in-Cancels.is (record { value = w.ensures.value ∙ sym (ap length (event_lines_one e) ∙ cancelled_length a.number a.left c.in-Cancels.reason); shows = holds_shows a.n a.x.now a.t.now c.requires.0; out_after = w.ensures.out_after ∙ ap (λ (l : List ℕ). onto l a.out.now) (sym (event_lines_one e)) })
+    rw c.in-Cancels.is (record {
+      value = w.ensures.value ∙ sym (ap length (event_lines_one e) ∙ cancelled_length a.number a.left c.in-Cancels.reason);
+      shows = holds_shows a.n a.x.now a.t.now c.requires.0;
+      out_after = w.ensures.out_after ∙ ap (λ (l : List ℕ). onto l a.out.now) (sym (event_lines_one e));
+    })
 
 -- the rest of it rests
 pub returns-in-Rests : goal.returns-in-Rests
@@ -50,4 +54,8 @@ returns-in-Rests c =
     let s = side a.n a.x.now a.t.now in
     let made : c.remainder_of-order.result ≡ remainder_of a.number a.o a.left.0 c.in-Rests.price = c.remainder_of-order.ensures in
     let e : Event = Rested a.number c.in-Rests.price a.left in
-    rw c.in-Rests.is (record { value = w.ensures.value ∙ sym (ap length (event_lines_one e) ∙ rested_length a.number c.in-Rests.price a.left); shows = subst (λ (o : Resting). Shows (insert (buying a.o) o s) r.new.x r.new.t) made r.ensures; out_after = w.ensures.out_after ∙ ap (λ (l : List ℕ). onto l a.out.now) (sym (event_lines_one e)) })
+    rw c.in-Rests.is (record {
+      value = w.ensures.value ∙ sym (ap length (event_lines_one e) ∙ rested_length a.number c.in-Rests.price a.left);
+      shows = subst (λ (o : Resting). Shows (insert (buying a.o) o s) r.new.x r.new.t) made r.ensures;
+      out_after = w.ensures.out_after ∙ ap (λ (l : List ℕ). onto l a.out.now) (sym (event_lines_one e));
+    })

@@ -36,7 +36,7 @@ use Rattle.orders.specs.Walk.{is_below, takings_in}
 use Rattle.orders.specs.Walking.{met_with, Walkable, walk_bound, walk_for, takings_for, takings_by, Walks, ending_by_best}
 use Rattle.orders.specs.Bound.{bound_of, bound_under}
 use Rattle.orders.specs.Locks.{locked_price, executes_at}
-use Rattle.orders.proofs.work.LawsWalking.{executes_at_lem, walk_within, walks as walks-bound}
+use Rattle.orders.proofs.work.LawsWalking.{executes_at_lem, walk_within, walks as walks_bound}
 use Rattle.orders.proofs.work.LawsLeft.{best_left, post_first, taken_left, best_tells}
 use Rattle.orders.proofs.work.LawsEnding.{ending_by_best_lem}
 use Rattle.orders.specs.declared.matching.Finished.{Finished}
@@ -112,37 +112,37 @@ module _ (k : Known) where
   abbrev met : Met
   met = met_with k.away k.own k.opposite
 
-  bound-walks : k.bound ≡ walk_bound k.o met
-  bound-walks = k.bound_is ∙ ap (λ (p : HalfCents). bound_under (buying k.o) p (bound_of k.o k.away)) k.locked_is
+  bound_walks : k.bound ≡ walk_bound k.o met
+  bound_walks = k.bound_is ∙ ap (λ (p : HalfCents). bound_under (buying k.o) p (bound_of k.o k.away)) k.locked_is
 
   fits : length k.opposite ≤ places_a_side
   fits = omega (arith, k.opposite_fits, k.opposite_long)
 
-  walk-for : k.walk ≡ walk_for k.o (walk_bound k.o met) k.opposite
-  walk-for = k.walk_is ∙ ap (λ (b : HalfCents). walk_for k.o b k.opposite) bound-walks
+  walk_for_lem : k.walk ≡ walk_for k.o (walk_bound k.o met) k.opposite
+  walk_for_lem = k.walk_is ∙ ap (λ (b : HalfCents). walk_for k.o b k.opposite) bound_walks
 
-  took-for : takings_in k.walk.count k.took ≡ takings_for k.o (walk_bound k.o met) k.opposite
-  took-for = k.took_is ∙ ap (λ (b : HalfCents). takings_for k.o b k.opposite) bound-walks
+  took_for : takings_in k.walk.count k.took ≡ takings_for k.o (walk_bound k.o met) k.opposite
+  took_for = k.took_is ∙ ap (λ (b : HalfCents). takings_for k.o b k.opposite) bound_walks
 
   walks : Walks k.o met k.walk k.took
-  walks = walks-bound k.o met k.walkable k.walk k.took (omega (arith, fits)) walk-for took-for
+  walks = walks_bound k.o met k.walkable k.walk k.took (omega (arith, fits)) walk_for_lem took_for
 
-  kept-best : k.kept ≡ best_left k.o met
-  kept-best = k.kept_is ∙ ap (λ (w : Walked). min w.skipped w.at) walk-for
+  kept_best : k.kept ≡ best_left k.o met
+  kept_best = k.kept_is ∙ ap (λ (w : Walked). min w.skipped w.at) walk_for_lem
 
-  ends-by-best : k.end ≡ ending_by_best k.walk.left.0 k.o k.away (locked_price k.own) (drop k.kept k.opposite)
-  ends-by-best = k.end_is ∙ ap (λ (p : HalfCents). ending_by_best k.walk.left.0 k.o k.away p (drop k.kept k.opposite)) k.locked_is
+  ends_by_best : k.end ≡ ending_by_best k.walk.left.0 k.o k.away (locked_price k.own) (drop k.kept k.opposite)
+  ends_by_best = k.end_is ∙ ap (λ (p : HalfCents). ending_by_best k.walk.left.0 k.o k.away p (drop k.kept k.opposite)) k.locked_is
 
   ends : k.end ≡ ending k.o met
   ends =
-      let tells = best_tells k.o met k.walkable fits (sym took-for ∙ walks.takes) (ap (λ (w : Walked). w.left.0) (sym walk-for) ∙ walks.leaves) in
-      ends-by-best
-      ∙ ap (λ (i : ℕ). ending_by_best k.walk.left.0 k.o k.away (locked_price k.own) (drop i k.opposite)) kept-best
+      let tells = best_tells k.o met k.walkable fits (sym took_for ∙ walks.takes) (ap (λ (w : Walked). w.left.0) (sym walk_for_lem) ∙ walks.leaves) in
+      ends_by_best
+      ∙ ap (λ (i : ℕ). ending_by_best k.walk.left.0 k.o k.away (locked_price k.own) (drop i k.opposite)) kept_best
       ∙ ap (λ (i : ℕ). ending_by_best i k.o k.away (locked_price k.own) (drop (best_left k.o met) k.opposite)) walks.leaves
       ∙ sym (ending_by_best_lem k.o met k.walkable (best_left k.o met) (λ some other. tells some) (post_first k.o met))
 
-  held-long : k.held ≡ length k.own + (if is_rest k.end then 1 else 0)
-  held-long = omega (arith, k.held_is, k.own_long)
+  held_long : k.held ≡ length k.own + (if is_rest k.end then 1 else 0)
+  held_long = omega (arith, k.held_is, k.own_long)
 
   reached : k.walk.at ≤ k.m
   reached = omega (arith, walks.reaches, k.opposite_long)
@@ -155,25 +155,25 @@ module _ (k : Known) where
   executed = executions k.number (execution_price k.o met) (holdings k.opposite) (takings k.o met)
 
   -- at the price of the execution against its order
-  abbrev at-price : HalfCents → HalfCents
-  at-price = executes_at (buying k.o) k.locked
+  abbrev at_price : HalfCents → HalfCents
+  at_price = executes_at (buying k.o) k.locked
 
-  executed-is : map (execution_of k.number at-price k.opposite) (takings_in k.walk.count k.took) ≡ executed
+  executed_is : map (execution_of k.number at_price k.opposite) (takings_in k.walk.count k.took) ≡ executed
   unfolding executed
-  executed-is =
-      ap (map (execution_of k.number at-price k.opposite)) walks.takes
+  executed_is =
+      ap (map (execution_of k.number at_price k.opposite)) walks.takes
       ∙ ap (λ (p : HalfCents). map (execution_of k.number (executes_at (buying k.o) p) k.opposite) (takings_by k.o met)) k.locked_is
       ∙ takings_executed k.number (executes_at (buying k.o) (locked_price k.own)) (execution_price k.o met) k.opposite
       (executes_at_lem k.o met k.walkable) (takings k.o met)
 
-  executed-long : 35 * k.walk.count ≡ length (event_lines executed)
-  executed-long =
-      let by = execution_of k.number at-price k.opposite in
+  executed_long : 35 * k.walk.count ≡ length (event_lines executed)
+  executed_long =
+      let by = execution_of k.number at_price k.opposite in
       let ks = takings_in k.walk.count k.took in
       let n : length ks ≡ k.walk.count = ap length walks.takes ∙ sym walks.counts in
       ap (λ (i : ℕ). 35 * i) (sym n)
-      ∙ (sym (lines_length by 35 (λ t. executed_length k.number _ (at-price t.price) t.shares) ks)
-      ∙ ap (λ (es : List Event). length (event_lines es)) executed-is)
+      ∙ (sym (lines_length by 35 (λ t. executed_length k.number _ (at_price t.price) t.shares) ks)
+      ∙ ap (λ (es : List Event). length (event_lines es)) executed_is)
 
   abbrev given : List ℕ
   given = takings k.o met
@@ -193,41 +193,41 @@ record Left (k : Known) : Type 0 where
   pub shown : Shows (after_takings (takings_in k.walk.count k.took) k.opposite) y rows
 
 module _ (k : Known) (l : Left k) where
-  stay-is : l.stay ≡ length (after k.opposite (given k))
-  stay-is = l.counted ∙ ap length (taken k)
+  stay_is : l.stay ≡ length (after k.opposite (given k))
+  stay_is = l.counted ∙ ap length (taken k)
 
   shows : Shows (after k.opposite (given k)) l.y l.rows
   shows = subst (λ (s : List Resting). Shows s l.y l.rows) (taken k) l.shown
 
-  stay-side : side l.stay l.y l.rows ≡ after k.opposite (given k)
-  stay-side = shown_side (after k.opposite (given k)) l.y l.rows l.stay (sym stay-is) shows
+  stay_side : side l.stay l.y l.rows ≡ after k.opposite (given k)
+  stay_side = shown_side (after k.opposite (given k)) l.y l.rows l.stay (sym stay_is) shows
 
-  stay-holds : Holds l.stay l.y l.rows
-  stay-holds = shown_holds (after k.opposite (given k)) l.y l.rows l.stay (sym stay-is) shows
+  stay_holds : Holds l.stay l.y l.rows
+  stay_holds = shown_holds (after k.opposite (given k)) l.y l.rows l.stay (sym stay_is) shows
 
   -- those that were not reached all stay
-  unreached-stay : k.m - k.walk.at ≤ l.stay
-  unreached-stay =
+  unreached_stay : k.m - k.walk.at ≤ l.stay
+  unreached_stay =
       omega (
         arith,
         after_long k.walk.at (below k) k.opposite (all_alike (λ h w. w.least) k.walkable.workable) (keep_all k),
         ap length (taken k),
-        stay-is,
+        stay_is,
         k.opposite_long,
       )
 
-  refills-are : Ready k.o k.number (met k) → MayRefill (not (buying k.o)) k.number (l.stay - (k.m - k.walk.at)) (side l.stay l.y l.rows)
-  refills-are ready =
+  refills_are : Ready k.o k.number (met k) → MayRefill (not (buying k.o)) k.number (l.stay - (k.m - k.walk.at)) (side l.stay l.y l.rows)
+  refills_are ready =
       let s = after k.opposite (given k) in
       let by : ℕ → List Resting → Type 0 = λ i u. MayRefill (not (buying k.o)) k.number i u in
-      let unreached : length s - (length k.opposite - k.walk.at) ≡ l.stay - (k.m - k.walk.at) = omega (arith, k.opposite_long, stay-is) in
-      subst (by (l.stay - (k.m - k.walk.at))) (sym stay-side)
+      let unreached : length s - (length k.opposite - k.walk.at) ≡ l.stay - (k.m - k.walk.at) = omega (arith, k.opposite_long, stay_is) in
+      subst (by (l.stay - (k.m - k.walk.at))) (sym stay_side)
       (subst (λ (i : ℕ). by i s) unreached
       (may_refill (not (buying k.o)) k.number k.walk.at (below k) k.opposite (given k) (taken k) k.walkable.ranked k.walkable.workable ready.opposite_older))
 
   -- the output after the executions has room for the other lines
-  room-behind : {written room : ℕ} → written ≡ 35 * k.walk.count → least_room ≤ room → written + 27 + 27 * l.stay ≤ room
-  room-behind is enough = omega (arith, is, enough, (walks k).fits, stay-holds.fits)
+  room_behind : {written room : ℕ} → written ≡ 35 * k.walk.count → least_room ≤ room → written + 27 + 27 * l.stay ≤ room
+  room_behind is enough = omega (arith, is, enough, (walks k).fits, stay_holds.fits)
 
 pub locked_price-locked-requires : goal.locked_price-locked-requires
 locked_price-locked-requires c = c.requires.0
@@ -263,7 +263,7 @@ returns-then-held-gt-PLACES c =
     let n = length_side a.n a.x.now a.own.now in
     let m = length_side a.m a.y.now a.opposite.now in
     let f : is_full k.end k.own ≡ true =
-    full_more k.end k.own (omega (arith, n, c.requires.0.fits)) (omega (arith, held-long k, c.if-held-gt-PLACES.true)) in
+    full_more k.end k.own (omega (arith, n, c.requires.0.fits)) (omega (arith, held_long k, c.if-held-gt-PLACES.true)) in
     let g : is_full (ending a.o (met k)) k.own ≡ true = ap (λ (x : Ending). is_full x k.own) (sym (ends k)) ∙ f in
     rw (refused a.o a.number (met k) g) (
       answer_is (sym n) (sym m) refl,
@@ -295,21 +295,21 @@ overflow_sub-reached-2 c =
     let k = known (goal.at.overflow_sub-reached-2 c).After-places_after-held in
     let t = c.take_off-stay in
     let l : Left k = record { stay = t.result; y = t.new.x; rows = t.new.t; counted = t.ensures.value; shown = t.ensures.shows } in
-    omega (arith, unreached-stay k l, reached k)
+    omega (arith, unreached_stay k l, reached k)
 
 pub slice_bounds-finish-count : goal.slice_bounds-finish-count
 slice_bounds-finish-count c =
     let k = known (goal.at.slice_bounds-finish-count c).After-places_after-held in
     let t = c.take_off-stay in
     let l : Left k = record { stay = t.result; y = t.new.x; rows = t.new.t; counted = t.ensures.value; shown = t.ensures.shows } in
-    omega (arith, room-behind k l c.report-length.ensures.value c.requires.3)
+    omega (arith, room_behind k l c.report-length.ensures.value c.requires.3)
 
 pub slice_bounds-finish-start : goal.slice_bounds-finish-start
 slice_bounds-finish-start c =
     let k = known (goal.at.slice_bounds-finish-start c).After-places_after-held in
     let t = c.take_off-stay in
     let l : Left k = record { stay = t.result; y = t.new.x; rows = t.new.t; counted = t.ensures.value; shown = t.ensures.shows } in
-    omega (arith, room-behind k l c.report-length.ensures.value c.requires.3)
+    omega (arith, room_behind k l c.report-length.ensures.value c.requires.3)
 
 pub finish-f-requires : goal.finish-f-requires
 finish-f-requires c =
@@ -319,17 +319,17 @@ finish-f-requires c =
     let p = c.requires in
     let r = c.report-length in
     let x = r.new.out in
-    let room : r.result + 27 + 27 * l.stay ≤ length c.args.out.now = room-behind k l r.ensures.value p.3 in
+    let room : r.result + 27 + 27 * l.stay ≤ length c.args.out.now = room_behind k l r.ensures.value p.3 in
     let g : 27 + 27 * l.stay ≤ length (take (length x - r.result) (drop r.result x)) = simp (length-take, length-drop) (omega (arith, room)) in (
       p.0,
       rest_fits k.end k.n (omega (arith, k.held_is, c.if-held-gt-PLACES.false)),
       record {
-        priced = subst rests_below (sym (ends-by-best k)) (ending_below k.o k.away k.walkable.limited k.walk.left.0 (locked_price k.own) (drop k.kept k.opposite));
+        priced = subst rests_below (sym (ends_by_best k)) (ending_below k.o k.away k.walkable.limited k.walk.left.0 (locked_price k.own) (drop k.kept k.opposite));
         ranked = p.2.own_ranked;
         older = p.2.older;
       },
-      stay-holds k l,
-      refills-are k l p.2,
+      stay_holds k l,
+      refills_are k l p.2,
       g,
     )
 
@@ -341,7 +341,7 @@ overflow_add-result c =
     let s = after k.opposite (given k) in
     let last = last_line k.number k.walk.left.0 k.end in
     let fin : c.finish-f.result ≡ finished k.number k.walk.left k.end (not (buying k.o)) s =
-    c.finish-f.ensures.value ∙ ap (λ (u : List Resting). finished k.number k.walk.left k.end (not (buying k.o)) u) (stay-side k l) in
+    c.finish-f.ensures.value ∙ ap (λ (u : List Resting). finished k.number k.walk.left k.end (not (buying k.o)) u) (stay_side k l) in
     let long : c.finish-f.result.length ≡ length (event_lines (last ++ told refill_fate s)) = ap (λ (f : Finished). f.length) fin in
     omega (
       arith,
@@ -352,8 +352,8 @@ overflow_add-result c =
       ap length (event_lines_append last (told refill_fate s)),
       last_long k.number k.walk.left.0 k.end,
       told_long refill_fate s,
-      stay-is k l,
-      (stay-holds k l).fits,
+      stay_is k l,
+      (stay_holds k l).fits,
     )
 
 pub returns : goal.returns
@@ -369,28 +369,28 @@ returns c =
     let last = last_line a.number left k.end in
     let s = after k.opposite (given k) in
     let rest = last ++ told refill_fate s in
-    let is_room : is_full k.end k.own ≡ false = full_not k.end k.own (omega (arith, held-long k, c.if-held-gt-PLACES.false)) in
+    let is_room : is_full k.end k.own ≡ false = full_not k.end k.own (omega (arith, held_long k, c.if-held-gt-PLACES.false)) in
     let is = ended_is a.o a.number (met k) left k.end (walks k).leaves (ends k) is_room in
-    let len : r.result ≡ length (event_lines (executed k)) = r.ensures.value ∙ executed-long k in
+    let len : r.result ≡ length (event_lines (executed k)) = r.ensures.value ∙ executed_long k in
     let fin : f.result ≡ finished k.number k.walk.left k.end (not (buying k.o)) s =
-    f.ensures.value ∙ ap (λ (u : List Resting). finished k.number k.walk.left k.end (not (buying k.o)) u) (stay-side k d) in
+    f.ensures.value ∙ ap (λ (u : List Resting). finished k.number k.walk.left k.end (not (buying k.o)) u) (stay_side k d) in
     let joined : (executed k ++ last) ++ told refill_fate s ≡ executed k ++ rest = append_assoc (executed k) last (told refill_fate s) in
     let long : r.result + f.result.length ≡ length (event_lines ((executed k ++ last) ++ told refill_fate s)) =
     rw (joined, event_lines_append (executed k) rest)
     (omega (arith, length-append (event_lines (executed k)) (event_lines rest), len, ap (λ (z : Finished). z.length) fin)) in
-    let own-length = held-long k ∙ sym (length_remainder a.number a.o left k.end k.own) in
-    let opposite-length = ap (λ (z : Finished). z.opposite) fin in
+    let own_length = held_long k ∙ sym (length_remainder a.number a.o left k.end k.own) in
+    let opposite_length = ap (λ (z : Finished). z.opposite) fin in
     let shown : Shows (settled_side a.number first_move (not (buying a.o)) refill_fate s) f.new.y f.new.opposite =
-    subst (λ (u : List Resting). Shows (settled_side a.number first_move (not (buying a.o)) refill_fate u) f.new.y f.new.opposite) (stay-side k d)
+    subst (λ (u : List Resting). Shows (settled_side a.number first_move (not (buying a.o)) refill_fate u) f.new.y f.new.opposite) (stay_side k d)
     f.ensures.shows_2 in
     let x = r.new.out in
     let wrote : x ≡ onto (event_lines (executed k)) a.out.now =
-    r.ensures.out_after ∙ ap (λ (es : List Event). onto (event_lines es) a.out.now) (executed-is k) in
+    r.ensures.out_after ∙ ap (λ (es : List Event). onto (event_lines es) a.out.now) (executed_is k) in
     let more : f.new.out ≡ onto (event_lines rest) (take (length x - r.result) (drop r.result x)) =
     f.ensures.out_after
-    ∙ ap (λ (u : List Resting). onto (event_lines (last ++ told refill_fate u)) (take (length x - r.result) (drop r.result x))) (stay-side k d) in
+    ∙ ap (λ (u : List Resting). onto (event_lines (last ++ told refill_fate u)) (take (length x - r.result) (drop r.result x))) (stay_side k d) in
     rw (is, joined) (
-      answer_is own-length opposite-length (long ∙ ap (λ (es : List Event). length (event_lines es)) joined),
+      answer_is own_length opposite_length (long ∙ ap (λ (es : List Event). length (event_lines es)) joined),
       (
         f.ensures.shows,
         (shown, lines_behind (executed k) rest r.result x a.out.now f.new.out len wrote more),

@@ -16,8 +16,8 @@ module _ (c : After-struct_known-2-1) where
       ≡ locking_price (buying c.args.o) c.args.away
   locking_is = c.locking_price-locking.ensures
 
-  iso-is : c.has.result ≡ has c.args.o.word iso
-  iso-is = c.has.ensures
+  iso_is : c.has.result ≡ has c.args.o.word iso
+  iso_is = c.has.ensures
 
 pub limit_of-limit-requires : goal.limit_of-limit-requires
 limit_of-limit-requires c = c.requires.0
@@ -30,7 +30,7 @@ unfolding bound_of
 returns-then-has-locking c =
     let here = (goal.at.returns-then-has-locking c).After-struct_known-2-1 in
     let a = c.args in
-    let free : (has a.o.word iso || absent (locking_price (buying a.o) a.away)) ≡ true = rw (iso-is here, locking_is here) at c.if-has-locking.true in
+    let free : (has a.o.word iso || absent (locking_price (buying a.o) a.away)) ≡ true = rw (iso_is here, locking_is here) at c.if-has-locking.true in
     rw free (limit_is here)
 
 pub returns-then-within : goal.returns-then-within
@@ -38,7 +38,7 @@ unfolding bound_of
 returns-then-within c =
     let here = (goal.at.returns-then-within c).After-struct_known-2-1 in
     let a = c.args in
-    let bound : (has a.o.word iso || absent (locking_price (buying a.o) a.away)) ≡ false = rw (iso-is here, locking_is here) at c.if-has-locking.false in
+    let bound : (has a.o.word iso || absent (locking_price (buying a.o) a.away)) ≡ false = rw (iso_is here, locking_is here) at c.if-has-locking.false in
     let within : not (beyond (buying a.o) (locking_price (buying a.o) a.away) (farthest a.o)) ≡ true =
     rw (locking_is here, limit_is here) at (sym c.within.ensures ∙ c.if-within.true) in
     rw (bound, within) (limit_is here)
@@ -48,7 +48,7 @@ unfolding bound_of
 returns c =
     let here = (goal.at.returns c).After-struct_known-2-1 in
     let a = c.args in
-    let bound : (has a.o.word iso || absent (locking_price (buying a.o) a.away)) ≡ false = rw (iso-is here, locking_is here) at c.if-has-locking.false in
+    let bound : (has a.o.word iso || absent (locking_price (buying a.o) a.away)) ≡ false = rw (iso_is here, locking_is here) at c.if-has-locking.false in
     let within : not (beyond (buying a.o) (locking_price (buying a.o) a.away) (farthest a.o)) ≡ false =
     rw (locking_is here, limit_is here) at (sym c.within.ensures ∙ c.if-within.false) in
     rw (bound, within) (locking_is here)

@@ -15,19 +15,19 @@ use Rattle.orders.specs.Locks.{locked_price}
 use Rattle.orders.proofs.pricing.locked_price.Goals as goal
 use Rattle.orders.proofs.pricing.locked_price.Goals.{After-at-best}
 
-of-the-best : (s : List Resting) (best : Resting) → 0 < length s → best ≡ get_or s 0 unused
+of_the_best : (s : List Resting) (best : Resting) → 0 < length s → best ≡ get_or s 0 unused
     → locked_price s ≡ (if best.displayed then best.price else half_cents 0)
 unfolding locked_price
-of-the-best [] best l e = let z : ⊥ = omega arith in absurd z
-of-the-best (h ∷ s) best l e = ap (λ (o : Resting). if o.displayed then o.price else half_cents 0) (sym e)
+of_the_best [] best l e = let z : ⊥ = omega arith in absurd z
+of_the_best (h ∷ s) best l e = ap (λ (o : Resting). if o.displayed then o.price else half_cents 0) (sym e)
 
 -- what the best order, once there is one, says
-best-says : (c : After-at-best) → (let a = c.args in
+best_says : (c : After-at-best) → (let a = c.args in
     locked_price (side a.n a.x.now a.t.now) ≡ (if c.at-best.result.displayed then c.at-best.result.price else half_cents 0))
-best-says c =
+best_says c =
     let a = c.args in
     let some : 0 < a.n = omega (arith, c.if-n-eq0.false) in
-    of-the-best (side a.n a.x.now a.t.now) c.at-best.result (omega (arith, some, length_side a.n a.x.now a.t.now)) c.at-best.ensures
+    of_the_best (side a.n a.x.now a.t.now) c.at-best.result (omega (arith, some, length_side a.n a.x.now a.t.now)) c.at-best.ensures
 
 pub returns-then-n-eq0 : goal.returns-then-n-eq0
 unfolding locked_price ranked
@@ -36,9 +36,9 @@ returns-then-n-eq0 c = rw c.if-n-eq0.true
 pub returns-then-best : goal.returns-then-best
 returns-then-best c =
     let shown : c.at-best.result.displayed ≡ true = c.if-best.true in
-    sym (best-says (goal.at.returns-then-best c).After-at-best ∙ rw shown)
+    sym (best_says (goal.at.returns-then-best c).After-at-best ∙ rw shown)
 
 pub returns : goal.returns
 returns c =
     let hidden : c.at-best.result.displayed ≡ false = c.if-best.false in
-    sym (best-says (goal.at.returns c).After-at-best ∙ rw hidden)
+    sym (best_says (goal.at.returns c).After-at-best ∙ rw hidden)

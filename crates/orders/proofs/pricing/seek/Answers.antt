@@ -21,25 +21,25 @@ module _ (c : After-struct_known-2-1) where
   limit_is : c.in_half_cents-price.result ≡ limit_of c.args.o
   limit_is = c.in_half_cents-price.ensures
 
-  iso-is : c.has.result ≡ has c.args.o.word iso
-  iso-is = c.has.ensures
+  iso_is : c.has.result ≡ has c.args.o.word iso
+  iso_is = c.has.ensures
 
 -- what the next calls gave: the away price is of account, whether the limit crosses it, whether the order is displayed
 module _ (c : After-has-displayed) where
-  bound-is : (has c.args.o.word iso
+  bound_is : (has c.args.o.word iso
       || absent (locking_price (buying c.args.o) c.args.away)) ≡ false
-  bound-is = rw (iso-is c.before.before.before, locking_is c.before.before.before) at c.if-has-locking.false
+  bound_is = rw (iso_is c.before.before.before, locking_is c.before.before.before) at c.if-has-locking.false
 
-  crosses-is : not c.within-crosses.result
+  crosses_is : not c.within-crosses.result
       ≡ beyond (buying c.args.o) (locking_price (buying c.args.o) c.args.away)
       (limit_of c.args.o)
-  crosses-is =
+  crosses_is =
       let e = ap not c.within-crosses.ensures in
       let f = not_not (beyond (buying c.args.o) c.locking_price-locking.result c.in_half_cents-price.result) in
       rw (locking_is c.before.before.before, limit_is c.before.before.before) at (e ∙ f)
 
-  displayed-is : c.has-displayed.result ≡ has c.args.o.word displayed
-  displayed-is = c.has-displayed.ensures
+  displayed_is : c.has-displayed.result ≡ has c.args.o.word displayed
+  displayed_is = c.has-displayed.ensures
 
 pub in_half_cents-price-requires : goal.in_half_cents-price-requires
 in_half_cents-price-requires c = c.requires.0
@@ -52,7 +52,7 @@ unfolding seeks
 returns-then-has-locking c =
     let here = (goal.at.returns-then-has-locking c).After-struct_known-2-1 in
     let a = c.args in
-    let free : (has a.o.word iso || absent (locking_price (buying a.o) a.away)) ≡ true = rw (iso-is here, locking_is here) at c.if-has-locking.true in
+    let free : (has a.o.word iso || absent (locking_price (buying a.o) a.away)) ≡ true = rw (iso_is here, locking_is here) at c.if-has-locking.true in
     rw free (ap Rests (limit_is here))
 
 pub less_aggressive-requires : goal.less_aggressive-requires
@@ -68,8 +68,8 @@ returns-then-displayed-price c =
     let a = c.args in
     let l = locking_price (buying a.o) a.away in
     let t : (has a.o.word displayed && (eqb (limit_of a.o).0 l.0 || beyond (buying a.o) l (limit_of a.o))) ≡ true =
-    rw (displayed-is here, crosses-is here, locking_is there, limit_is there) at c.if-displayed-price.true in
-    rw (bound-is here, t) (c.adjust.ensures ∙ ap (adjusted a.o) (c.less_aggressive.ensures ∙ ap (one_cent_less_aggressive (buying a.o)) (locking_is there)))
+    rw (displayed_is here, crosses_is here, locking_is there, limit_is there) at c.if-displayed-price.true in
+    rw (bound_is here, t) (c.adjust.ensures ∙ ap (adjusted a.o) (c.less_aggressive.ensures ∙ ap (one_cent_less_aggressive (buying a.o)) (locking_is there)))
 
 pub returns-then-displayed-crosses : goal.returns-then-displayed-crosses
 unfolding seeks
@@ -79,10 +79,10 @@ returns-then-displayed-crosses c =
     let a = c.args in
     let l = locking_price (buying a.o) a.away in
     let t : (has a.o.word displayed && (eqb (limit_of a.o).0 l.0 || beyond (buying a.o) l (limit_of a.o))) ≡ false =
-    rw (displayed-is here, crosses-is here, locking_is there, limit_is there) at c.if-displayed-price.false in
+    rw (displayed_is here, crosses_is here, locking_is there, limit_is there) at c.if-displayed-price.false in
     let u : (not (has a.o.word displayed) && beyond (buying a.o) l (limit_of a.o)) ≡ true =
-    rw (displayed-is here, crosses-is here) at c.if-displayed-crosses.true in
-    rw (bound-is here, t, u) (c.adjust-then-displayed-crosses.ensures ∙ ap (adjusted a.o) (locking_is there))
+    rw (displayed_is here, crosses_is here) at c.if-displayed-crosses.true in
+    rw (bound_is here, t, u) (c.adjust-then-displayed-crosses.ensures ∙ ap (adjusted a.o) (locking_is there))
 
 pub returns : goal.returns
 unfolding seeks
@@ -92,7 +92,7 @@ returns c =
     let a = c.args in
     let l = locking_price (buying a.o) a.away in
     let t : (has a.o.word displayed && (eqb (limit_of a.o).0 l.0 || beyond (buying a.o) l (limit_of a.o))) ≡ false =
-    rw (displayed-is here, crosses-is here, locking_is there, limit_is there) at c.if-displayed-price.false in
+    rw (displayed_is here, crosses_is here, locking_is there, limit_is there) at c.if-displayed-price.false in
     let u : (not (has a.o.word displayed) && beyond (buying a.o) l (limit_of a.o)) ≡ false =
-    rw (displayed-is here, crosses-is here) at c.if-displayed-crosses.false in
-    rw (bound-is here, t, u) (ap Rests (limit_is there))
+    rw (displayed_is here, crosses_is here) at c.if-displayed-crosses.false in
+    rw (bound_is here, t, u) (ap Rests (limit_is there))

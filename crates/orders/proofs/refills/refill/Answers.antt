@@ -32,8 +32,8 @@ use Rattle.orders.proofs.refills.refill.Goals.{After-settle-m, In-loop-at}
 -- the order at a rank of a side, which shows nothing, as it is set anew: what is known of it
 module _ (number : Number) (next at : ℕ) (s : List Resting) (older : All (Older (stamp number next)) s) (fillables : All Refillable s) (below : at < length s)
     (o made : Resting) (is : o ≡ get_or s at unused) (gone : o.shares.0 ≡ 0) (set : made ≡ refilled o) where
-  fate-is : IsSet made ≡ refill_fate o
-  fate-is = ap IsSet set ∙ sym (refill_due o gone)
+  fate_is : IsSet made ≡ refill_fate o
+  fate_is = ap IsSet set ∙ sym (refill_due o gone)
 
   fillable : Refillable o
   fillable = subst Refillable (sym is) (all_at unused at fillables below)
@@ -41,8 +41,8 @@ module _ (number : Number) (next at : ℕ) (s : List Resting) (older : All (Olde
   stays : (k : ℕ) → SetStays refill_fate (stamp number k) (refill_fate o)
   stays k = rw (refill_due o gone) (refilled_stays o (stamp number k) fillable.is_left)
 
-  is-set-below : set_below (refill_fate o)
-  is-set-below =
+  is_set_below : set_below (refill_fate o)
+  is_set_below =
       let older : Older (stamp number next) o = subst (Older (stamp number next)) (sym is) (all_at unused at older below) in
       rw (refill_due o gone) older.priced
 
@@ -51,13 +51,13 @@ module _ (c : In-loop-at) where
   abbrev left : List Resting
   left = side c.loop-at.m.held c.loop-at.x c.loop-at.t
 
-  below-held : c.loop-at.at < c.loop-at.m.held
-  below-held =
+  below_held : c.loop-at.at < c.loop-at.m.held
+  below_held =
       let a = c.args in
       omega (arith, c.loop-at-test.true, c.requires.1.within, length_side a.n a.x.now a.t.now, c.loop-at.invariant.5)
 
   below : c.loop-at.at < length left
-  below = omega (arith, below-held, length_side c.loop-at.m.held c.loop-at.x c.loop-at.t)
+  below = omega (arith, below_held, length_side c.loop-at.m.held c.loop-at.x c.loop-at.t)
 
 -- what setting it anew leaves
 leaves : (c : After-settle-m) →
@@ -83,9 +83,9 @@ leaves c held below =
     let before = side l.m.held l.x l.t in
     let e : c.refill_order.result ≡ refilled o = c.refill_order.ensures in
     let gone : o.shares.0 ≡ 0 = omega (arith, c.if-o-ne0.false) in
-    let fate = fate-is a.number l.m.next l.at before i.1.older i.4 below o c.refill_order.result c.at-o.ensures gone e in
+    let fate = fate_is a.number l.m.next l.at before i.1.older i.4 below o c.refill_order.result c.at-o.ensures gone e in
     let stay = stays a.number l.m.next l.at before i.1.older i.4 below o c.refill_order.result c.at-o.ensures gone e in
-    let priced = is-set-below a.number l.m.next l.at before i.1.older i.4 below o c.refill_order.result c.at-o.ensures gone e in
+    let priced = is_set_below a.number l.m.next l.at before i.1.older i.4 below o c.refill_order.result c.at-o.ensures gone e in
     let settled = settle_leaves l.m l.x l.t i.0 i.1 i.2 held o c.at-o.ensures (IsSet c.refill_order.result) fate
     (stay l.m.next) priced c.settle-m.result c.settle-m.new.x c.settle-m.new.t _ c.settle-m.ensures.value c.settle-m.ensures.shows
     c.settle-m.ensures.out_after in
@@ -114,14 +114,14 @@ loop-at-init c =
 pub at-o-requires : goal.at-o-requires
 at-o-requires c =
     let here = (goal.at.at-o-requires c).In-loop-at in
-    (c.loop-at.invariant.0, below-held here)
+    (c.loop-at.invariant.0, below_held here)
 
 -- ── An order that shows something is passed ──
 
 pub overflow_add-at : goal.overflow_add-at
 overflow_add-at c =
     let here = (goal.at.overflow_add-at c).In-loop-at in
-    omega (arith, below-held here, c.loop-at.invariant.0.fits)
+    omega (arith, below_held here, c.loop-at.invariant.0.fits)
 
 pub loop-at-smaller-then-o-ne0 : goal.loop-at-smaller-then-o-ne0
 loop-at-smaller-then-o-ne0 c = omega (arith, c.loop-at-test.true)
@@ -154,16 +154,16 @@ settle-m-requires c =
     let is : o ≡ get_or (left here) l.at unused = c.at-o.ensures in
     let gone : o.shares.0 ≡ 0 = omega (arith, c.if-o-ne0.false) in
     let set : made ≡ refilled o = c.refill_order.ensures in
-    let fate = fate-is a.number l.m.next l.at (left here) i.1.older i.4 (below here) o made is gone set in
+    let fate = fate_is a.number l.m.next l.at (left here) i.1.older i.4 (below here) o made is gone set in
     let stay = stays a.number l.m.next l.at (left here) i.1.older i.4 (below here) o made is gone set in
     let fits = room_now i.1 (below here) o is i.2 (stay l.m.next) in
     let room : l.m.length + length (event_lines (told_by (IsSet made) o)) ≤ length l.out =
     subst (λ (f : Fate). l.m.length + length (event_lines (told_by f o)) ≤ length l.out) (sym fate)
     (omega (arith, fits, c.requires.2, i.6)) in
     let priced : set_below (IsSet made) =
-    subst set_below (sym fate) (is-set-below a.number l.m.next l.at (left here) i.1.older i.4 (below here) o made is gone set) in (
+    subst set_below (sym fate) (is_set_below a.number l.m.next l.at (left here) i.1.older i.4 (below here) o made is gone set) in (
       i.0,
-      below-held here,
+      below_held here,
       ranked_others i.1 (below here) o is,
       room,
       omega (arith, next_fits i.1, length_side a.n a.x.now a.t.now, c.requires.0.fits),
@@ -174,7 +174,7 @@ settle-m-requires c =
 pub loop-at-smaller : goal.loop-at-smaller
 loop-at-smaller c =
     let here = (goal.at.loop-at-smaller c).In-loop-at in
-    omega (arith, (leaves (goal.at.loop-at-smaller c).After-settle-m (below-held here) (below here)).3)
+    omega (arith, (leaves (goal.at.loop-at-smaller c).After-settle-m (below_held here) (below here)).3)
 
 pub loop-at-preserved : goal.loop-at-preserved
 loop-at-preserved c =
@@ -186,7 +186,7 @@ loop-at-preserved c =
     let is : o ≡ get_or (left here) l.at unused = c.at-o.ensures in
     let gone : o.shares.0 ≡ 0 = omega (arith, c.if-o-ne0.false) in
     let known = fillable a.number l.m.next l.at (left here) i.1.older i.4 (below here) o c.refill_order.result is gone c.refill_order.ensures in
-    let f = leaves (goal.at.loop-at-preserved c).After-settle-m (below-held here) (below here) in
+    let f = leaves (goal.at.loop-at-preserved c).After-settle-m (below_held here) (below here) in
     let x = stamped_as (stamp a.number l.m.next) (refilled o) in
     let stay = refilled_stays o (stamp a.number l.m.next) known.is_left in (
       f.0,

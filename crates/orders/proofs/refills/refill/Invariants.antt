@@ -1,3 +1,4 @@
+-- `orders::refills::refill`: what its loop keeps, and its measure.
 use Prim.Native.Nat.{◌+◌, ◌-◌}
 use mathlib.Core.Path.{◌≡◌}
 use lib.ListN.{length, take, drop}

@@ -1,3 +1,4 @@
+-- `orders::reports::report_cancelled`: what its loop keeps, and its measure.
 use Prim.Native.Nat.{◌*◌, ◌-◌, ◌≤◌}
 use mathlib.Core.List.{map}
 use mathlib.Core.Path.{◌≡◌}

@@ -1,3 +1,4 @@
+-- `orders::walk::walk`: what its loop keeps, and its measure.
 use lib.ListN.{length}
 use Rattle.side.specs.Table.{side}
 use Rattle.orders.specs.Cursor.{ahead}

@@ -11,13 +11,13 @@ use Rattle.orders.proofs.work.ending_of.Goals.{Else-has, Else-has-2}
 
 -- shares are left of an order that is no Fill-or-Kill
 module _ (c : Else-has) where
-  not-fok : has c.args.o.word fok ≡ false
-  not-fok = sym c.has.ensures ∙ c.if-has.false
+  not_fok : has c.args.o.word fok ≡ false
+  not_fok = sym c.has.ensures ∙ c.if-has.false
 
 -- nor is it Immediate-or-Cancel
 module _ (c : Else-has-2) where
-  not-ioc : has c.args.o.word ioc ≡ false
-  not-ioc = sym c.has-2.ensures ∙ c.if-has-2.false
+  not_ioc : has c.args.o.word ioc ≡ false
+  not_ioc = sym c.has-2.ensures ∙ c.if-has-2.false
 
 pub returns-then-left-eq0 : goal.returns-then-left-eq0
 unfolding ending_by_best
@@ -32,8 +32,8 @@ returns-then-has c =
 pub returns-then-has-2 : goal.returns-then-has-2
 unfolding ending_by_best
 returns-then-has-2 c =
-    let now-or-never : has c.args.o.word ioc ≡ true = sym c.has-2.ensures ∙ c.if-has-2.true in
-    rw (ne_eqb _ _ c.if-left-eq0.false, not-fok (goal.at.returns-then-has-2 c).Else-has, now-or-never)
+    let now_or_never : has c.args.o.word ioc ≡ true = sym c.has-2.ensures ∙ c.if-has-2.true in
+    rw (ne_eqb _ _ c.if-left-eq0.false, not_fok (goal.at.returns-then-has-2 c).Else-has, now_or_never)
 
 pub seek-requires : goal.seek-requires
 seek-requires c = c.requires.2
@@ -46,14 +46,14 @@ unfolding ending_by_best
 returns-in-Filled c =
     let a = c.args in
     let sought : seeks a.o a.away ≡ Filled = sym c.seek.ensures ∙ c.in-Filled.is in
-    rw (ne_eqb _ _ c.if-left-eq0.false, not-fok (goal.at.returns-in-Filled c).Else-has, not-ioc (goal.at.returns-in-Filled c).Else-has-2, sought)
+    rw (ne_eqb _ _ c.if-left-eq0.false, not_fok (goal.at.returns-in-Filled c).Else-has, not_ioc (goal.at.returns-in-Filled c).Else-has-2, sought)
 
 pub returns-in-Cancels : goal.returns-in-Cancels
 unfolding ending_by_best
 returns-in-Cancels c =
     let a = c.args in
     let sought : seeks a.o a.away ≡ Cancels c.in-Cancels.reason = sym c.seek.ensures ∙ c.in-Cancels.is in
-    rw (ne_eqb _ _ c.if-left-eq0.false, not-fok (goal.at.returns-in-Cancels c).Else-has, not-ioc (goal.at.returns-in-Cancels c).Else-has-2, sought)
+    rw (ne_eqb _ _ c.if-left-eq0.false, not_fok (goal.at.returns-in-Cancels c).Else-has, not_ioc (goal.at.returns-in-Cancels c).Else-has-2, sought)
 
 pub returns-in-Rests : goal.returns-in-Rests
 unfolding ending_by_best
@@ -61,4 +61,9 @@ returns-in-Rests c =
     let a = c.args in
     let sought : seeks a.o a.away ≡ Rests c.in-Rests.price =
     sym c.seek.ensures ∙ c.in-Rests.is in
-    rw (ne_eqb _ _ c.if-left-eq0.false, not-fok (goal.at.returns-in-Rests c).Else-has, not-ioc (goal.at.returns-in-Rests c).Else-has-2, sought) c.rest_unless_meets.ensures
+    rw (
+      ne_eqb _ _ c.if-left-eq0.false,
+      not_fok (goal.at.returns-in-Rests c).Else-has,
+      not_ioc (goal.at.returns-in-Rests c).Else-has-2,
+      sought,
+    ) c.rest_unless_meets.ensures

@@ -18,18 +18,18 @@ use Rattle.orders.proofs.work.rest_unless_meets.Goals as goal
 use Rattle.orders.proofs.work.rest_unless_meets.Goals.{After-has}
 
 -- those from a rank on, by the first of them
-left-from : (k : ℕ) (s : List Resting) → k < length s → (best : Resting) → best ≡ get_or s k unused → drop k s ≡ best ∷ drop (suc k) s
-left-from k [] l best is = let z : ⊥ = omega arith in absurd z
-left-from zero (h ∷ s) l best is = ap (λ (x : Resting). x ∷ s) (sym is)
-left-from (suc k) (h ∷ s) l best is = left-from k s (omega (arith, l)) best is
+left_from : (k : ℕ) (s : List Resting) → k < length s → (best : Resting) → best ≡ get_or s k unused → drop k s ≡ best ∷ drop (suc k) s
+left_from k [] l best is = let z : ⊥ = omega arith in absurd z
+left_from zero (h ∷ s) l best is = ap (λ (x : Resting). x ∷ s) (sym is)
+left_from (suc k) (h ∷ s) l best is = left_from k s (omega (arith, l)) best is
 
 -- the best of those that are left, and what is known of it
 module _ (c : After-has) where
-  best-left : (let a = c.args in
+  best_left : (let a = c.args in
       drop a.kept (side a.n a.x.now a.t.now) ≡ c.at-best.result ∷ drop (suc a.kept) (side a.n a.x.now a.t.now))
-  best-left =
+  best_left =
       let a = c.args in
-      left-from a.kept (side a.n a.x.now a.t.now)
+      left_from a.kept (side a.n a.x.now a.t.now)
       (omega (arith, length_side a.n a.x.now a.t.now, c.if-n-kept.false)) c.at-best.result c.at-best.ensures
 
 pub returns-then-n-kept : goal.returns-then-n-kept
@@ -47,7 +47,7 @@ returns-then-meets c =
     let a = c.args in
     let post : has a.o.word post_only ≡ true = sym c.has.ensures ∙ c.if-has.true in
     let met : meets_or_passes (buying a.o) a.price c.at-best.result ≡ true = sym c.meets.ensures ∙ c.if-meets.true in
-    rw (best-left (goal.at.returns-then-meets c).After-has, post, met) refl
+    rw (best_left (goal.at.returns-then-meets c).After-has, post, met) refl
 
 pub returns-then-has : goal.returns-then-has
 unfolding rests_unless_best_meets
@@ -55,7 +55,7 @@ returns-then-has c =
     let a = c.args in
     let post : has a.o.word post_only ≡ true = sym c.has.ensures ∙ c.if-has.true in
     let met : meets_or_passes (buying a.o) a.price c.at-best.result ≡ false = sym c.meets.ensures ∙ c.if-meets.false in
-    rw (best-left (goal.at.returns-then-has c).After-has, post, met) refl
+    rw (best_left (goal.at.returns-then-has c).After-has, post, met) refl
 
 pub returns-then-within-price : goal.returns-then-within-price
 unfolding rests_unless_best_meets
@@ -66,7 +66,7 @@ returns-then-within-price c =
     let reached : c.within.result ≡ reaches (buying a.o) a.price h.price =
     c.within.ensures ∙ sym (reaches_is (buying a.o) a.price h.price) in
     let still : (reaches (buying a.o) a.price h.price && not (eqb a.price.0 a.locked.0)) ≡ true = rw reached at c.if-within-price.true in
-    rw (best-left (goal.at.returns-then-within-price c).After-has, other, still) refl
+    rw (best_left (goal.at.returns-then-within-price c).After-has, other, still) refl
 
 pub returns : goal.returns
 unfolding rests_unless_best_meets
@@ -77,4 +77,4 @@ returns c =
     let reached : c.within.result ≡ reaches (buying a.o) a.price h.price =
     c.within.ensures ∙ sym (reaches_is (buying a.o) a.price h.price) in
     let still : (reaches (buying a.o) a.price h.price && not (eqb a.price.0 a.locked.0)) ≡ false = rw reached at c.if-within-price.false in
-    rw (best-left (goal.at.returns c).After-has, other, still) refl
+    rw (best_left (goal.at.returns c).After-has, other, still) refl

@@ -53,4 +53,7 @@ returns c =
     let s = side a.n a.x.now a.t.now in
     let ks = takings_of (is_within (buying a.o) a.bound) a.o.shares.0 (parts s) in
     let alive : ltb (a.o.shares.0 - (bound_walk a.o a.bound s).left.0) (least_of a.o) ≡ false =
-    le-ltb _ _ (rw (c.walk-w.ensures.value, c.least_of-least.ensures) at c.if-shares-w.false) in record { value = rw (plain here, alive) c.walk-w.ensures.value; took_after = rw (plain here, alive, c.walk-w.ensures.value, c.walk-w.ensures.took_after) (takings_laid ks a.took.now) }
+    le-ltb _ _ (rw (c.walk-w.ensures.value, c.least_of-least.ensures) at c.if-shares-w.false) in record {
+      value = rw (plain here, alive) c.walk-w.ensures.value;
+      took_after = rw (plain here, alive, c.walk-w.ensures.value, c.walk-w.ensures.took_after) (takings_laid ks a.took.now);
+    }

@@ -35,10 +35,10 @@ module _ (buy : Bool) (locking : HalfCents) (n at : ℕ) (s : List Resting) (lon
       (within, rw (long, lt-ltb at n within, both.1) refl)
 
 -- the order is there, and its price alone decides
-goes-on-at : (c : Else-n-at) → let a = c.args in
+goes_on_at : (c : Else-n-at) → let a = c.args in
     let s = side a.n a.x.now a.t.now in
     (a.at < a.n) × (goes_on a.buying a.locking a.at s ≡ beyond a.buying a.locking (get_or s a.at unused).price)
-goes-on-at c =
+goes_on_at c =
     let a = c.args in
     let further : (leb a.n a.at || absent a.locking) ≡ false = c.if-n-at.false in
     goes a.buying a.locking a.n a.at (side a.n a.x.now a.t.now) (length_side a.n a.x.now a.t.now) further
@@ -50,7 +50,7 @@ returns-then-n-at c =
     sym (stops a.buying a.locking a.n a.at (side a.n a.x.now a.t.now) (length_side a.n a.x.now a.t.now) ended)
 
 pub at-o-requires : goal.at-o-requires
-at-o-requires c = (c.requires, (goes-on-at (goal.at.at-o-requires c).Else-n-at).0)
+at-o-requires c = (c.requires, (goes_on_at (goal.at.at-o-requires c).Else-n-at).0)
 
 pub returns : goal.returns
 returns c =
@@ -59,7 +59,7 @@ returns c =
     let read : c.at-o.result ≡ get_or s a.at unused = c.at-o.ensures in
     let tested : c.within.result ≡ not (beyond a.buying a.locking (get_or s a.at unused).price) =
     c.within.ensures ∙ ap (λ (o : Resting). not (beyond a.buying a.locking o.price)) read in
-    ap not tested ∙ not_not (beyond a.buying a.locking (get_or s a.at unused).price) ∙ sym (goes-on-at (goal.at.returns c).Else-n-at).1
+    ap not tested ∙ not_not (beyond a.buying a.locking (get_or s a.at unused).price) ∙ sym (goes_on_at (goal.at.returns c).Else-n-at).1
   where
     not_not : (b : Bool) → not (not b) ≡ b
     not_not true = refl

@@ -1,3 +1,4 @@
+-- `quotes::moves::move_side`: what its loop keeps, and its measure.
 use Prim.Native.Nat.{◌+◌, ◌-◌}
 use mathlib.Core.Bool.{Bool, not, ◌&&◌}
 use mathlib.Core.Path.{◌≡◌}

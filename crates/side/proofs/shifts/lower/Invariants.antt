@@ -1,3 +1,4 @@
+-- `side::shifts::lower`: what its loops keep, and their measures.
 use Prim.Native.Nat.{ℕ, ◌+◌, ◌-◌, ◌≤◌}
 use mathlib.Core.List.{List}
 use mathlib.Core.Path.{◌≡◌}

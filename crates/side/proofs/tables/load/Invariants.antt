@@ -1,3 +1,4 @@
+-- `side::tables::load`: what its loop keeps, and its measure.
 use Prim.Native.Nat.{◌-◌, ◌≤◌}
 use mathlib.Core.Path.{◌≡◌}
 use Rattle.rules.specs.Book.{places_a_side}

@@ -1,3 +1,4 @@
+-- `side::tables::number`: what its loop keeps, and its measure.
 use Prim.Native.Nat.{ℕ, ◌-◌, ◌≤◌, ◌<◌}
 use mathlib.Core.Path.{◌≡◌}
 use lib.ListN.{length, get_or}

@@ -18,16 +18,16 @@ map_same : (s : List Resting) → map (λ (o : Resting). o) s ≡ s
 map_same [] = refl
 map_same (o ∷ s) = ap (λ (r : List Resting). o ∷ r) (map_same s)
 
-drop-unused : (k n : ℕ) → drop k (replicate n unused) ≡ replicate (n - k) unused
-drop-unused zero n = let e : n ≡ n - 0 = omega arith in ap (λ (m : ℕ). replicate m unused) e
-drop-unused (suc k) zero = let e : 0 ≡ 0 - suc k = omega arith in ap (λ (m : ℕ). replicate m unused) e
-drop-unused (suc k) (suc n) = let e : n - k ≡ suc n - suc k = omega arith in drop-unused k n ∙ ap (λ (m : ℕ). replicate m unused) e
+drop_unused : (k n : ℕ) → drop k (replicate n unused) ≡ replicate (n - k) unused
+drop_unused zero n = let e : n ≡ n - 0 = omega arith in ap (λ (m : ℕ). replicate m unused) e
+drop_unused (suc k) zero = let e : 0 ≡ 0 - suc k = omega arith in ap (λ (m : ℕ). replicate m unused) e
+drop_unused (suc k) (suc n) = let e : n - k ≡ suc n - suc k = omega arith in drop_unused k n ∙ ap (λ (m : ℕ). replicate m unused) e
 
-all-copied : (s : List Resting) (n : ℕ) → length s ≡ n → copied (λ (o : Resting). o) s (replicate places_a_side unused) n ≡ (places_of s).places
+all_copied : (s : List Resting) (n : ℕ) → length s ≡ n → copied (λ (o : Resting). o) s (replicate places_a_side unused) n ≡ (places_of s).places
 unfolding places_of
-all-copied s n e =
+all_copied s n e =
     let all : take n s ≡ s = take_all n s (omega arith) in
-    rw (all, map_same s, drop-unused n places_a_side, e)
+    rw (all, map_same s, drop_unused n places_a_side, e)
 
 pub bounds-places-i : goal.bounds-places-i
 bounds-places-i c = let f = c.requires.fits in search rules
@@ -49,4 +49,4 @@ returns c =
     let a = c.args in
     let s = side a.n a.x.now a.t.now in
     let z : l.i ≡ a.n = omega arith in
-    l.invariant.1 ∙ ap (copied (λ (o : Resting). o) s (replicate places_a_side unused)) z ∙ all-copied s a.n (length_side a.n a.x.now a.t.now)
+    l.invariant.1 ∙ ap (copied (λ (o : Resting). o) s (replicate places_a_side unused)) z ∙ all_copied s a.n (length_side a.n a.x.now a.t.now)
