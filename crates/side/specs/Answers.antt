@@ -1,12 +1,11 @@
 -- A command to a sound book that stands in a header and two sides that are lent, with room for its lines: the answer of 01, and
 -- the same in a header and numbers.
-use Rattle.std.specs.Prelude.{ℕ, true, List, ◌≡◌, length}
+use Rattle.std.specs.Prelude.{ℕ, true, List, ◌≡◌, length, Some, None}
 use Rattle.basics.specs.Bytes.{onto}
 use Rattle.kinds.specs.declared.Number.{Number}
 use Rattle.side.specs.Table.{Shows, Holds}
 use Rattle.rules.specs.declared.Body.{Body}
 use Rattle.rules.specs.declared.Command.{Command}
-use Rattle.rules.specs.declared.Reading.TheVariants as reading
 use Rattle.rules.specs.Book.{Book, sound}
 use Rattle.rules.specs.EventLines.{event_lines}
 use Rattle.rules.specs.Refusals.{first_of, body_refusals, line_refusals}
@@ -17,11 +16,11 @@ use Rattle.side.specs.declared.tables.Step.{Step}
 
 -- the answer to a command, 4 to 11 or 0
 unfoldable pub answer_of : Command → Book → Answer
-answer_of c b = answer (first_of (line_refusals b (reading.Is c))) (reading.Is c) b
+answer_of c b = answer (first_of (line_refusals b (Some c))) (Some c) b
 
 -- the answer to a command whose header is in order, 8 to 11 or 0
 unfoldable pub body_answer : Number → ℕ → Body → Book → Answer
-body_answer n time body b = answer (first_of (body_refusals b body)) (reading.Is (record { number = n; time = time; body = body })) b
+body_answer n time body b = answer (first_of (body_refusals b body)) (Some (record { number = n; time = time; body = body })) b
 
 abbrev pub step_of : Answer → Step
 step_of a = record { refusal = a.refusal; head = head_of a.book; length = length (event_lines a.events) }
