@@ -37,4 +37,4 @@ work-requires c =
     }
 
 pub returns : goal.returns
-returns c = rw c.in-Is.is c.work.ensures
+returns c = rw c.in-Some.is c.work.ensures

@@ -39,5 +39,5 @@ returns c =
     let s = c.args.s.now in
     let k = c.digits_after-n.result in
     let all : k + 1 - 0 ≡ suc k = omega arith in
-    let is : command_in (take (k + 1 - 0) s) ≡ Some _ = sym c.read_command.ensures ∙ c.in-Is.is in
+    let is : command_in (take (k + 1 - 0) s) ≡ Some _ = sym c.read_command.ensures ∙ c.in-Some.is in
     first_command s k _ (omega (arith, c.if-s-n.false)) (rw all at is)

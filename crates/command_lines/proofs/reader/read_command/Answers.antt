@@ -65,4 +65,4 @@ unfolding command_in
 returns c =
     let here = (goal.at.returns c).After-read_body in
     let header = (goal.at.returns c).After-field_at-time in
-    rw (numbers_good 0 header_form (whole header) (read header) (are_read header) c.if-not-kind-number.false, body_is here (Some c.in-Is.body) c.in-Is.is)
+    rw (numbers_good 0 header_form (whole header) (read header) (are_read header) c.if-not-kind-number.false, body_is here (Some c.in-Some.body) c.in-Some.is)
