@@ -9,11 +9,10 @@ use lib.ListN.{length}
 use native.Mathlib.Omega.{arith}
 use borrow.Author.Tests.{ne_eqb, le-ltb}
 use Rattle.basics.specs.Bytes.{onto}
-use Rattle.std.specs.Prelude.{if◌then◌else◌}
+use Rattle.std.specs.Prelude.{if◌then◌else◌, Some, None}
 use Rattle.basics.proofs.LawsBytes.{onto_none}
 use Rattle.rules.specs.declared.Command.{Command}
-use Rattle.rules.specs.declared.Reading.{Reading}
-use Rattle.rules.specs.declared.Reading.TheVariants as reading
+use Rattle.rules.specs.CommandLines.{Reading}
 use Rattle.rules.specs.Book.{BookRecord, book_in, record_of, record_sound}
 use Rattle.rules.specs.EventLines.{event_lines}
 use Rattle.rules.specs.Refusals.{first_of, least_room, last_refusal, line_refusals, fit_refusals, refusals}
@@ -42,10 +41,10 @@ module _ (r : BookRecord) (out : List ℕ) where
   step_unfit a k e l =
       refused_step a k (first_given (fit_refusals (length out) (record_sound r)) (line_refusals (book_in r) a) (omega (arith, e)) ∙ sym e) l
 
-  pub step_bad : 0 ≡ unfit (length out) (record_sound r) → step_on r reading.Bad out ≡ refused_on 3 r out
+  pub step_bad : 0 ≡ unfit (length out) (record_sound r) → step_on r None out ≡ refused_on 3 r out
   unfolding refusals line_refusals first_of
-  step_bad e = refused_step reading.Bad 3
-      (first_passed last_refusal (fit_refusals (length out) (record_sound r)) (line_refusals (book_in r) reading.Bad) (fit_numbered (length out) (record_sound r)) (sym e)) (omega arith)
+  step_bad e = refused_step None 3
+      (first_passed last_refusal (fit_refusals (length out) (record_sound r)) (line_refusals (book_in r) None) (fit_numbered (length out) (record_sound r)) (sym e)) (omega arith)
 
   pub fit : 0 ≡ unfit (length out) (record_sound r) → (record_sound r ≡ true) × (least_room ≤ length out)
   fit e =
@@ -53,11 +52,11 @@ module _ (r : BookRecord) (out : List ℕ) where
       (f.1, f.0)
 
   module _ (c : Command) (is_sound : record_sound r ≡ true) (room : least_room ≤ length out) where
-    fit_refusals_lem : first_of (refusals (length out) (record_sound r) (book_in r) (reading.Is c)) ≡ first_of (line_refusals (book_in r) (reading.Is c))
+    fit_refusals_lem : first_of (refusals (length out) (record_sound r) (book_in r) (Some c)) ≡ first_of (line_refusals (book_in r) (Some c))
     unfolding refusals first_of
     fit_refusals_lem = rw (is_sound, le-ltb (length out) least_room room)
 
-    pub step_answer : step_on r (reading.Is c) out ≡ record {
+    pub step_answer : step_on r (Some c) out ≡ record {
       refusal = (answer_of c (book_in r)).refusal;
       length = length (event_lines (answer_of c (book_in r)).events);
       book = if eqb (answer_of c (book_in r)).refusal 0 then record_of (answer_of c (book_in r)).book else r;

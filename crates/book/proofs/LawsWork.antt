@@ -8,10 +8,9 @@ use lib.Dec.{eqb}
 use lib.ListN.{length}
 use borrow.Author.Tests.{ne_eqb}
 use Rattle.basics.specs.Bytes.{onto}
-use Rattle.std.specs.Prelude.{if◌then◌else◌}
+use Rattle.std.specs.Prelude.{if◌then◌else◌, Some, None}
 use Rattle.basics.proofs.LawsChoice.{holds_or_not}
 use Rattle.rules.specs.declared.Command.{Command}
-use Rattle.rules.specs.declared.Reading.TheVariants as reading
 use Rattle.rules.specs.Book.{Book, BookRecord, book_in, record_of, record_sound}
 use Rattle.rules.specs.EventLines.{event_lines}
 use Rattle.rules.specs.Refusals.{least_room}
@@ -67,18 +66,18 @@ module _ (b : value.Book) (c : Command) (out : List ℕ) (is_sound : record_soun
   unfolding it
   left_it = rw (← stood) left
 
-  returns_it : step_on (record_in b) (reading.Is c) out ≡ returned (record_in b) out it
+  returns_it : step_on (record_in b) (Some c) out ≡ returned (record_in b) out it
   unfolding it
   returns_it = step_answer (record_in b) out c is_sound room
 
   refusal_is : s.refusal ≡ it.refusal
   refusal_is = ap (λ (x : Step). x.refusal) left_it.0
 
-  out_is_lem : out' ≡ (step_on (record_in b) (reading.Is c) out).out
+  out_is_lem : out' ≡ (step_on (record_in b) (Some c) out).out
   out_is_lem = left_it.1.1.1 ∙ ap (λ (x : Returned). x.out) (sym returns_it)
 
   pub work_refused : s.refusal ≢ 0
-      → (reply s.refusal 0 b ≡ reply_of (step_on (record_in b) (reading.Is c) out)) × (out' ≡ (step_on (record_in b) (reading.Is c) out).out)
+      → (reply s.refusal 0 b ≡ reply_of (step_on (record_in b) (Some c) out)) × (out' ≡ (step_on (record_in b) (Some c) out).out)
   unfolding it event_lines
   work_refused e =
       let f : it.refusal ≢ 0 = λ z. e (refusal_is ∙ z) in
@@ -101,8 +100,8 @@ module _ (b : value.Book) (c : Command) (out : List ℕ) (is_sound : record_soun
       (holds_or_not (eqb it.refusal 0))
 
   pub work_left : (book : value.Book) → book ≡ book_with (record_of (book_on s.head x' t' y' u'))
-      → (reply s.refusal s.length book ≡ reply_of (step_on (record_in b) (reading.Is c) out))
-      × (out' ≡ (step_on (record_in b) (reading.Is c) out).out)
+      → (reply s.refusal s.length book ≡ reply_of (step_on (record_in b) (Some c) out))
+      × (out' ≡ (step_on (record_in b) (Some c) out).out)
   work_left book saved =
       let long : s.length ≡ length (event_lines it.events) = ap (λ (z : Step). z.length) left_it.0 in
       let head : s.head ≡ head_of it.book = ap (λ (z : Step). z.head) left_it.0 in
@@ -112,7 +111,7 @@ module _ (b : value.Book) (c : Command) (out : List ℕ) (is_sound : record_soun
       (reply_alike refusal_is long (saved ∙ ap book_with all) ∙ rw returns_it, out_is_lem)
 
   pub work_done : s.refusal ≡ 0 → (book : value.Book) → book ≡ book_with (record_of (book_on s.head x' t' y' u'))
-      → (reply 0 s.length book ≡ reply_of (step_on (record_in b) (reading.Is c) out)) × (out' ≡ (step_on (record_in b) (reading.Is c) out).out)
+      → (reply 0 s.length book ≡ reply_of (step_on (record_in b) (Some c) out)) × (out' ≡ (step_on (record_in b) (Some c) out).out)
   work_done e book saved =
       let told = work_left book saved in
       (ap (λ (r : ℕ). reply r s.length book) (sym e) ∙ told.0, told.1)

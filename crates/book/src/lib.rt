@@ -9,7 +9,6 @@ ghost use Rattle.rules.specs.Book.{fresh, record_of, record_sound};
 ghost use Rattle.rules.specs.Refusals.{first_of, least_room, fit_refusals};
 ghost use Rattle.rules.specs.Step.{step, step_on};
 ghost use Rattle.rules.specs.declared.Body.TheVariants as body;
-ghost use Rattle.rules.specs.declared.Reading.TheVariants as reading;
 ghost use Rattle.side.specs.Tables.{book_on};
 ghost use Rattle.book.specs.Record.{record_in, book_with, reply_of, head_in};
 
@@ -17,7 +16,7 @@ use command_lines::reader;
 use kinds::{Cents, Number};
 use orders::walk;
 use orders::walk::Takings;
-use rules::{Away, Body, Command, Held, Order, Reading, Resting};
+use rules::{Away, Body, Command, Held, Order, Resting};
 use side::rows::{Index, PLACES, Rows};
 use side::tables::Head;
 use side::{rows, tables};
@@ -49,10 +48,10 @@ pub struct Reply {
     pub book: Book,
 }
 
-fn command(number: Number, time: u32, body: Body) -> Reading
-    ensures { result ≡ reading.Is (record { number = number; time = time; body = body }) }
+fn command(number: Number, time: u32, body: Body) -> Option<Command>
+    ensures { result ≡ Some (record { number = number; time = time; body = body }) }
 {
-    Reading::Is(Command {
+    Some(Command {
         number: number,
         time: time,
         body: body,
@@ -170,8 +169,8 @@ impl Book {
     fn work(self, c: Command, buys: &mut Rows, sells: &mut Rows, out: &mut [u8]) -> Reply
         requires self_value { (record_sound (record_in self) ≡ true) × (least_room ≤ length out.old) }
         requires buys_value { (buys.old ≡ map row_of self.buys.places) × (sells.old ≡ map row_of self.sells.places) }
-        ensures value { result ≡ reply_of (step_on (record_in self) (reading.Is c) out.old) }
-        ensures out_after { out.new ≡ (step_on (record_in self) (reading.Is c) out.old).out }
+        ensures value { result ≡ reply_of (step_on (record_in self) (Some c) out.old) }
+        ensures out_after { out.new ≡ (step_on (record_in self) (Some c) out.old).out }
     {
         let mut x: Index = [0; rows::INDEX];
         let mut y: Index = [0; rows::INDEX];
@@ -190,7 +189,7 @@ impl Book {
     }
 
     // What was read of a line, whatever the book and the output: the refusals in 01's order, and then the command.
-    fn respond(self, reading: Reading, out: &mut [u8]) -> Reply
+    fn respond(self, reading: Option<Command>, out: &mut [u8]) -> Reply
         ensures value { result ≡ reply_of (step_on (record_in self) reading out.old) }
         ensures out_after { out.new ≡ (step_on (record_in self) reading out.old).out }
     {
@@ -201,7 +200,7 @@ impl Book {
         if refusal != 0 {
             return self.refuse(refusal);
         }
-        let Reading::Is(c) = reading else {
+        let Some(c) = reading else {
             return self.refuse(3);
         };
         self.work(c, &mut buys, &mut sells, out)
@@ -209,36 +208,36 @@ impl Book {
 
     pub fn accept(self, number: Number, time: u32, order: Order, out: &mut [u8]) -> Reply
         ensures value { result ≡ reply_of (step_on (record_in self)
-            (reading.Is (record { number = number; time = time; body = body.Order order })) out.old) }
+            (Some (record { number = number; time = time; body = body.Order order })) out.old) }
         ensures out_after { out.new ≡ (step_on (record_in self)
-            (reading.Is (record { number = number; time = time; body = body.Order order })) out.old).out }
+            (Some (record { number = number; time = time; body = body.Order order })) out.old).out }
     {
         self.respond(command(number, time, Body::Order(order)), out)
     }
 
     pub fn cancel(self, number: Number, time: u32, of: Number, out: &mut [u8]) -> Reply
         ensures value { result ≡ reply_of (step_on (record_in self)
-            (reading.Is (record { number = number; time = time; body = body.Cancel of })) out.old) }
+            (Some (record { number = number; time = time; body = body.Cancel of })) out.old) }
         ensures out_after { out.new ≡ (step_on (record_in self)
-            (reading.Is (record { number = number; time = time; body = body.Cancel of })) out.old).out }
+            (Some (record { number = number; time = time; body = body.Cancel of })) out.old).out }
     {
         self.respond(command(number, time, Body::Cancel(of)), out)
     }
 
     pub fn quote(self, number: Number, time: u32, away: Away, out: &mut [u8]) -> Reply
         ensures value { result ≡ reply_of (step_on (record_in self)
-            (reading.Is (record { number = number; time = time; body = body.Quote away })) out.old) }
+            (Some (record { number = number; time = time; body = body.Quote away })) out.old) }
         ensures out_after { out.new ≡ (step_on (record_in self)
-            (reading.Is (record { number = number; time = time; body = body.Quote away })) out.old).out }
+            (Some (record { number = number; time = time; body = body.Quote away })) out.old).out }
     {
         self.respond(command(number, time, Body::Quote(away)), out)
     }
 
     pub fn close(self, number: Number, time: u32, out: &mut [u8]) -> Reply
-        ensures value { result ≡ reply_of (step_on (record_in self) (reading.Is (record { number = number; time = time; body = body.Close }))
+        ensures value { result ≡ reply_of (step_on (record_in self) (Some (record { number = number; time = time; body = body.Close }))
             out.old) }
         ensures out_after { out.new ≡ (step_on (record_in self)
-            (reading.Is (record { number = number; time = time; body = body.Close })) out.old).out }
+            (Some (record { number = number; time = time; body = body.Close })) out.old).out }
     {
         self.respond(command(number, time, Body::Close), out)
     }

@@ -1,8 +1,7 @@
 -- The first line of some bytes, by the place of its line feed.
-use Rattle.std.specs.Prelude.{ℕ, suc, Bool, List, [], ◌∷◌, eqb, take, if◌then◌else◌}
+use Rattle.std.specs.Prelude.{ℕ, suc, Bool, List, [], ◌∷◌, eqb, take, if◌then◌else◌, Some, None}
 use Rattle.basics.specs.Lists.{first_where}
 use Rattle.digits.specs.Digits.{digit_of}
-use Rattle.rules.specs.declared.Reading.TheVariants as reading
 use Rattle.rules.specs.CommandLines.{Kind, kinds, digits_with_header, line_feed, command_in}
 use Rattle.command_lines.specs.declared.lines.Line.{Line}
 
@@ -17,7 +16,7 @@ abbrev pub first_line : List ℕ → Line
 first_line s = record { digits = to_line_feed s; reading = command_in (take (suc (to_line_feed s)) s) }
 
 abbrev pub other_line : List ℕ → Line
-other_line s = record { digits = to_line_feed s; reading = reading.Bad }
+other_line s = record { digits = to_line_feed s; reading = None }
 
 -- how many digits a command has, by the second of them, which tells its kind in a table
 unfoldable pub digits_from : List Kind → ℕ → ℕ

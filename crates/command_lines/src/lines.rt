@@ -8,13 +8,13 @@ ghost use Rattle.command_lines.specs.Lines.{digits_after, first_line, other_line
 ghost use Rattle.command_lines.specs.Pieces.{carried, read_behind};
 
 use crate::reader;
-use rules::Reading;
+use rules::Command;
 
 // The first line of some bytes: how many stand before its line feed, and what it reads as.
 #[derive(Clone, Copy)]
 pub struct Line {
     pub digits: usize,
-    pub reading: Reading,
+    pub reading: Option<Command>,
 }
 
 // How many digits a command has whose second digit is `c`.
@@ -53,7 +53,7 @@ fn other_line(s: &[u8]) -> Line
     let n = scan_line(s);
     Line {
         digits: n,
-        reading: Reading::Bad,
+        reading: None,
     }
 }
 
@@ -69,12 +69,12 @@ pub fn first_line(s: &[u8]) -> Line
     if s.len() <= n {
         return other_line(s);
     }
-    let Reading::Is(c) = reader::read_command(&s[0..n + 1]) else {
+    let Some(c) = reader::read_command(&s[0..n + 1]) else {
         return other_line(s);
     };
     Line {
         digits: n,
-        reading: Reading::Is(c),
+        reading: Some(c),
     }
 }
 

@@ -8,7 +8,7 @@ ghost use Rattle.rules.specs.declared.Body.TheVariants as body;
 ghost use Rattle.command_lines.specs.Writing.{written_for, buffer_of};
 
 use kinds::Number;
-use rules::{Away, Body, Carried, Command, Order, Reading};
+use rules::{Away, Body, Carried, Command, Order};
 
 fn order_kind(carried: Carried) -> u8
     ensures { result ≡ order_kind_of carried }
@@ -137,7 +137,7 @@ pub struct Written {
 pub fn write_command(c: Command, out: &mut [u8]) -> Written
     ensures value { result ≡ written_for c (length out.old) }
     ensures out_after { out.new ≡ buffer_of c out.old }
-    ensures c_value { command_in (line_of c) ≡ Reading.Is c }
+    ensures c_value { command_in (line_of c) ≡ Some c }
 {
     let body = c.body;
     let length = rules::HEADER + digits_in(body) + 1;

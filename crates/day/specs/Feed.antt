@@ -2,7 +2,7 @@
 use Rattle.std.specs.Prelude.{ℕ, ◌+◌, ◌-◌, ◌≤◌, true, List, [], ◌∷◌, ◌++◌, ◌≡◌, ltb, length, if◌then◌else◌}
 use Rattle.basics.specs.Bytes.{onto}
 use Rattle.side.specs.Table.{Shows}
-use Rattle.rules.specs.declared.Reading.{Reading}
+use Rattle.rules.specs.CommandLines.{Reading}
 use Rattle.rules.specs.Book.{Book}
 use Rattle.rules.specs.Day.{cut, printed}
 use Rattle.rules.specs.Refusals.{least_room, refusals, first_of}

@@ -11,7 +11,7 @@ use command_lines::lines;
 use event_lines::writer;
 use kinds::{Cents, Number};
 use orders::walk::Takings;
-use rules::{Away, Held, Reading};
+use rules::{Away, Command, Held};
 use side::rows::{Index, Rows};
 use side::tables::Head;
 
@@ -56,7 +56,7 @@ pub fn begin() -> Head
 // What is printed of a line that reads so: its event lines, or the line of its refusal.
 fn print_line(
     h: Head,
-    reading: Reading,
+    reading: Option<Command>,
     x: &mut Index,
     buys: &mut Rows,
     y: &mut Index,
@@ -69,7 +69,7 @@ fn print_line(
         out.old result
         x.new buys.new y.new sells.new out.new }
 {
-    let Reading::Is(c) = reading else {
+    let Some(c) = reading else {
         let length = writer::write_refusal(out, 3);
         return Printed {
             head: h,

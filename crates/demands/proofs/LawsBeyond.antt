@@ -18,11 +18,10 @@ use Rattle.rules.specs.declared.Body.TheVariants as body
 use Rattle.rules.specs.declared.Command.{Command}
 use Rattle.rules.specs.declared.Event.{Event}
 use Rattle.rules.specs.declared.Event.TheVariants.{Executed, Rested, Cancelled, Moved}
-use Rattle.rules.specs.declared.EventReading.{EventReading}
-use Rattle.rules.specs.declared.EventReading.TheVariants as event
+use Rattle.rules.specs.EventReading.{EventReading}
+use Rattle.rules.specs.declared.NoEvent.TheVariants as no_event
 use Rattle.rules.specs.declared.Order.{Order}
-use Rattle.rules.specs.declared.Reading.{Reading}
-use Rattle.rules.specs.declared.Reading.TheVariants as reading
+use Rattle.rules.specs.CommandLines.{Reading}
 use Rattle.rules.specs.declared.Resting.{Resting}
 use Rattle.rules.specs.Book.{Book, fresh, sound, record_of}
 use Rattle.rules.specs.CommandLines.{command_in}
@@ -50,6 +49,7 @@ use Rattle.demands.proofs.LawsOnce.{refused_book, next_acts, by_line_keeps, end_
 use Rattle.demands.proofs.LawsRun.{accepted_does, run_conserved}
 use Rattle.demands.proofs.LawsRuns.{Keeps}
 use Rattle.demands.proofs.LawsWalked.{taken}
+use Rattle.std.specs.Prelude.{Some, None, Ok, Err}
 
 -- ── Post Only ──
 
@@ -69,7 +69,7 @@ post_only_executions n o met p =
     taken (λ (ts : List ℕ). executions n (execution_price o met) hs ts ≡ []) o met none_executes (rw p none_executes)
 
 -- so an accepted Post Only order has its last line alone, and on a book that is not sound those of refills
-post_only_events : (b : Book) (line : List ℕ) (c : Command) (o : Order) → acts b line ≡ true → command_in line ≡ reading.Is c
+post_only_events : (b : Book) (line : List ℕ) (c : Command) (o : Order) → acts b line ≡ true → command_in line ≡ Some c
     → c.body ≡ body.Order o → has o.word post_only ≡ true → All NoExecution (answer_to b line).events
 post_only_events b line c o t e f p =
     let met = met_by o b in
@@ -97,11 +97,11 @@ read_executes_nothing e n = by_reading (event_in (event_line e)) refl
     none_longer (Moved m price given) same = tt
 
     by_reading : (r : EventReading) → event_in (event_line e) ≡ r → All NoExecution (read_as r)
-    by_reading (event.Is d) is = also (none_longer d (event_in_is (event_line e) d is).line_is_lem) none
-    by_reading event.UnknownKind is = none
-    by_reading event.Short is = none
-    by_reading event.TrailingBytes is = none
-    by_reading event.BadDigitOrEnding is = none
+    by_reading (Ok d) is = also (none_longer d (event_in_is (event_line e) d is).line_is_lem) none
+    by_reading (Err no_event.UnknownKind) is = none
+    by_reading (Err no_event.Short) is = none
+    by_reading (Err no_event.TrailingBytes) is = none
+    by_reading (Err no_event.BadDigitOrEnding) is = none
 
 lines_execute_nothing : {es : List Event} → All NoExecution es → All NoExecution (events_in (event_lines es))
 unfolding event_lines cut unended_line lines_in events_on
@@ -110,7 +110,7 @@ lines_execute_nothing (also {x = e} {s = es} n a) =
     rw (event_line_read e (event_lines es)) (all_both (read_executes_nothing e n) (lines_execute_nothing a))
 
 -- so what is printed of it tells no execution
-pub post_only_executes_nothing : (b : Book) (line : List ℕ) (c : Command) (o : Order) → acts b line ≡ true → command_in line ≡ reading.Is c
+pub post_only_executes_nothing : (b : Book) (line : List ℕ) (c : Command) (o : Order) → acts b line ≡ true → command_in line ≡ Some c
     → c.body ≡ body.Order o → has o.word post_only ≡ true → All NoExecution (events_in (printed (answer_to b line)))
 unfolding printed
 post_only_executes_nothing b line c o t e f p = rw t (lines_execute_nothing (post_only_events b line c o t e f p))
@@ -118,19 +118,19 @@ post_only_executes_nothing b line c o t e f p = rw t (lines_execute_nothing (pos
 -- ── The close ──
 
 -- an accepted close closes
-pub close_closes : (b : Book) (line : List ℕ) (c : Command) → acts b line ≡ true → command_in line ≡ reading.Is c → c.body ≡ body.Close
+pub close_closes : (b : Book) (line : List ℕ) (c : Command) → acts b line ≡ true → command_in line ≡ Some c → c.body ≡ body.Close
     → (answer_to b line).book.held.closed ≡ true
 close_closes b line c t e f = rw ((accepted_does b line c e t).0, f, (close_does c.number c.time b).0) refl
 
 -- a line that acts is a command
-acts_reads : {P : Type 0} (b : Book) (line : List ℕ) → acts b line ≡ true → ((c : Command) → command_in line ≡ reading.Is c → P) → P
+acts_reads : {P : Type 0} (b : Book) (line : List ℕ) → acts b line ≡ true → ((c : Command) → command_in line ≡ Some c → P) → P
 acts_reads {P = P} b line t f = by_reading (command_in line) refl
   where
     by_reading : (r : Reading) → command_in line ≡ r → P
-    by_reading reading.Bad e =
+    by_reading None e =
         let next = subst (λ (r : Reading). command_number r ≡ b.held.last.0 + 1) e (next_acts b line t).0 in
         let z : ⊥ = omega (arith, next) in absurd z
-    by_reading (reading.Is c) e = f c e
+    by_reading (Some c) e = f c e
 
 -- a closed book refuses every line
 closed_refuses : (b : Book) (line : List ℕ) → b.held.closed ≡ true → acts b line ≡ false

@@ -15,8 +15,7 @@ use Rattle.kinds.specs.declared.Number.{Number}
 use Rattle.rules.specs.declared.Command.{Command}
 use Rattle.rules.specs.declared.Event.{Event}
 use Rattle.rules.specs.declared.Order.{Order}
-use Rattle.rules.specs.declared.Reading.{Reading}
-use Rattle.rules.specs.declared.Reading.TheVariants as reading
+use Rattle.rules.specs.CommandLines.{Reading}
 use Rattle.rules.specs.Book.{Book, BookRecord, fresh, book_in, record_of, sound, record_sound}
 use Rattle.rules.specs.CommandLines.{Fits, line_of, command_in}
 use Rattle.rules.specs.Commands.{does}
@@ -40,6 +39,7 @@ use Rattle.demands.proofs.LawsOnce.{lines_or_refusal, by_call_keeps, repeat_refu
 use Rattle.demands.proofs.LawsRun.{call_answers, accepted_does, Entered, enters_sound, entered_executes}
 use Rattle.demands.proofs.LawsSums.{run_balance, conserved_from}
 use Rattle.demands.proofs.LawsTold.{lines_read}
+use Rattle.std.specs.Prelude.{Some, None}
 
 -- ── A call is the call of its line ──
 
@@ -52,7 +52,7 @@ pub call_line : (r : BookRecord) (c : Call) → returned r c ≡ step r (line_as
 unfolding step
 call_line r c = ap (λ (a : Reading). step_on r a c.out) (asks_line c.asks)
 
-pub method_line : (r : BookRecord) (c : Command) (out : List ℕ) → Fits c → step_on r (reading.Is c) out ≡ step r (line_of c) out
+pub method_line : (r : BookRecord) (c : Command) (out : List ℕ) → Fits c → step_on r (Some c) out ≡ step r (line_of c) out
 method_line r c out fits = call_line r (record { asks = a_command c fits; out = out })
 
 -- so it ends with event lines or with one numbered refusal
@@ -155,7 +155,7 @@ acting_room r c t =
     (holds_or_not (leb least_room (length c.out)))
 
 -- and does what 01 says of its command
-pub call_does : (r : BookRecord) (k : Call) (c : Command) → reading_of k.asks ≡ reading.Is c → by_call.acts r k ≡ true
+pub call_does : (r : BookRecord) (k : Call) (c : Command) → reading_of k.asks ≡ Some c → by_call.acts r k ≡ true
     → ((returned r k).book ≡ record_of (does c.number c.time c.body (book_in r)).book)
     × (by_call.tells r k ≡ event_lines (does c.number c.time c.body (book_in r)).events)
 call_does r k c is t =
@@ -181,8 +181,8 @@ lines_append (c ∷ cs) calls =
     (holds_or_not (leb least_room (length c.out)))
 
 pub repeat_refused_by_call : (earlier between : List Call) (call again : Call) (c d : Command)
-    → by_call.acts (end_of by_call (record_of fresh) earlier) call ≡ true → reading_of call.asks ≡ reading.Is c
-    → reading_of again.asks ≡ reading.Is d → d.number ≡ c.number → least_room ≤ length again.out
+    → by_call.acts (end_of by_call (record_of fresh) earlier) call ≡ true → reading_of call.asks ≡ Some c
+    → reading_of again.asks ≡ Some d → d.number ≡ c.number → least_room ≤ length again.out
     → (returned (end_of by_call (record_of fresh) (earlier ++ (call ∷ between))) again).refusal ≡ 4
 unfolding lines_with_room
 repeat_refused_by_call earlier between call again c d t is also same room =

@@ -13,8 +13,7 @@ use Rattle.basics.proofs.LawsChoice.{holds_or_not, lt_or_le, and_left, and_right
 use Rattle.rules.specs.declared.Body.{Body}
 use Rattle.rules.specs.declared.Body.TheVariants as body
 use Rattle.rules.specs.declared.Command.{Command}
-use Rattle.rules.specs.declared.Reading.{Reading}
-use Rattle.rules.specs.declared.Reading.TheVariants as reading
+use Rattle.rules.specs.CommandLines.{Reading}
 use Rattle.rules.specs.Book.{Book, BookRecord, book_in, record_sound}
 use Rattle.rules.specs.CommandLines.{Fits, line_of, command_in}
 use Rattle.rules.specs.Refusals.{Refusal, least_room, reading_refusal, first_of, header_refusals, body_refusals, line_refusals, refusals}
@@ -22,6 +21,7 @@ use Rattle.rules.specs.Step.{step_on, step}
 use Rattle.rules.proofs.LawsLines.{command_in_line_of, command_in_is}
 use Rattle.demands.specs.ExactlyWhen.{Applies, room_short, not_sound, no_form, of_command, NoLower}
 use Rattle.demands.proofs.LawsRows.{Gives, here, later, gives_applies, applies_gives}
+use Rattle.std.specs.Prelude.{Some, None}
 
 -- ── The first number that a table gives is the lowest ──
 
@@ -81,8 +81,8 @@ body_rising b body.Close = refl
 -- the numbers of the table rise
 table_rising : (room : ℕ) (book_sound : Bool) (b : Book) (line : Reading) → rising 0 (refusals room book_sound b line) ≡ true
 unfolding refusals line_refusals header_refusals
-table_rising room book_sound b reading.Bad = refl
-table_rising room book_sound b (reading.Is c) = body_rising b c.body
+table_rising room book_sound b None = refl
+table_rising room book_sound b (Some c) = body_rising b c.body
 
 module _ (r : BookRecord) (line out : List ℕ) where
   -- the table on a line, to a record, with an output
@@ -92,10 +92,10 @@ module _ (r : BookRecord) (line out : List ℕ) where
   -- what the table gives on a line, by what the line reads as: its row applies
   line_applies : {k : ℕ} (q : Reading) → command_in line ≡ q → Gives k (line_refusals (book_in r) q) → Applies r line out k
   unfolding line_refusals
-  line_applies reading.Bad e (here t) =
+  line_applies None e (here t) =
       no_form (λ c f is. omega (arith, ap reading_refusal (sym e ∙ ap command_in is ∙ command_in_line_of c f)))
-  line_applies reading.Bad e (later g) = elim g [ ]
-  line_applies (reading.Is c) e g = let l = command_in_is line c e in of_command c l.fits_are l.line_is_lem (gives_applies r c g)
+  line_applies None e (later g) = elim g [ ]
+  line_applies (Some c) e g = let l = command_in_is line c e in of_command c l.fits_are l.line_is_lem (gives_applies r c g)
 
   -- a number that the table gives: its row applies
   table_applies : {k : ℕ} → Gives k whole_table → Applies r line out k
@@ -107,8 +107,8 @@ module _ (r : BookRecord) (line out : List ℕ) where
   -- the line of no command reads as none, which gives 3
   no_form_gives : ((c : Command) → Fits c → line ≢ line_of c) → (q : Reading) → command_in line ≡ q → Gives 3 (line_refusals (book_in r) q)
   unfolding line_refusals
-  no_form_gives f reading.Bad e = here refl
-  no_form_gives f (reading.Is c) e = let l = command_in_is line c e in absurd (f c l.fits_are l.line_is_lem)
+  no_form_gives f None e = here refl
+  no_form_gives f (Some c) e = let l = command_in_is line c e in absurd (f c l.fits_are l.line_is_lem)
 
   -- a row that applies: the table gives its number
   applies_table : {k : ℕ} → Applies r line out k → Gives k whole_table
@@ -117,7 +117,7 @@ module _ (r : BookRecord) (line out : List ℕ) where
   applies_table (not_sound t) = later (here (ap not t))
   applies_table (no_form f) = later (later (no_form_gives f (command_in line) refl))
   applies_table (of_command c f is a) =
-      let e : command_in line ≡ reading.Is c = ap command_in is ∙ command_in_line_of c f in
+      let e : command_in line ≡ Some c = ap command_in is ∙ command_in_line_of c f in
       rw e (later (later (applies_gives r c a)))
 
   -- ── Exactly when ──

@@ -20,8 +20,7 @@ use Rattle.rules.specs.declared.Body.TheVariants as body
 use Rattle.rules.specs.declared.Command.{Command}
 use Rattle.rules.specs.declared.Event.{Event}
 use Rattle.rules.specs.declared.Order.{Order}
-use Rattle.rules.specs.declared.Reading.{Reading}
-use Rattle.rules.specs.declared.Reading.TheVariants as reading
+use Rattle.rules.specs.CommandLines.{Reading}
 use Rattle.rules.specs.Book.{Book, in_rank_order, sound}
 use Rattle.rules.specs.CommandLines.{command_in}
 use Rattle.rules.specs.Holdings.{holdings, nothing, executions, after}
@@ -46,6 +45,7 @@ use Rattle.demands.proofs.LawsPriceHere.{Meetable}
 use Rattle.demands.proofs.LawsShareOut.{priced_at, walked_greatest, walk_fills, fills_walk, takings_lawful, takings_rank, takings_given}
 use Rattle.demands.proofs.LawsWalked.{takes_nothing, takes_all}
 use Rattle.demands.proofs.LawsLinesTell.{every_refill, refills_execute_none, refills_cancel_none, executions_between, last_between, NoneIs, lines_told, executed_total, last_executes_none, is_kill, last_kills, kill_cancels, executions_kill_none, ending_kills}
+use Rattle.std.specs.Prelude.{Some, None}
 
 -- ── The lines of an order that is not Post Only ──
 
@@ -193,7 +193,7 @@ module _ (o : Order) (r : order_in_range o ≡ true) where
   order_shares = shares_fewest o.shares (and_right (leb o.side 1) (shares_in_range o.shares) sized)
 
 -- what no refusal of the line says of its command and of its order
-pub acts_accepted : (b : Book) (line : List ℕ) (c : Command) → acts b line ≡ true → command_in line ≡ reading.Is c → InOrder b c
+pub acts_accepted : (b : Book) (line : List ℕ) (c : Command) → acts b line ≡ true → command_in line ≡ Some c → InOrder b c
 unfolding answer_to answer refusals first_of
 acts_accepted b line c t e =
     let z : first_of (line_refusals b (command_in line)) ≡ 0 = eqb-true (first_of (line_refusals b (command_in line))) 0 t in
@@ -203,7 +203,7 @@ pub acts_order : (b : Book) (c : Command) (o : Order) → InOrder b c → c.body
 acts_order b c o a f = accepted_order b o (subst (λ (x : Body). first_of (body_refusals b x) ≡ 0) f a.by_body)
 
 -- the lines of an accepted order are those of its work
-pub acts_lines : (b : Book) (line : List ℕ) (c : Command) (o : Order) → acts b line ≡ true → command_in line ≡ reading.Is c → c.body ≡ body.Order o
+pub acts_lines : (b : Book) (line : List ℕ) (c : Command) (o : Order) → acts b line ≡ true → command_in line ≡ Some c → c.body ≡ body.Order o
     → (answer_to b line).events ≡ work_lines c.number o (met_by o b)
 unfolding answer_to answer done_by
 acts_lines b line c o t e f =
@@ -226,14 +226,14 @@ all_meetable o b s =
     (each_there (opposite_side (buying o) b))
 
 -- none of them has the number of the next command
-pub acts_new : (b : Book) (line : List ℕ) (c : Command) (o : Order) → sound b ≡ true → acts b line ≡ true → command_in line ≡ reading.Is c
+pub acts_new : (b : Book) (line : List ℕ) (c : Command) (o : Order) → sound b ≡ true → acts b line ≡ true → command_in line ≡ Some c
     → NoneIs c.number (opposite_side (buying o) b)
 acts_new b line c o s t e =
     all_alike (λ h r. λ (z : c.number.0 ≡ h.number.0). omega (arith, z, r.up_to_last, (acts_accepted b line c t e).next))
     (sides_of (buying o) b (sound_is b s)).opposite_in_range
 
 -- so it is an order of the kind above, against the opposite side of a sound book
-pub works : (b : Book) (line : List ℕ) (c : Command) (o : Order) → sound b ≡ true → acts b line ≡ true → command_in line ≡ reading.Is c
+pub works : (b : Book) (line : List ℕ) (c : Command) (o : Order) → sound b ≡ true → acts b line ≡ true → command_in line ≡ Some c
     → c.body ≡ body.Order o → has o.word post_only ≡ false → Works c.number o (met_by o b)
 works b line c o s t e f not_post_only =
     let order = acts_order b c o (acts_accepted b line c t e) f in
@@ -286,7 +286,7 @@ lines_are b c o w no_minimum =
     }
 
 -- demand 3 of an accepted order that is not Post Only, on a sound book, by its event lines, where there is no minimum
-pub executes : (b : Book) (line : List ℕ) (c : Command) (o : Order) → sound b ≡ true → acts b line ≡ true → command_in line ≡ reading.Is c
+pub executes : (b : Book) (line : List ℕ) (c : Command) (o : Order) → sound b ≡ true → acts b line ≡ true → command_in line ≡ Some c
     → c.body ≡ body.Order o → has o.word post_only ≡ false → NoMinimum o b → Executes b c o (answer_to b line).events
 executes b line c o s t e f not_post_only no_minimum =
     subst (Executes b c o) (sym (acts_lines b line c o t e f)) (lines_are b c o (works b line c o s t e f not_post_only) no_minimum)

@@ -23,7 +23,6 @@ use Rattle.rules.specs.declared.Ending.TheVariants.{Filled, Rests, Cancels}
 use Rattle.rules.specs.declared.Event.{Event}
 use Rattle.rules.specs.declared.Event.TheVariants.{Executed, Rested, Cancelled, Moved}
 use Rattle.rules.specs.declared.Order.{Order}
-use Rattle.rules.specs.declared.Reading.TheVariants as reading
 use Rattle.rules.specs.declared.Resting.{Resting}
 use Rattle.rules.specs.Book.{Book, shares_left, sound}
 use Rattle.rules.specs.CommandLines.{command_in}
@@ -44,6 +43,7 @@ use Rattle.demands.proofs.LawsExecutes.{acts_accepted, acts_order, acts_lines, o
 use Rattle.demands.proofs.LawsLinesTell.{every_refill}
 use Rattle.demands.proofs.LawsShareOut.{priced_at, takings_lawful}
 use Rattle.demands.proofs.LawsWalked.{taken}
+use Rattle.std.specs.Prelude.{Some, None}
 
 -- ── Lines of one kind ──
 
@@ -130,7 +130,7 @@ post_only_takes_nothing o met t = taken (λ (ts : List ℕ). ts ≡ nothing (hol
 
 -- the executions of an accepted order
 pub order_fairly : (b : Book) (line : List ℕ) (c : Command) (o : Order) → sound b ≡ true
-    → acts b line ≡ true → command_in line ≡ reading.Is c → c.body ≡ body.Order o
+    → acts b line ≡ true → command_in line ≡ Some c → c.body ≡ body.Order o
     → All (FairlyExecuted o (met_by o b) c.number) (answer_to b line).events
 order_fairly b line c o s t e f =
     let n = c.number in

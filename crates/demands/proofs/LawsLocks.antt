@@ -22,7 +22,6 @@ use Rattle.rules.specs.declared.Ending.{Ending}
 use Rattle.rules.specs.declared.Ending.TheVariants.{Filled, Rests, Cancels}
 use Rattle.rules.specs.declared.Event.TheVariants.{Rested, Cancelled}
 use Rattle.rules.specs.declared.Order.{Order}
-use Rattle.rules.specs.declared.Reading.TheVariants as reading
 use Rattle.rules.specs.declared.Resting.{Resting}
 use Rattle.rules.specs.Book.{Book, BookRecord, in_rank_order, apart, sound, book_in, record_sound}
 use Rattle.rules.specs.CommandLines.{command_in}
@@ -53,6 +52,7 @@ use Rattle.demands.proofs.LawsLinesTell.{every_refill}
 use Rattle.demands.proofs.LawsOrigins.{one_number, opposite_own}
 use Rattle.demands.proofs.LawsPriceHere.{sells, sells_other}
 use Rattle.demands.proofs.LawsTold.{line_told}
+use Rattle.std.specs.Prelude.{Some, None}
 
 -- ── The price of an execution ──
 
@@ -251,7 +251,7 @@ post_only_leaves o b s post =
 
 -- "So Post Only is now cancelled with reason 6 only if it meets a displayed order or would pass a hidden one."
 pub post_only_as_it_meets : (b : Book) (line : List ℕ) (c : Command) (o : Order) → sound b ≡ true → acts b line ≡ true
-    → command_in line ≡ reading.Is c → c.body ≡ body.Order o → All (SaysOfPostOnly o b) (events_in (printed (answer_to b line)))
+    → command_in line ≡ Some c → c.body ≡ body.Order o → All (SaysOfPostOnly o b) (events_in (printed (answer_to b line)))
 unfolding ending
 post_only_as_it_meets b line c o s t e f =
     let n = c.number in
@@ -281,7 +281,7 @@ none_refilled none = refl
 none_refilled (also {x = h} l a) = rw (refill_not_due h (λ z. omega (arith, l, z)), none_refilled a) refl
 
 -- a Post Only order writes one line, of all its shares
-module _ (b : Book) (line : List ℕ) (c : Command) (o : Order) (s : sound b ≡ true) (t : acts b line ≡ true) (e : command_in line ≡ reading.Is c)
+module _ (b : Book) (line : List ℕ) (c : Command) (o : Order) (s : sound b ≡ true) (t : acts b line ≡ true) (e : command_in line ≡ Some c)
     (f : c.body ≡ body.Order o) (post : has o.word post_only ≡ true) (kill : has o.word fok ≡ false) (cancel : has o.word ioc ≡ false) where
   abbrev met : Met
   met = met_by o b

@@ -22,7 +22,6 @@ use Rattle.rules.specs.declared.Command.{Command}
 use Rattle.rules.specs.declared.Event.{Event}
 use Rattle.rules.specs.declared.Event.TheVariants.{Executed, Rested, Cancelled, Moved}
 use Rattle.rules.specs.declared.Order.{Order}
-use Rattle.rules.specs.declared.Reading.TheVariants as reading
 use Rattle.rules.specs.declared.Resting.{Resting}
 use Rattle.rules.specs.Book.{Book, BookRecord, fresh, sound, book_in, record_sound, shares_left}
 use Rattle.rules.specs.CommandLines.{command_in}
@@ -58,6 +57,7 @@ use Rattle.demands.proofs.LawsRun.{Entered, enters_sound}
 use Rattle.demands.proofs.LawsShareOut.{priced_at, may_take, all_meetable, may_fair, fair_may, walked_is, walked_given}
 use Rattle.demands.proofs.LawsTold.{line_told}
 use Rattle.demands.proofs.LawsWalked.{takes_nothing, takes_all}
+use Rattle.std.specs.Prelude.{Some, None}
 
 -- ── The walk in rank order ──
 
@@ -152,7 +152,7 @@ entered_in_rank {stood = b} {line = line} {c = c} {o = o} e not_post_only =
     (order_least o order.in_range))
 
 pub executes_in_rank : (b : Book) (line : List ℕ) (c : Command) (o : Order) → sound b ≡ true → acts b line ≡ true
-    → command_in line ≡ reading.Is c → c.body ≡ body.Order o → has o.word post_only ≡ false
+    → command_in line ≡ Some c → c.body ≡ body.Order o → has o.word post_only ≡ false
     → ExecutesInRank b c o (events_in (printed (answer_to b line)))
 executes_in_rank b line c o s t e f = entered_in_rank (record { is_sound = s; is_accepted = t; reads = e; enters = f })
 
@@ -187,7 +187,7 @@ takings_least o m within =
     (lt_or_le (total (walked o m)) (least_of o))
 
 pub executes_its_least : (b : Book) (line : List ℕ) (c : Command) (o : Order) → sound b ≡ true → acts b line ≡ true
-    → command_in line ≡ reading.Is c → c.body ≡ body.Order o
+    → command_in line ≡ Some c → c.body ≡ body.Order o
     → let es = events_in (printed (answer_to b line)) in
     (executed_in c.number es ≡ 0) ⊎ (minimum_of o.carried ≤ executed_in c.number es)
 executes_its_least b line c o s t e f =
@@ -262,7 +262,7 @@ executions_least n price {side = side} in_range (also {x = h} p a) (with {y = t}
     rw z (also own others))
     (holds_or_not (eqb t 0))
 
-lines_least : (b : Book) (line : List ℕ) (c : Command) (o : Order) → sound b ≡ true → acts b line ≡ true → command_in line ≡ reading.Is c
+lines_least : (b : Book) (line : List ℕ) (c : Command) (o : Order) → sound b ≡ true → acts b line ≡ true → command_in line ≡ Some c
     → c.body ≡ body.Order o → All (LeastExecuted (opposite o b)) (events_in (printed (answer_to b line)))
 lines_least b line c o s t e f =
     let n = c.number in
@@ -306,7 +306,7 @@ kept_same h x r z k =
 
 -- whoever gave nothing, skipped or not reached, keeps its place and its stamp
 pub untouched_stays : (b : Book) (line : List ℕ) (c : Command) (o : Order) → sound b ≡ true → acts b line ≡ true
-    → command_in line ≡ reading.Is c → c.body ≡ body.Order o → (h : Resting) → OneOf h (opposite o b)
+    → command_in line ≡ Some c → c.body ≡ body.Order o → (h : Resting) → OneOf h (opposite o b)
     → given_in h.number (events_in (printed (answer_to b line))) ≡ 0 → OneOf h (opposite o (answer_to b line).book)
 untouched_stays b line c o s t e f h p z =
     let range = one_of_all (sides_of (buying o) b (sound_is b s)).opposite_in_range p in
@@ -342,7 +342,7 @@ record_minimums r s = minimums (book_in r) (book_sound_lem r s)
 
 -- what is left of it, of each that stands after an order
 pub becomes_what_remains : (b : Book) (line : List ℕ) (c : Command) (o : Order) → sound b ≡ true → acts b line ≡ true
-    → command_in line ≡ reading.Is c → c.body ≡ body.Order o → (h : Resting) → OneOf h (opposite o (answer_to b line).book)
+    → command_in line ≡ Some c → c.body ≡ body.Order o → (h : Resting) → OneOf h (opposite o (answer_to b line).book)
     → Stands (BecomesWhatRemains h) (opposite o b)
 becomes_what_remains b line c o s t e f h p = was ((order_refills b line c o s t e f).none_else h p)
   where

@@ -14,8 +14,7 @@ use Rattle.basics.specs.Lists.{distinct}
 use Rattle.basics.proofs.LawsChoice.{holds_or_not, by_test, and_left, and_right}
 use Rattle.kinds.specs.declared.Number.{Number}
 use Rattle.rules.specs.declared.Command.{Command}
-use Rattle.rules.specs.declared.Reading.{Reading}
-use Rattle.rules.specs.declared.Reading.TheVariants as reading
+use Rattle.rules.specs.CommandLines.{Reading}
 use Rattle.rules.specs.Book.{Book, BookRecord, book_in, record_of, record_sound}
 use Rattle.rules.specs.CommandLines.{command_in}
 use Rattle.rules.specs.Day.{printed, book_after, printed_of}
@@ -28,6 +27,7 @@ use Rattle.soundness.proofs.LawsAccepted.{accepted}
 use Rattle.demands.proofs.LawsRoom.{done_long, fit_for}
 use Rattle.demands.proofs.LawsRuns.{Keeps, struck_out_end, struck_out_lines, struck_out_acts, each_once}
 use Rattle.demands.specs.Once.{EventLines, Refused, end_of, event_lines_of, acting_numbers, struck_out, none_refused, command_number, acts, by_line, Call, reading_of, returned, by_call}
+use Rattle.std.specs.Prelude.{Some, None}
 
 -- ── Any bytes, any record, any output ──
 
@@ -92,8 +92,8 @@ refused_events b line e = rw e refl
 -- a line that no refusal is given for is a command with the number after the last, and leaves that number
 next_done : (b : Book) (a : Reading) → first_of (line_refusals b a) ≡ 0 → (command_number a ≡ b.held.last.0 + 1) × ((done_by a b).book.held.last.0 ≡ b.held.last.0 + 1)
 unfolding done_by line_refusals first_of
-next_done b reading.Bad e = let z : ⊥ = omega (arith, e) in absurd z
-next_done b (reading.Is c) e =
+next_done b None e = let z : ⊥ = omega (arith, e) in absurd z
+next_done b (Some c) e =
     let next = (accepted b c e).next in
     (next, rw (does_number_and_time c.number c.time b c.body).0 next)
 
@@ -213,14 +213,14 @@ after_append b [] later = refl
 after_append b (l ∷ ls) later = after_append (answer_to b l).book ls later
 
 -- a line whose number is not above the last is refused with 4
-old_refused : (b : Book) (again : List ℕ) (d : Command) → command_in again ≡ reading.Is d → d.number.0 ≤ b.held.last.0
+old_refused : (b : Book) (again : List ℕ) (d : Command) → command_in again ≡ Some d → d.number.0 ≤ b.held.last.0
     → answer_to b again ≡ record { refusal = 4; book = b; events = [] }
 unfolding answer_to answer refusals line_refusals header_refusals first_of
 old_refused b again d e l = rw (e, le-leb d.number.0 b.held.last.0 l) refl
 
 -- after a line has acted, whatever came since, a line with its number is refused with 4, whatever its time and its body
 pub repeat_refused : (b : Book) (earlier between : List (List ℕ)) (line again : List ℕ) (c d : Command)
-    → acts (book_after b earlier) line ≡ true → command_in line ≡ reading.Is c → command_in again ≡ reading.Is d → d.number ≡ c.number
+    → acts (book_after b earlier) line ≡ true → command_in line ≡ Some c → command_in again ≡ Some d → d.number ≡ c.number
     → answer_to (book_after b (earlier ++ (line ∷ between))) again
     ≡ record { refusal = 4; book = book_after b (earlier ++ (line ∷ between)); events = [] }
 unfolding book_after

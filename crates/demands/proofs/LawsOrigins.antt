@@ -17,8 +17,7 @@ use Rattle.rules.specs.declared.Ending.{Ending}
 use Rattle.rules.specs.declared.Ending.TheVariants.{Filled, Rests, Cancels}
 use Rattle.rules.specs.declared.Event.{Event}
 use Rattle.rules.specs.declared.Order.{Order}
-use Rattle.rules.specs.declared.Reading.{Reading}
-use Rattle.rules.specs.declared.Reading.TheVariants as reading
+use Rattle.rules.specs.CommandLines.{Reading}
 use Rattle.rules.specs.declared.Resting.{Resting}
 use Rattle.rules.specs.declared.Stamp.{Stamp}
 use Rattle.rules.specs.Book.{Book, stamp}
@@ -41,6 +40,7 @@ use Rattle.demands.proofs.LawsExecutes.{acts_accepted}
 use Rattle.demands.proofs.LawsLinesTell.{once_each, once_first, once_rest, opposite_once}
 use Rattle.demands.proofs.LawsOnce.{refused_book, refused_events, next_acts}
 use Rattle.demands.proofs.LawsRun.{accepted_does}
+use Rattle.std.specs.Prelude.{Some, None}
 
 -- ── Where a resting order comes from ──
 
@@ -155,7 +155,7 @@ another_number b s n l buy p e = let r = one_of_all (sides_of buy b s).own_in_ra
 
 -- what holds where a line is refused, and where it is an accepted command, holds after any line
 pub after_line : (P : Book → List Event → Type 0) (b : Book) (line : List ℕ) → (acts b line ≡ false → P b [])
-    → ((c : Command) → acts b line ≡ true → command_in line ≡ reading.Is c → InOrder b c
+    → ((c : Command) → acts b line ≡ true → command_in line ≡ Some c → InOrder b c
     → P (does c.number c.time c.body b).book (does c.number c.time c.body b).events)
     → P (answer_to b line).book (answer_to b line).events
 after_line P b line refused done =
@@ -165,10 +165,10 @@ after_line P b line refused done =
     (holds_or_not (acts b line))
   where
     by_reading : acts b line ≡ true → (r : Reading) → command_in line ≡ r → P (answer_to b line).book (answer_to b line).events
-    by_reading t reading.Bad e =
+    by_reading t None e =
         let z : 0 ≡ b.held.last.0 + 1 = subst (λ (r : Reading). command_number r ≡ b.held.last.0 + 1) e (next_acts b line t).0 in
         let no : ⊥ = omega (arith, z) in
         absurd no
-    by_reading t (reading.Is c) e =
+    by_reading t (Some c) e =
         let d = accepted_does b line c e t in
         rw (d.0, d.1) (done c t e (acts_accepted b line c t e))

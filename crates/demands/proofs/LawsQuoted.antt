@@ -18,8 +18,7 @@ use Rattle.rules.specs.declared.Away.{Away}
 use Rattle.rules.specs.declared.Body.TheVariants as body
 use Rattle.rules.specs.declared.Event.{Event}
 use Rattle.rules.specs.declared.Event.TheVariants.{Moved}
-use Rattle.rules.specs.declared.Reading.{Reading}
-use Rattle.rules.specs.declared.Reading.TheVariants as reading
+use Rattle.rules.specs.CommandLines.{Reading}
 use Rattle.rules.specs.declared.Resting.{Resting}
 use Rattle.rules.specs.Book.{Book, stamp, earlier, ranks_before, sound}
 use Rattle.rules.specs.CommandLines.{command_in}
@@ -43,6 +42,7 @@ use Rattle.demands.proofs.LawsOnce.{next_acts}
 use Rattle.demands.proofs.LawsOrigins.{same_order_lem}
 use Rattle.demands.proofs.LawsRun.{accepted_does}
 use Rattle.demands.proofs.LawsTold.{line_told}
+use Rattle.std.specs.Prelude.{Some, None}
 
 -- ── Who stands there afterwards ──
 
@@ -157,7 +157,7 @@ abbrev next_move : Away → Book → ℕ
 next_move away b = first_move + length (set_anew (quote_fate away true) b.buys)
 
 module _ (b : Book) (line : List ℕ) (n : Number) (time : ℕ) (away : Away)
-    (is : command_in line ≡ reading.Is (record { number = n; time = time; body = body.Quote away })) (t : acts b line ≡ true) where
+    (is : command_in line ≡ Some (record { number = n; time = time; body = body.Quote away })) (t : acts b line ≡ true) where
   -- the two sides after it, and the events
   quote_done : ((answer_to b line).book.buys ≡ settled_side n first_move true (quote_fate away true) b.buys)
       × ((answer_to b line).book.sells ≡ settled_side n (next_move away b) false (quote_fate away false) b.sells)
@@ -175,7 +175,7 @@ module _ (b : Book) (line : List ℕ) (n : Number) (time : ℕ) (away : Away)
 
 -- what an accepted quote moves, on each side
 pub quote_moves : (b : Book) (line : List ℕ) (n : Number) (time : ℕ) (away : Away) → sound b ≡ true
-    → command_in line ≡ reading.Is (record { number = n; time = time; body = body.Quote away }) → acts b line ≡ true
+    → command_in line ≡ Some (record { number = n; time = time; body = body.Quote away }) → acts b line ≡ true
     → Quoted true n away b.buys (answer_to b line).book.buys (events_in (printed (answer_to b line)))
     × Quoted false n away b.sells (answer_to b line).book.sells (events_in (printed (answer_to b line)))
 quote_moves b line n time away s is t =
@@ -201,7 +201,7 @@ writes_side buy away (h ∷ s) =
 
 -- an accepted quote writes the lines of its moves, buys first, and nothing else
 pub quote_writes : (b : Book) (line : List ℕ) (n : Number) (time : ℕ) (away : Away) → sound b ≡ true
-    → command_in line ≡ reading.Is (record { number = n; time = time; body = body.Quote away }) → acts b line ≡ true
+    → command_in line ≡ Some (record { number = n; time = time; body = body.Quote away }) → acts b line ≡ true
     → WritesBoth away b.buys b.sells (events_in (printed (answer_to b line)))
 quote_writes b line n time away s is t = record {
   of_buys = told (quote_fate away true) b.buys;
@@ -218,7 +218,7 @@ put_uncrossed n k buy away s h (is_moved {h = g} p crosses b) = not_crossing (se
 
 -- after an accepted quote no non-displayed order crosses it
 pub no_hidden_order_crosses : (b : Book) (line : List ℕ) (n : Number) (time : ℕ) (away : Away)
-    → command_in line ≡ reading.Is (record { number = n; time = time; body = body.Quote away }) → acts b line ≡ true
+    → command_in line ≡ Some (record { number = n; time = time; body = body.Quote away }) → acts b line ≡ true
     → All (λ (h : Resting). Crosses away h true → ⊥) (answer_to b line).book.buys
     × All (λ (h : Resting). Crosses away h false → ⊥) (answer_to b line).book.sells
 no_hidden_order_crosses b line n time away is t =

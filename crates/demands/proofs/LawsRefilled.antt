@@ -8,7 +8,7 @@ use mathlib.Core.Path.{◌≡◌, refl, sym, ap, subst, ◌∙◌}
 use lib.Dec.{eqb}
 use native.Mathlib.Omega.{arith}
 use borrow.Author.Tests.{eq-eqb}
-use Rattle.std.specs.Prelude.{if◌then◌else◌}
+use Rattle.std.specs.Prelude.{if◌then◌else◌, Some, None}
 use Rattle.basics.specs.Lists.{All, OneOf}
 use Rattle.basics.proofs.LawsChoice.{holds_or_not}
 use Rattle.basics.proofs.LawsLists.{all_alike, one_of_all}
@@ -19,7 +19,6 @@ use Rattle.rules.specs.declared.Command.{Command}
 use Rattle.rules.specs.declared.Event.{Event}
 use Rattle.rules.specs.declared.Fate.TheVariants.{Stays, IsSet}
 use Rattle.rules.specs.declared.Order.{Order}
-use Rattle.rules.specs.declared.Reading.TheVariants as reading
 use Rattle.rules.specs.declared.Resting.{Resting}
 use Rattle.rules.specs.declared.Stamp.{Stamp}
 use Rattle.rules.specs.Book.{Book, stamp, better, earlier, ranks_before, in_rank_order, shares_left, sound}
@@ -208,7 +207,7 @@ side_refilled m o met {last = last} once in_range buy k ranked above =
     (thinned_ranked buy (thinned_after (takings o met) (all_holding last in_range)) ranked) above
 
 -- the side that it meets, afterwards
-pub opposite_left : (b : Book) (line : List ℕ) (c : Command) (o : Order) → acts b line ≡ true → command_in line ≡ reading.Is c
+pub opposite_left : (b : Book) (line : List ℕ) (c : Command) (o : Order) → acts b line ≡ true → command_in line ≡ Some c
     → c.body ≡ body.Order o
     → opposite o (answer_to b line).book
     ≡ settled_side c.number first_move (not (buying o)) refill_fate (after (opposite o b) (takings o (met_by o b)))
@@ -220,7 +219,7 @@ opposite_left b line c o t e f =
     (holds_or_not (buying o)))
 
 -- what an accepted order leaves of the side that it meets, whether it is Post Only or not
-pub order_refills : (b : Book) (line : List ℕ) (c : Command) (o : Order) → sound b ≡ true → acts b line ≡ true → command_in line ≡ reading.Is c
+pub order_refills : (b : Book) (line : List ℕ) (c : Command) (o : Order) → sound b ≡ true → acts b line ≡ true → command_in line ≡ Some c
     → c.body ≡ body.Order o
     → Refills (not (buying o)) c.number (opposite o b) (opposite o (answer_to b line).book) (events_in (printed (answer_to b line)))
 order_refills b line c o s t e f =

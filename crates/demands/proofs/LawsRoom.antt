@@ -19,8 +19,7 @@ use Rattle.rules.specs.declared.Body.{Body}
 use Rattle.rules.specs.declared.Body.TheVariants as body
 use Rattle.rules.specs.declared.Event.{Event}
 use Rattle.rules.specs.declared.Order.{Order}
-use Rattle.rules.specs.declared.Reading.{Reading}
-use Rattle.rules.specs.declared.Reading.TheVariants as reading
+use Rattle.rules.specs.CommandLines.{Reading}
 use Rattle.rules.specs.declared.Resting.{Resting}
 use Rattle.rules.specs.Book.{Book, BookRecord, places_a_side, book_in, sound, places_sound, record_sound, shares_left}
 use Rattle.rules.specs.CommandLines.{command_in}
@@ -40,6 +39,7 @@ use Rattle.rules.proofs.LawsTakings.{nothing_total, takings_are, takings_within,
 use Rattle.rules.proofs.LawsWalkOrder.{holdings_length}
 use Rattle.soundness.proofs.LawsSound.{sound_is}
 use Rattle.demands.specs.Room.{worst_lines}
+use Rattle.std.specs.Prelude.{Some, None}
 
 -- ── A walk ──
 
@@ -215,8 +215,8 @@ does_long n time b is_sound =
 
 pub done_long : (b : Book) (r : Reading) → sound b ≡ true → length (event_lines (done_by r b).events) ≤ worst_lines
 unfolding done_by
-done_long b reading.Bad s = omega (arith, none_long)
-done_long b (reading.Is c) s = does_long c.number c.time b s c.body
+done_long b None s = omega (arith, none_long)
+done_long b (Some c) s = does_long c.number c.time b s c.body
 
 -- what is printed of any line to a sound book; that of a refusal is shorter
 pub printed_long : (b : Book) (line : List ℕ) → sound b ≡ true → length (printed (answer_to b line)) ≤ worst_lines

@@ -8,13 +8,12 @@ use lib.Dec.{eqb}
 use lib.ListN.{length}
 use borrow.Author.Tests.{le-ltb}
 use Rattle.basics.specs.Bytes.{onto}
-use Rattle.std.specs.Prelude.{if◌then◌else◌}
+use Rattle.std.specs.Prelude.{if◌then◌else◌, Some, None}
 use Rattle.basics.proofs.LawsChoice.{holds_or_not}
 use Rattle.kinds.specs.declared.Number.{Number}
 use Rattle.rules.specs.declared.Body.TheVariants as body
 use Rattle.rules.specs.declared.Command.{Command}
 use Rattle.rules.specs.declared.Order.{Order}
-use Rattle.rules.specs.declared.Reading.TheVariants as reading
 use Rattle.rules.specs.Book.{Book, fresh, sound, record_of}
 use Rattle.rules.specs.CommandLines.{command_in}
 use Rattle.rules.specs.Commands.{does}
@@ -58,7 +57,7 @@ call_answers b line out s room =
 -- ── Demand 2 ──
 
 -- an accepted command does what 01 says of it
-pub accepted_does : (b : Book) (line : List ℕ) (c : Command) → command_in line ≡ reading.Is c → acts b line ≡ true
+pub accepted_does : (b : Book) (line : List ℕ) (c : Command) → command_in line ≡ Some c → acts b line ≡ true
     → ((answer_to b line).book ≡ (does c.number c.time c.body b).book)
     × ((answer_to b line).events ≡ (does c.number c.time c.body b).events)
 unfolding answer_to answer done_by
@@ -72,7 +71,7 @@ accepted_does b line c is t = (rw (t, is) refl, rw (t, is) refl)
 pub record Entered (stood : Book) (line : List ℕ) (c : Command) (o : Order) : Type 0 where
   pub is_sound : sound stood ≡ true
   pub is_accepted : acts stood line ≡ true
-  pub reads : command_in line ≡ reading.Is c
+  pub reads : command_in line ≡ Some c
   pub enters : c.body ≡ body.Order o
 
 pub enters_sound : {b : Book} {lines : List (List ℕ)} {stood : Book} {line : List ℕ} {c : Command} {o : Order} → sound b ≡ true

@@ -8,7 +8,7 @@ use mathlib.Core.Path.{◌≡◌, refl, sym, ap, ◌∙◌, subst, subst₂}
 use lib.Dec.{eqb}
 use native.Mathlib.Omega.{arith}
 use borrow.Author.Tests.{eq-eqb, ne_eqb, eqb-true}
-use Rattle.std.specs.Prelude.{if◌then◌else◌}
+use Rattle.std.specs.Prelude.{if◌then◌else◌, Some, None}
 use Rattle.basics.specs.Lists.{gathered, All, none, also, OneOf, first, later}
 use Rattle.basics.proofs.LawsChoice.{by_choice}
 use Rattle.basics.proofs.LawsLists.{all_alike, all_both, one_of_all, each_there, gathered_all}
@@ -24,7 +24,6 @@ use Rattle.rules.specs.declared.Ending.TheVariants.{Filled, Rests, Cancels}
 use Rattle.rules.specs.declared.Event.{Event}
 use Rattle.rules.specs.declared.Event.TheVariants.{Executed}
 use Rattle.rules.specs.declared.Order.{Order}
-use Rattle.rules.specs.declared.Reading.TheVariants as reading
 use Rattle.rules.specs.declared.Resting.{Resting}
 use Rattle.rules.specs.Book.{Book, fresh, sound}
 use Rattle.rules.specs.CommandLines.{command_in}
@@ -268,7 +267,7 @@ run_stands b (line ∷ lines) es s stand =
 
 -- of any sound book, and of events that told its orders where to stand
 executes_where_told : (b : Book) (es : List Event) → sound b ≡ true → StandAsTold es b → (line : List ℕ) (c : Command) (o : Order)
-    → acts b line ≡ true → command_in line ≡ reading.Is c → c.body ≡ body.Order o
+    → acts b line ≡ true → command_in line ≡ Some c → c.body ≡ body.Order o
     → (incoming resting : Number) (price : HalfCents) (shares : Shares)
     → OneOf (Executed incoming resting price shares) (answer_to b line).events
     → (incoming ≡ c.number) × WhereTold o b es resting price × Fair o b.held.away price
@@ -291,7 +290,7 @@ executes_where_told b es s stand line c o t e f incoming resting price shares p 
 -- each execution of a day is at the price at which the resting order was last told to stand, or under a lock half a cent from it; and at a
 -- fair price
 pub executions_where_told : (before : List (List ℕ)) (line : List ℕ) (c : Command) (o : Order)
-    → acts (book_after fresh before) line ≡ true → command_in line ≡ reading.Is c → c.body ≡ body.Order o
+    → acts (book_after fresh before) line ≡ true → command_in line ≡ Some c → c.body ≡ body.Order o
     → (incoming resting : Number) (price : HalfCents) (shares : Shares)
     → OneOf (Executed incoming resting price shares) (events_in (printed (answer_to (book_after fresh before) line)))
     → (incoming ≡ c.number) × WhereTold o (book_after fresh before) (events_in (printed_of fresh before)) resting price

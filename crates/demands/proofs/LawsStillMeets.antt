@@ -23,7 +23,6 @@ use Rattle.rules.specs.declared.Ending.TheVariants.{Filled, Rests, Cancels}
 use Rattle.rules.specs.declared.Event.{Event}
 use Rattle.rules.specs.declared.Event.TheVariants.{Executed, Rested, Cancelled, Moved}
 use Rattle.rules.specs.declared.Order.{Order}
-use Rattle.rules.specs.declared.Reading.TheVariants as reading
 use Rattle.rules.specs.declared.Resting.{Resting}
 use Rattle.rules.specs.Book.{Book, stamp, sound}
 use Rattle.rules.specs.CommandLines.{command_in}
@@ -54,6 +53,7 @@ use Rattle.demands.proofs.LawsRefilled.{opposite_left}
 use Rattle.demands.proofs.LawsShareOut.{walked_leaves}
 use Rattle.demands.proofs.LawsTold.{line_told}
 use Rattle.demands.proofs.LawsWalked.{takes_all}
+use Rattle.std.specs.Prelude.{Some, None}
 
 -- ── The tests of the rules, in words ──
 
@@ -197,7 +197,7 @@ last_says o b left n remains (Cancels reason) says = also {x = Cancelled n (shar
 
 -- what holds of its executions, of its last line and of each refill holds of all its lines
 order_lines : (P : Event → Type 0) (b : Book) (line : List ℕ) (c : Command) (o : Order) → sound b ≡ true → acts b line ≡ true
-    → command_in line ≡ reading.Is c → c.body ≡ body.Order o
+    → command_in line ≡ Some c → c.body ≡ body.Order o
     → ((h : Resting) (k : ℕ) → P (Executed c.number h.number (execution_price o (met_by o b) h) (shares k)))
     → All P (last_line c.number (remainder o (met_by o b)) (ending o (met_by o b)))
     → ((m : Number) (price : HalfCents) (k : Shares) → P (Moved m price k)) → All P (events_in (printed (answer_to b line)))
@@ -209,7 +209,7 @@ order_lines P b line c o s t e f executed last refilled =
     (all_both last (every_refill {P = P} refilled (after met.opposite ts))))
 
 -- what its lines say of reason 8
-pub reason_8 : (b : Book) (line : List ℕ) (c : Command) (o : Order) → sound b ≡ true → acts b line ≡ true → command_in line ≡ reading.Is c
+pub reason_8 : (b : Book) (line : List ℕ) (c : Command) (o : Order) → sound b ≡ true → acts b line ≡ true → command_in line ≡ Some c
     → c.body ≡ body.Order o → All (SaysOfReason8 o b (answer_to b line).book) (events_in (printed (answer_to b line)))
 unfolding ending
 reason_8 b line c o s t e f =
@@ -228,7 +228,7 @@ reason_8 b line c o s t e f =
     (λ m price k. tt)
 
 -- and it is given: with shares left of a Day order, whatever the last line counts is cancelled for it
-pub reason_8_given : (b : Book) (line : List ℕ) (c : Command) (o : Order) → sound b ≡ true → acts b line ≡ true → command_in line ≡ reading.Is c
+pub reason_8_given : (b : Book) (line : List ℕ) (c : Command) (o : Order) → sound b ≡ true → acts b line ≡ true → command_in line ≡ Some c
     → c.body ≡ body.Order o
     → let es = events_in (printed (answer_to b line)) in
     executed_in c.number es < o.shares.0 → StillMeets o b (answer_to b line).book
@@ -361,7 +361,7 @@ NotEight (Cancelled n shares reason) = reason ≢ 8
 NotEight (Moved n price shares) = Unit {0}
 
 -- no order is cancelled for it
-pub no_reason_8 : (b : Book) (line : List ℕ) (c : Command) (o : Order) → sound b ≡ true → acts b line ≡ true → command_in line ≡ reading.Is c
+pub no_reason_8 : (b : Book) (line : List ℕ) (c : Command) (o : Order) → sound b ≡ true → acts b line ≡ true → command_in line ≡ Some c
     → c.body ≡ body.Order o → NoMinimum o b → (n : Number) (left : Shares)
     → OneOf (Cancelled n left 8) (events_in (printed (answer_to b line))) → ⊥
 no_reason_8 b line c o s t e f no_minimum n left p =

@@ -15,8 +15,7 @@ use Rattle.rules.specs.declared.Body.TheVariants as body
 use Rattle.rules.specs.declared.Command.{Command}
 use Rattle.rules.specs.declared.Event.{Event}
 use Rattle.rules.specs.declared.Order.{Order}
-use Rattle.rules.specs.declared.Reading.{Reading}
-use Rattle.rules.specs.declared.Reading.TheVariants as reading
+use Rattle.rules.specs.CommandLines.{Reading}
 use Rattle.rules.specs.declared.Resting.{Resting}
 use Rattle.rules.specs.Book.{Book, fresh, shares_left, sound}
 use Rattle.rules.specs.CommandLines.{command_in}
@@ -38,6 +37,7 @@ use Rattle.demands.specs.Run.{events_of, Enters, now, later}
 use Rattle.demands.specs.Told.{executed_by, cancelled_by, counted_if, executed_in, cancelled_in, rests_on, resting_of}
 use Rattle.demands.proofs.LawsHeld.{counted_same, counted_other, counted_split, executions_sum, executions_cancel_none, told_sum, told_execute_none, ending_sum, ending_leaves}
 use Rattle.demands.proofs.LawsOnce.{refused_book, refused_events, next_acts, answer_rises}
+use Rattle.std.specs.Prelude.{Some, None}
 
 -- ── One command ──
 
@@ -136,13 +136,13 @@ does_sum n m time body.Close b = omega (arith, both_balance n body.Close (on_hel
 
 -- ── One line ──
 
-answer_done : (b : Book) (line : List ℕ) → acts b line ≡ true → (c : Command) → command_in line ≡ reading.Is c
+answer_done : (b : Book) (line : List ℕ) → acts b line ≡ true → (c : Command) → command_in line ≡ Some c
     → ((answer_to b line).events ≡ (does c.number c.time c.body b).events) × ((answer_to b line).book ≡ (does c.number c.time c.body b).book)
 unfolding answer_to answer done_by
 answer_done b line t c e = (rw t (rw e refl), rw t (rw e refl))
 
 -- what rested of n, and what entered under n, is executed, cancelled or rests
-pub balance : (b : Book) (line : List ℕ) (n : Number) → sound b ≡ true → acts b line ≡ true → (c : Command) → command_in line ≡ reading.Is c
+pub balance : (b : Book) (line : List ℕ) (n : Number) → sound b ≡ true → acts b line ≡ true → (c : Command) → command_in line ≡ Some c
     → resting_of n b + entered_under n c
     ≡ executed_in n (answer_to b line).events + cancelled_in n (answer_to b line).events + resting_of n (answer_to b line).book
 balance b line n s t c e =
@@ -152,7 +152,7 @@ balance b line n s t c e =
 -- ── A run of lines ──
 
 -- a line that acts is a command with the number after the last
-next_number : (b : Book) (line : List ℕ) → acts b line ≡ true → (c : Command) → command_in line ≡ reading.Is c → c.number.0 ≡ b.held.last.0 + 1
+next_number : (b : Book) (line : List ℕ) → acts b line ≡ true → (c : Command) → command_in line ≡ Some c → c.number.0 ≡ b.held.last.0 + 1
 next_number b line t c e = subst (λ (a : Reading). command_number a ≡ b.held.last.0 + 1) e (next_acts b line t).0
 
 -- under any other number it enters nothing
@@ -167,11 +167,11 @@ acts_balance b line n s t other = by_reading (command_in line) refl
     entered_none c body.Close e = refl
 
     by_reading : (a : Reading) → command_in line ≡ a → resting_of n b ≡ gone_in n (answer_to b line).events + resting_of n (answer_to b line).book
-    by_reading reading.Bad e =
+    by_reading None e =
         let z : 0 ≡ b.held.last.0 + 1 = subst (λ (a : Reading). command_number a ≡ b.held.last.0 + 1) e (next_acts b line t).0 in
         let no : ⊥ = omega (arith, z) in
         absurd no
-    by_reading (reading.Is c) e =
+    by_reading (Some c) e =
         omega (arith, balance b line n s t c e, entered_none c c.body (next_number b line t c e))
 
 -- nothing more enters under a number that is not above the last

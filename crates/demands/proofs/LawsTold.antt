@@ -8,7 +8,7 @@ use mathlib.Core.Path.{◌≡◌, refl, sym, ap, ◌∙◌}
 use lib.Dec.{eqb, leb}
 use native.Mathlib.Omega.{arith}
 use borrow.Author.Tests.{eqb-true}
-use Rattle.std.specs.Prelude.{if◌then◌else◌}
+use Rattle.std.specs.Prelude.{if◌then◌else◌, Some, None}
 use Rattle.basics.specs.Lists.{All, none, also, Each, empty, with}
 use Rattle.basics.proofs.LawsChoice.{holds_or_not, by_choice, and_left, and_right}
 use Rattle.basics.proofs.LawsLists.{all_alike, all_both, one_of_all, gathered_all}
@@ -26,8 +26,7 @@ use Rattle.rules.specs.declared.Ending.{Ending}
 use Rattle.rules.specs.declared.Ending.TheVariants.{Filled, Rests, Cancels}
 use Rattle.rules.specs.declared.Event.{Event}
 use Rattle.rules.specs.declared.Order.{Order}
-use Rattle.rules.specs.declared.Reading.{Reading}
-use Rattle.rules.specs.declared.Reading.TheVariants as reading
+use Rattle.rules.specs.CommandLines.{Reading}
 use Rattle.rules.specs.declared.Resting.{Resting}
 use Rattle.rules.specs.Book.{Book, shares_left, away_in_range, sound}
 use Rattle.rules.specs.CommandLines.{Fitting, empty, fits, header_form, order_form_of, carried_numbers, command_in}
@@ -242,8 +241,8 @@ number_fits : (line : List ℕ) → command_number (command_in line) < 2 ^ 32
 number_fits line = by_reading (command_in line) refl
   where
     by_reading : (r : Reading) → command_in line ≡ r → command_number r < 2 ^ 32
-    by_reading reading.Bad e = omega arith
-    by_reading (reading.Is c) e = header_number (command_in_is line c e).fits_are.header
+    by_reading None e = omega arith
+    by_reading (Some c) e = header_number (command_in_is line c e).fits_are.header
 
 module _ (b : Book) (line : List ℕ) (s : sound b ≡ true) where
   -- and where a line acts, the last number does, for it is one less
@@ -256,8 +255,8 @@ module _ (b : Book) (line : List ℕ) (s : sound b ≡ true) where
   acting_fits t = rw t (done_fits (command_in line) refl)
     where
       done_fits : (r : Reading) → command_in line ≡ r → All FitsEvent (done_by r b).events
-      done_fits reading.Bad e = none
-      done_fits (reading.Is c) e =
+      done_fits None e = none
+      done_fits (Some c) e =
           let header = (command_in_is line c e).fits_are.header in
           does_fits b s (last_fits t) c.number (header_number header) c.time c.body (acts_accepted b line c t e).by_body
 

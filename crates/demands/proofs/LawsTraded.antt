@@ -8,7 +8,7 @@ use mathlib.Core.Path.{◌≡◌, refl, sym, ap, ◌∙◌, subst, subst₂}
 use lib.Dec.{eqb}
 use native.Mathlib.Omega.{arith}
 use borrow.Author.Tests.{eq-eqb, ne_eqb, eqb-true, eqb-false}
-use Rattle.std.specs.Prelude.{if◌then◌else◌}
+use Rattle.std.specs.Prelude.{if◌then◌else◌, Some, None}
 use Rattle.basics.specs.Lists.{sum_of, All, none, also, OneOf, first, later}
 use Rattle.basics.proofs.LawsChoice.{holds_or_not}
 use Rattle.basics.proofs.LawsLists.{all_alike, all_both, sum_of_append, one_of_all, in_front_lem, behind}
@@ -19,8 +19,7 @@ use Rattle.rules.specs.declared.Command.{Command}
 use Rattle.rules.specs.declared.Event.{Event}
 use Rattle.rules.specs.declared.Event.TheVariants.{Executed, Rested, Cancelled, Moved}
 use Rattle.rules.specs.declared.Order.{Order}
-use Rattle.rules.specs.declared.Reading.{Reading}
-use Rattle.rules.specs.declared.Reading.TheVariants as reading
+use Rattle.rules.specs.CommandLines.{Reading}
 use Rattle.rules.specs.declared.Resting.{Resting}
 use Rattle.rules.specs.Book.{Book, fresh, sound}
 use Rattle.rules.specs.CommandLines.{command_in}
@@ -127,7 +126,7 @@ module _ (ns : Bool → List Number) (b : Book) (line : List ℕ) (s : sound b �
   fairly_pairs o met n buy same p (Moved m price shares) q = tt
 
   -- whatever a command does
-  body_pairs : (c : Command) → acts b line ≡ true → command_in line ≡ reading.Is c → InOrder b c → (x : Body) → c.body ≡ x
+  body_pairs : (c : Command) → acts b line ≡ true → command_in line ≡ Some c → InOrder b c → (x : Body) → c.body ≡ x
       → All (Pairs (with_line ns b line true) (with_line ns b line false)) (does c.number c.time x b).events
   body_pairs c t e order =
       does_tells c.number c.time b
@@ -237,8 +236,8 @@ module _ (m : Number) (k : ℕ) where
       (holds_or_not (acts b line))
     where
       by_reading : (r : Reading) → command_number r ≡ b.held.last.0 + 1 → count_of m k (number_entered side r) ≡ 0
-      by_reading reading.Bad e = refl
-      by_reading (reading.Is c) e = other_uncounted side c c.body (λ (z : c.number.0 ≡ m.0). d (sym z ∙ e))
+      by_reading None e = refl
+      by_reading (Some c) e = other_uncounted side c c.body (λ (z : c.number.0 ≡ m.0). d (sym z ∙ e))
 
   line_once : (b : Book) (line : List ℕ) → count_of m k (entered_at 0 b line) + count_of m k (entered_at 1 b line) ≤ k
   unfolding sum_of
@@ -249,8 +248,8 @@ module _ (m : Number) (k : ℕ) where
       (holds_or_not (acts b line))
     where
       by_reading : (r : Reading) → count_of m k (number_entered 0 r) + count_of m k (number_entered 1 r) ≤ k
-      by_reading reading.Bad = omega arith
-      by_reading (reading.Is c) = one_side c c.body
+      by_reading None = omega arith
+      by_reading (Some c) = one_side c c.body
 
   -- the count of a run is that of its first line and that of the rest
   count_first : (side : ℕ) (b : Book) (line : List ℕ) (lines : List (List ℕ))

@@ -24,7 +24,6 @@ use Rattle.rules.specs.declared.Ending.TheVariants.{Filled, Rests, Cancels}
 use Rattle.rules.specs.declared.Event.{Event}
 use Rattle.rules.specs.declared.Event.TheVariants.{Executed, Rested, Cancelled}
 use Rattle.rules.specs.declared.Order.{Order}
-use Rattle.rules.specs.declared.Reading.TheVariants as reading
 use Rattle.rules.specs.declared.Resting.{Resting}
 use Rattle.rules.specs.Book.{Book, shares_left, sound}
 use Rattle.rules.specs.CommandLines.{command_in}
@@ -60,12 +59,13 @@ use Rattle.demands.proofs.LawsRows.{NoneHas, has_other, either_holds}
 use Rattle.demands.proofs.LawsRun.{accepted_does}
 use Rattle.demands.proofs.LawsPriceHere.{given_here}
 use Rattle.demands.proofs.LawsTold.{line_told}
+use Rattle.std.specs.Prelude.{Some, None}
 
 -- ── An accepted command of a known body ──
 
 -- what holds of what its body does holds after it
 after_body : (P : Book → List Event → Type 0) (b : Book) (line : List ℕ) (c : Command) (x : Body) → acts b line ≡ true
-    → command_in line ≡ reading.Is c → c.body ≡ x
+    → command_in line ≡ Some c → c.body ≡ x
     → P (does c.number c.time x b).book (does c.number c.time x b).events → P (answer_to b line).book (answer_to b line).events
 after_body P b line c x t e f p =
     let done = accepted_does b line c e t in
@@ -73,7 +73,7 @@ after_body P b line c x t e f p =
 
 -- .. and of what is printed of it, read back
 printed_body : (P : Book → List Event → Type 0) (b : Book) (line : List ℕ) (c : Command) (x : Body) → sound b ≡ true → acts b line ≡ true
-    → command_in line ≡ reading.Is c → c.body ≡ x → P (does c.number c.time x b).book (does c.number c.time x b).events
+    → command_in line ≡ Some c → c.body ≡ x → P (does c.number c.time x b).book (does c.number c.time x b).events
     → P (answer_to b line).book (events_in (printed (answer_to b line)))
 printed_body P b line c x s t e f p = rw (line_told b line s) (after_body P b line c x t e f p)
 
@@ -172,7 +172,7 @@ none_new_lem b s n l buy =
     all_alike (λ h p is. another_number b (sound_is b s) n l buy p (ap (λ (m : Number). m.0) is)) (each_there (own_side buy b))
 
 -- so of an accepted order
-pub order_writes : (b : Book) (line : List ℕ) (c : Command) (o : Order) → sound b ≡ true → acts b line ≡ true → command_in line ≡ reading.Is c
+pub order_writes : (b : Book) (line : List ℕ) (c : Command) (o : Order) → sound b ≡ true → acts b line ≡ true → command_in line ≡ Some c
     → c.body ≡ body.Order o → OrderWrites c.number o b (answer_to b line).book (events_in (printed (answer_to b line)))
 order_writes b line c o s t e f =
     let header = acts_accepted b line c t e in
@@ -237,7 +237,7 @@ unfolding body_refusals
 accepted_cancel b of e = not-false (is_resting of b) (none_given 10 (not (is_resting of b)) [] (omega arith) e).0
 
 -- so it takes that order off, tells it, and leaves every other
-pub cancel_writes : (b : Book) (line : List ℕ) (c : Command) (of : Number) → sound b ≡ true → acts b line ≡ true → command_in line ≡ reading.Is c
+pub cancel_writes : (b : Book) (line : List ℕ) (c : Command) (of : Number) → sound b ≡ true → acts b line ≡ true → command_in line ≡ Some c
     → c.body ≡ body.Cancel of
     → CancelWrites of (b.buys ++ b.sells) ((answer_to b line).book.buys ++ (answer_to b line).book.sells) (events_in (printed (answer_to b line)))
 unfolding staying told
@@ -259,7 +259,7 @@ told_every [] = refl
 told_every (h ∷ s) = ap (λ (es : List Event). close_line h ∷ es) (told_every s)
 
 -- an accepted close tells all buys and then all sells, and leaves a closed book with no orders
-pub close_writes : (b : Book) (line : List ℕ) (c : Command) → sound b ≡ true → acts b line ≡ true → command_in line ≡ reading.Is c
+pub close_writes : (b : Book) (line : List ℕ) (c : Command) → sound b ≡ true → acts b line ≡ true → command_in line ≡ Some c
     → c.body ≡ body.Close
     → (events_in (printed (answer_to b line)) ≡ map close_line (b.buys ++ b.sells))
     × ((answer_to b line).book.buys ≡ []) × ((answer_to b line).book.sells ≡ []) × ((answer_to b line).book.held.closed ≡ true)
@@ -273,14 +273,14 @@ close_writes b line c s t e f =
 -- ── What every command leaves ──
 
 -- its number and its time
-pub number_and_time_left : (b : Book) (line : List ℕ) (c : Command) → acts b line ≡ true → command_in line ≡ reading.Is c
+pub number_and_time_left : (b : Book) (line : List ℕ) (c : Command) → acts b line ≡ true → command_in line ≡ Some c
     → ((answer_to b line).book.held.last ≡ c.number) × ((answer_to b line).book.held.time ≡ c.time)
 number_and_time_left b line c t e =
     after_body (λ (a : Book) (es : List Event). (a.held.last ≡ c.number) × (a.held.time ≡ c.time)) b line c c.body t e refl
     (does_number_and_time c.number c.time b c.body)
 
 -- a quote is held, and every other command leaves the away quote
-pub quote_held : (b : Book) (line : List ℕ) (c : Command) (away : Away) → acts b line ≡ true → command_in line ≡ reading.Is c
+pub quote_held : (b : Book) (line : List ℕ) (c : Command) (away : Away) → acts b line ≡ true → command_in line ≡ Some c
     → c.body ≡ body.Quote away → (answer_to b line).book.held.away ≡ away
 quote_held b line c away t e f =
     after_body (λ (a : Book) (es : List Event). a.held.away ≡ away) b line c (body.Quote away) t e f (rw (quote_does c.number c.time b away).0 refl)
@@ -292,7 +292,7 @@ does_away n time (body.Cancel of) b other = refl
 does_away n time (body.Quote away) b other = absurd (other away refl)
 does_away n time body.Close b other = refl
 
-pub away_kept : (b : Book) (line : List ℕ) (c : Command) → acts b line ≡ true → command_in line ≡ reading.Is c
+pub away_kept : (b : Book) (line : List ℕ) (c : Command) → acts b line ≡ true → command_in line ≡ Some c
     → ((away : Away) → c.body ≢ body.Quote away) → (answer_to b line).book.held.away ≡ b.held.away
 away_kept b line c t e other =
     after_body (λ (a : Book) (es : List Event). a.held.away ≡ b.held.away) b line c c.body t e refl (does_away c.number c.time c.body b other)
@@ -305,7 +305,7 @@ does_closed n time (body.Cancel of) b other = refl
 does_closed n time (body.Quote away) b other = refl
 does_closed n time body.Close b other = absurd (other refl)
 
-pub open_unless_closed : (b : Book) (line : List ℕ) (c : Command) → acts b line ≡ true → command_in line ≡ reading.Is c → c.body ≢ body.Close
+pub open_unless_closed : (b : Book) (line : List ℕ) (c : Command) → acts b line ≡ true → command_in line ≡ Some c → c.body ≢ body.Close
     → (answer_to b line).book.held.closed ≡ false
 open_unless_closed b line c t e other =
     after_body (λ (a : Book) (es : List Event). a.held.closed ≡ false) b line c c.body t e refl
@@ -323,7 +323,7 @@ does_executes n time b incoming resting price given =
 
 -- and so of what is printed
 pub only_orders_execute : (b : Book) (line : List ℕ) (c : Command) (incoming resting : Number) (price : HalfCents) (shares : Shares)
-    → sound b ≡ true → acts b line ≡ true → command_in line ≡ reading.Is c
+    → sound b ≡ true → acts b line ≡ true → command_in line ≡ Some c
     → OneOf (Executed incoming resting price shares) (events_in (printed (answer_to b line))) → IsOrder c.body
 only_orders_execute b line c incoming resting price shares s t e =
     printed_body (λ (a : Book) (es : List Event). OneOf (Executed incoming resting price shares) es → IsOrder c.body) b line c c.body s t e refl

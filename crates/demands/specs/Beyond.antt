@@ -1,6 +1,6 @@
 -- Beyond the three demands: words for what else a broker may want to know of a day. `LawsBeyond`, `LawsStanding` and `LawsTraded` have the
 -- proofs.
-use Rattle.std.specs.Prelude.{ℕ, zero, suc, List, [], ◌∷◌, ◌++◌, ◌⊎◌, ◌≡◌, eqb, if◌then◌else◌}
+use Rattle.std.specs.Prelude.{ℕ, zero, suc, List, [], ◌∷◌, ◌++◌, ◌⊎◌, ◌≡◌, eqb, if◌then◌else◌, Some, None}
 use Rattle.basics.specs.Lists.{sum_of, OneOf}
 use Rattle.kinds.specs.Kinds.{half_cents}
 use Rattle.kinds.specs.declared.HalfCents.{HalfCents}
@@ -11,8 +11,7 @@ use Rattle.rules.specs.declared.Command.{Command}
 use Rattle.rules.specs.declared.Event.{Event}
 use Rattle.rules.specs.declared.Event.TheVariants.{Executed, Rested, Cancelled, Moved}
 use Rattle.rules.specs.declared.Order.{Order}
-use Rattle.rules.specs.declared.Reading.{Reading}
-use Rattle.rules.specs.declared.Reading.TheVariants as reading
+use Rattle.rules.specs.CommandLines.{Reading}
 use Rattle.rules.specs.declared.Resting.{Resting}
 use Rattle.rules.specs.Book.{Book}
 use Rattle.rules.specs.CommandLines.{command_in}
@@ -78,8 +77,8 @@ order_number side c (body.Quote away) = []
 order_number side c body.Close = []
 
 abbrev pub number_entered : ℕ → Reading → List Number
-number_entered side (reading.Is c) = order_number side c c.body
-number_entered side reading.Bad = []
+number_entered side (Some c) = order_number side c c.body
+number_entered side None = []
 
 -- the numbers of the accepted orders of a side, in a run of lines
 unfoldable pub numbers_entered : ℕ → Book → List (List ℕ) → List Number

@@ -1,6 +1,6 @@
 -- W6's sentences, said of one accepted order on the book that stood, and of that book: at which price it executes against which resting
 -- order, when Post Only is cancelled, and who stands opposite whom. `LawsLocks` has the proofs.
-use Rattle.std.specs.Prelude.{ℕ, ◌%◌, ◌≤◌, ◌<◌, true, false, List, ◌≡◌}
+use Rattle.std.specs.Prelude.{ℕ, ◌%◌, ◌≤◌, ◌<◌, true, false, List, ◌≡◌, Some, None}
 use Rattle.basics.specs.Lists.{OneOf}
 use Rattle.kinds.specs.declared.HalfCents.{HalfCents}
 use Rattle.kinds.specs.declared.Shares.{Shares}
@@ -10,7 +10,6 @@ use Rattle.rules.specs.declared.Ending.TheVariants.{Rests}
 use Rattle.rules.specs.declared.Event.{Event}
 use Rattle.rules.specs.declared.Event.TheVariants.{Executed, Rested, Cancelled, Moved}
 use Rattle.rules.specs.declared.Order.{Order}
-use Rattle.rules.specs.declared.Reading.TheVariants as reading
 use Rattle.rules.specs.declared.Resting.{Resting}
 use Rattle.rules.specs.Book.{Book, sound}
 use Rattle.rules.specs.CommandLines.{command_in}
@@ -28,7 +27,7 @@ pub record ExecutesWith (b : Book) (line : List ℕ) (o : Order) (h : Resting) (
   pub shares : Shares
   pub is_sound : sound b ≡ true
   pub is_accepted : acts b line ≡ true
-  pub reads : command_in line ≡ reading.Is command
+  pub reads : command_in line ≡ Some command
   pub enters : command.body ≡ body.Order o
   pub there : OneOf h (opposite o b)
   pub prints : OneOf (Executed command.number h.number price shares) (events_in (printed (answer_to b line)))

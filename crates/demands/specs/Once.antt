@@ -1,12 +1,11 @@
 -- Demand 1, in the customer's words: any bytes, with any book record lent, give event lines or one numbered refusal that hands back
 -- the same book and writes no byte; each command number acts at most once in a day; and the day with its refused commands struck
 -- out ends with the same book and the same event lines. These are the words of that statement; `LawsOnce` has its proofs.
-use Rattle.std.specs.Prelude.{ℕ, ◌≤◌, Bool, true, ◌&&◌, List, [], ◌∷◌, ◌++◌, ◌≡◌, eqb, leb, length, take, if◌then◌else◌}
+use Rattle.std.specs.Prelude.{ℕ, ◌≤◌, Bool, true, ◌&&◌, List, [], ◌∷◌, ◌++◌, ◌≡◌, eqb, leb, length, take, if◌then◌else◌, Some, None}
 use Rattle.basics.specs.Bytes.{onto}
 use Rattle.rules.specs.declared.Command.{Command}
 use Rattle.rules.specs.declared.Event.{Event}
-use Rattle.rules.specs.declared.Reading.{Reading}
-use Rattle.rules.specs.declared.Reading.TheVariants as reading
+use Rattle.rules.specs.CommandLines.{Reading}
 use Rattle.rules.specs.Book.{Book, BookRecord}
 use Rattle.rules.specs.CommandLines.{Fits, line_of, command_in}
 use Rattle.rules.specs.EventLines.{event_lines}
@@ -42,8 +41,8 @@ pub record Answering (B C : Type 0) : Type 0 where
 
 -- the number of the command that a reading is, or 0 where it is none
 abbrev pub command_number : Reading → ℕ
-command_number (reading.Is c) = c.number.0
-command_number reading.Bad = 0
+command_number (Some c) = c.number.0
+command_number None = 0
 
 -- the book that a run ends with
 unfoldable pub end_of : {B C : Type 0} → Answering B C → B → List C → B
@@ -96,7 +95,7 @@ pub data Asked : Type 0 where
 
 abbrev pub reading_of : Asked → Reading
 reading_of (a_line line) = command_in line
-reading_of (a_command c fits) = reading.Is c
+reading_of (a_command c fits) = Some c
 
 -- the line that asks the same
 abbrev pub line_asked : Asked → List ℕ

@@ -1,13 +1,13 @@
 -- What the program's own lines tell, read back from their bytes: the events of an output, and from them what each order executed,
 -- gave and had cancelled. Demand 3 is said of these: what an order did is what its lines tell, not what the book's inside did.
-use Rattle.std.specs.Prelude.{ℕ, ◌+◌, Bool, false, ◌&&◌, List, [], ◌∷◌, ◌++◌, eqb, if◌then◌else◌}
+use Rattle.std.specs.Prelude.{ℕ, ◌+◌, Bool, false, ◌&&◌, List, [], ◌∷◌, ◌++◌, eqb, if◌then◌else◌, Ok, Err}
 use Rattle.basics.specs.Lists.{any, sum_of}
 use Rattle.kinds.specs.Kinds.{shares}
 use Rattle.kinds.specs.declared.Number.{Number}
 use Rattle.rules.specs.declared.Event.{Event}
 use Rattle.rules.specs.declared.Event.TheVariants.{Executed, Rested, Cancelled, Moved}
-use Rattle.rules.specs.declared.EventReading.{EventReading}
-use Rattle.rules.specs.declared.EventReading.TheVariants.{Is, UnknownKind, Short, TrailingBytes, BadDigitOrEnding}
+use Rattle.rules.specs.EventReading.{EventReading}
+use Rattle.rules.specs.declared.NoEvent.TheVariants.{UnknownKind, Short, TrailingBytes, BadDigitOrEnding}
 use Rattle.rules.specs.declared.Resting.{Resting}
 use Rattle.rules.specs.Book.{Book, shares_left}
 use Rattle.rules.specs.Day.{lines_in}
@@ -18,11 +18,11 @@ use Rattle.rules.specs.EventReading.{event_in}
 
 -- the event that a line was read as (02, W1); none where it is no event line, as that of a refusal
 abbrev pub read_as : EventReading → List Event
-read_as (Is e) = e ∷ []
-read_as UnknownKind = []
-read_as Short = []
-read_as TrailingBytes = []
-read_as BadDigitOrEnding = []
+read_as (Ok e) = e ∷ []
+read_as (Err UnknownKind) = []
+read_as (Err Short) = []
+read_as (Err TrailingBytes) = []
+read_as (Err BadDigitOrEnding) = []
 
 unfoldable pub events_on : List (List ℕ) → List Event
 events_on [] = []

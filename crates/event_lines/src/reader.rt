@@ -6,12 +6,12 @@ ghost use Rattle.rules.specs.EventReading.{executed_of, rested_of, cancelled_of,
 ghost use Rattle.event_lines.specs.Ended.{when_ended};
 
 use kinds::{HalfCents, Number, Shares};
-use rules::{Event, EventReading};
+use rules::{Event, NoEvent};
 
 // ── The fields behind a kind ──
 
 // Those of kind 11.
-fn read_executed(s: &[u8]) -> EventReading
+fn read_executed(s: &[u8]) -> Result<Event, NoEvent>
     ensures { result ≡ event_of executed_fields executed_of s.now }
 {
     let incoming = digits::field_at(s, 2, 4);
@@ -19,9 +19,9 @@ fn read_executed(s: &[u8]) -> EventReading
     let price = digits::field_at(s, 18, 4);
     let shares = digits::field_at(s, 26, 4);
     if !(incoming.good & resting.good & price.good & shares.good) {
-        return EventReading::BadDigitOrEnding;
+        return Err(NoEvent::BadDigitOrEnding);
     }
-    EventReading::Is(Event::Executed {
+    Ok(Event::Executed {
         incoming: Number(incoming.number),
         resting: Number(resting.number),
         price: HalfCents(price.number),
@@ -30,23 +30,23 @@ fn read_executed(s: &[u8]) -> EventReading
 }
 
 // The same of kinds 12 and 14, which are alike: an order at a price.
-fn read_at_price(s: &[u8], moved: bool) -> EventReading
+fn read_at_price(s: &[u8], moved: bool) -> Result<Event, NoEvent>
     ensures { result ≡ event_of rested_fields (if moved then moved_of else rested_of) s.now }
 {
     let number = digits::field_at(s, 2, 4);
     let price = digits::field_at(s, 10, 4);
     let shares = digits::field_at(s, 18, 4);
     if !(number.good & price.good & shares.good) {
-        return EventReading::BadDigitOrEnding;
+        return Err(NoEvent::BadDigitOrEnding);
     }
     if moved {
-        return EventReading::Is(Event::Moved {
+        return Ok(Event::Moved {
             number: Number(number.number),
             price: HalfCents(price.number),
             shares: Shares(shares.number),
         });
     }
-    EventReading::Is(Event::Rested {
+    Ok(Event::Rested {
         number: Number(number.number),
         price: HalfCents(price.number),
         shares: Shares(shares.number),
@@ -54,16 +54,16 @@ fn read_at_price(s: &[u8], moved: bool) -> EventReading
 }
 
 // The same of kind 13.
-fn read_cancelled(s: &[u8]) -> EventReading
+fn read_cancelled(s: &[u8]) -> Result<Event, NoEvent>
     ensures { result ≡ event_of cancelled_fields cancelled_of s.now }
 {
     let number = digits::field_at(s, 2, 4);
     let shares = digits::field_at(s, 10, 4);
     let reason = digits::field_at(s, 18, 1);
     if !(number.good & shares.good & reason.good) {
-        return EventReading::BadDigitOrEnding;
+        return Err(NoEvent::BadDigitOrEnding);
     }
-    EventReading::Is(Event::Cancelled {
+    Ok(Event::Cancelled {
         number: Number(number.number),
         shares: Shares(shares.number),
         reason: reason.number as u8,
@@ -73,32 +73,32 @@ fn read_cancelled(s: &[u8]) -> EventReading
 // ── A line ──
 
 // What was read of the fields, where the line has its size and its line feed.
-fn when_ended(s: &[u8], size: usize, read: EventReading) -> EventReading
+fn when_ended(s: &[u8], size: usize, read: Result<Event, NoEvent>) -> Result<Event, NoEvent>
     requires { 1 ≤ size }
     ensures { result ≡ when_ended size s.now read }
 {
     if s.len() < size {
-        return EventReading::Short;
+        return Err(NoEvent::Short);
     }
     if size < s.len() {
-        return EventReading::TrailingBytes;
+        return Err(NoEvent::TrailingBytes);
     }
     if s[size - 1] != 10 {
-        return EventReading::BadDigitOrEnding;
+        return Err(NoEvent::BadDigitOrEnding);
     }
     read
 }
 
 // The event that a line is, or why it is none.
-pub fn read_event(s: &[u8]) -> EventReading
+pub fn read_event(s: &[u8]) -> Result<Event, NoEvent>
     ensures { result ≡ event_in s.now }
 {
     if s.len() < 2 {
-        return EventReading::Short;
+        return Err(NoEvent::Short);
     }
     let read = digits::field_at(s, 0, 1);
     if !read.good {
-        return EventReading::UnknownKind;
+        return Err(NoEvent::UnknownKind);
     }
     let kind = read.number;
     match kind {
@@ -106,6 +106,6 @@ pub fn read_event(s: &[u8]) -> EventReading
         0x12 => when_ended(s, rules::RESTED_LENGTH, read_at_price(s, false)),
         0x13 => when_ended(s, rules::CANCELLED_LENGTH, read_cancelled(s)),
         0x14 => when_ended(s, rules::MOVED_LENGTH, read_at_price(s, true)),
-        _ => EventReading::UnknownKind,
+        _ => Err(NoEvent::UnknownKind),
     }
 }

@@ -15,7 +15,6 @@ use Rattle.rules.specs.declared.Body.TheVariants as body
 use Rattle.rules.specs.declared.Command.{Command}
 use Rattle.rules.specs.declared.Event.TheVariants.{Executed}
 use Rattle.rules.specs.declared.Order.{Order}
-use Rattle.rules.specs.declared.Reading.TheVariants as reading
 use Rattle.rules.specs.declared.Resting.{Resting}
 use Rattle.rules.specs.Book.{Book, BookRecord, fresh}
 use Rattle.rules.specs.CommandLines.{command_in}
@@ -34,11 +33,12 @@ use Rattle.demands.proofs.LawsStanding as standing
 use Rattle.demands.proofs.LawsTraded as traded
 use Rattle.lent.specs.Lent.{no_places, places_lent, side_of, with_places, fits, lent_step}
 use Rattle.lent.proofs.LawsPromised as lent
+use Rattle.std.specs.Prelude.{Some, None}
 
 -- ── A day ──
 
 -- "Post Only executes nothing" (01, step 1)
-pub post_only_executes_nothing : (b : Book) (line : List ℕ) (c : Command) (o : Order) → acts b line ≡ true → command_in line ≡ reading.Is c
+pub post_only_executes_nothing : (b : Book) (line : List ℕ) (c : Command) (o : Order) → acts b line ≡ true → command_in line ≡ Some c
     → c.body ≡ body.Order o → has o.word post_only ≡ true → All NoExecution (events_in (printed (answer_to b line)))
 post_only_executes_nothing = beyond.post_only_executes_nothing
 
@@ -56,7 +56,7 @@ settled_after_the_close = beyond.closed_settles
 -- or `14`), or under a lock half a cent from it (02, W6), and it is within the order's limit and, unless it is an ISO, within the away quote
 -- then held
 pub executions_where_told : (before : List (List ℕ)) (line : List ℕ) (c : Command) (o : Order)
-    → acts (book_after fresh before) line ≡ true → command_in line ≡ reading.Is c → c.body ≡ body.Order o
+    → acts (book_after fresh before) line ≡ true → command_in line ≡ Some c → c.body ≡ body.Order o
     → (incoming resting : Number) (price : HalfCents) (shares : Shares)
     → OneOf (Executed incoming resting price shares) (events_in (printed (answer_to (book_after fresh before) line)))
     → (incoming ≡ c.number) × WhereTold o (book_after fresh before) (events_in (printed_of fresh before)) resting price

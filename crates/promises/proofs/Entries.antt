@@ -19,9 +19,8 @@ use Rattle.command_lines.specs.declared.lines.Read.{Read}
 use Rattle.command_lines.specs.Pieces.{read_behind}
 use Rattle.rules.specs.declared.Body.{Body}
 use Rattle.rules.specs.declared.Body.TheVariants as body
-use Rattle.rules.specs.declared.EventReading.{EventReading}
-use Rattle.rules.specs.declared.Reading.{Reading}
-use Rattle.rules.specs.declared.Reading.TheVariants as reading
+use Rattle.rules.specs.EventReading.{EventReading}
+use Rattle.rules.specs.CommandLines.{Reading}
 use Rattle.rules.specs.Book as book
 use Rattle.rules.specs.CommandLines.{line_of, command_in}
 use Rattle.rules.specs.EventReading.{event_in}
@@ -94,6 +93,7 @@ use Rattle.day.proofs.night.take_turn.Statement as turn-statement
 use Rattle.day.proofs.night.finish.Met as finish-met
 use Rattle.day.proofs.night.finish.Reads as finish
 use Rattle.day.proofs.night.finish.Statement as finish-statement
+use Rattle.std.specs.Prelude.{Some, None}
 
 -- ── The book by value ──
 
@@ -123,7 +123,7 @@ answer_says κs a r s = refl
 -- the command that a method asks for, on the book and with the output that are lent
 abbrev Asks : Book → Number → ℕ → Body → List ℕ → Reply → List ℕ → Type 0
 Asks b n time what out r out' =
-    let asked = step_on (record_in b) (reading.Is (record { number = n; time = time; body = what })) out in
+    let asked = step_on (record_in b) (Some (record { number = n; time = time; body = what })) out in
     (r ≡ reply_of asked) × (out' ≡ asked.out)
 
 -- `Book::accept(self, number, time, order, out)`: an order
@@ -221,7 +221,7 @@ write_asks κs a = refl
 
 pub write_says : (κs : _) (a : _) (r : Written) (s : _) → write.Post κs a r s
     ≡ ((r ≡ written_for a.0 (length a.1.0.now))
-    × ((s.1.0.now ≡ buffer_of a.0 a.1.0.now) × (command_in (line_of a.0) ≡ reading.Is a.0)))
+    × ((s.1.0.now ≡ buffer_of a.0 a.1.0.now) × (command_in (line_of a.0) ≡ Some a.0)))
 write_says κs a r s = refl
 
 -- `event_lines::reader::read_event(s)`: any bytes (02, W1)

@@ -19,9 +19,7 @@ use Rattle.rules.specs.declared.Command.{Command}
 use Rattle.rules.specs.declared.Event.{Event}
 use Rattle.rules.specs.declared.Ending.TheVariants.{Rests}
 use Rattle.rules.specs.declared.Event.TheVariants.{Executed, Rested, Cancelled}
-use Rattle.rules.specs.declared.EventReading.TheVariants as event
 use Rattle.rules.specs.declared.Order.{Order}
-use Rattle.rules.specs.declared.Reading.TheVariants as reading
 use Rattle.rules.specs.declared.Resting.{Resting}
 use Rattle.rules.specs.Book.{Book, BookRecord, places_a_side, fresh, in_rank_order, apart, sound, book_in, record_of, record_sound}
 use Rattle.rules.specs.CommandLines.{command_in, line_of, Fits}
@@ -73,6 +71,7 @@ use Rattle.tally.specs.declared.Stop.TheVariants.{Going}
 use Rattle.tally.specs.Tally.{tally_of, tally_of_pieces}
 use Rattle.tally.proofs.LawsAgree.{tally_agrees}
 use Rattle.tally.proofs.LawsLong.{tally_cut}
+use Rattle.std.specs.Prelude.{Some, None, Ok}
 
 -- ── Demand 1 ──
 
@@ -82,7 +81,7 @@ pub any_call : (r : BookRecord) (c : Call) → EventLines c.out (returned r c) �
 any_call = calling.call_ends
 
 -- a method call is the call of its line; its fields have their widths, as those of every command that the machine holds (`write_says`)
-pub a_method_is_its_line : (r : BookRecord) (c : Command) (out : List ℕ) → Fits c → step_on r (reading.Is c) out ≡ step r (line_of c) out
+pub a_method_is_its_line : (r : BookRecord) (c : Command) (out : List ℕ) → Fits c → step_on r (Some c) out ≡ step r (line_of c) out
 a_method_is_its_line = calling.method_line
 
 -- the table of refusals, "Given exactly when": a refusal is given exactly if its row applies and no lower one does
@@ -139,15 +138,15 @@ struck_out_by_line lines = (once.lines_end fresh lines, once.lines_tell fresh li
 -- the repeat at three in the morning: once a line has acted, a line with its number is refused, whatever came between them,
 -- whatever its time
 pub a_repeat_is_refused : (earlier between : List (List ℕ)) (line again : List ℕ) (c d : Command) → acts (book_after fresh earlier) line ≡ true
-    → command_in line ≡ reading.Is c → command_in again ≡ reading.Is d → d.number ≡ c.number
+    → command_in line ≡ Some c → command_in again ≡ Some d → d.number ≡ c.number
     → answer_to (book_after fresh (earlier ++ (line ∷ between))) again
     ≡ record { refusal = 4; book = book_after fresh (earlier ++ (line ∷ between)); events = [] }
 a_repeat_is_refused = once.repeat_refused fresh
 
 -- the same by calls: one with room gets 4
 pub a_repeated_call_is_refused : (earlier between : List Call) (call again : Call) (c d : Command)
-    → by_call.acts (end_of by_call (record_of fresh) earlier) call ≡ true → reading_of call.asks ≡ reading.Is c
-    → reading_of again.asks ≡ reading.Is d → d.number ≡ c.number → least_room ≤ length again.out
+    → by_call.acts (end_of by_call (record_of fresh) earlier) call ≡ true → reading_of call.asks ≡ Some c
+    → reading_of again.asks ≡ Some d → d.number ≡ c.number → least_room ≤ length again.out
     → (returned (end_of by_call (record_of fresh) (earlier ++ (call ∷ between))) again).refusal ≡ 4
 a_repeated_call_is_refused = calling.repeat_refused_by_call
 
@@ -164,13 +163,13 @@ numbers_follow = beyond.numbers_follow_by_call
 -- ── Demand 2 ──
 
 -- "Every accepted command does what the EDGA rules, as condensed in document 01, say": `does` of `rules/specs/Commands`
-pub does_what_01_says : (b : Book) (line : List ℕ) (c : Command) → command_in line ≡ reading.Is c → acts b line ≡ true
+pub does_what_01_says : (b : Book) (line : List ℕ) (c : Command) → command_in line ≡ Some c → acts b line ≡ true
     → ((answer_to b line).book ≡ (does c.number c.time c.body b).book)
     × ((answer_to b line).events ≡ (does c.number c.time c.body b).events)
 does_what_01_says = run.accepted_does
 
 -- the same of a call: the record that it hands back, and the bytes that it writes
-pub a_call_does_what_01_says : (r : BookRecord) (k : Call) (c : Command) → reading_of k.asks ≡ reading.Is c → by_call.acts r k ≡ true
+pub a_call_does_what_01_says : (r : BookRecord) (k : Call) (c : Command) → reading_of k.asks ≡ Some c → by_call.acts r k ≡ true
     → ((returned r k).book ≡ record_of (does c.number c.time c.body (book_in r)).book)
     × (by_call.tells r k ≡ event_lines (does c.number c.time c.body (book_in r)).events)
 a_call_does_what_01_says = calling.call_does
@@ -180,45 +179,45 @@ a_call_does_what_01_says = calling.call_does
 -- an order writes its executions, one at most of each opposite holding, a shown part or a reserve, in the order of the walk, each at the
 -- price of its order, or under a lock half a cent from it (02, W6); then at most one `12`, which tells how it rests, or `13`; and then a `14`
 -- of each refill that is due, in former rank order (02, W4). `12` and `13` count both parts of an order, `14` the shown one
-pub an_order_writes : (b : Book) (line : List ℕ) (c : Command) (o : Order) → sound b ≡ true → acts b line ≡ true → command_in line ≡ reading.Is c
+pub an_order_writes : (b : Book) (line : List ℕ) (c : Command) (o : Order) → sound b ≡ true → acts b line ≡ true → command_in line ≡ Some c
     → c.body ≡ body.Order o → OrderWrites c.number o b (answer_to b line).book (events_in (printed (answer_to b line)))
 an_order_writes = written.order_writes
 
 -- and nothing but an order writes an execution
 pub only_orders_execute : (b : Book) (line : List ℕ) (c : Command) (incoming resting : Number) (price : HalfCents) (shares : Shares) → sound b ≡ true
-    → acts b line ≡ true → command_in line ≡ reading.Is c
+    → acts b line ≡ true → command_in line ≡ Some c
     → OneOf (Executed incoming resting price shares) (events_in (printed (answer_to b line))) → IsOrder c.body
 only_orders_execute = written.only_orders_execute
 
 -- a cancel takes the order of that number off the book, reason 1, and no other
-pub a_cancel_writes : (b : Book) (line : List ℕ) (c : Command) (of : Number) → sound b ≡ true → acts b line ≡ true → command_in line ≡ reading.Is c
+pub a_cancel_writes : (b : Book) (line : List ℕ) (c : Command) (of : Number) → sound b ≡ true → acts b line ≡ true → command_in line ≡ Some c
     → c.body ≡ body.Cancel of
     → CancelWrites of (b.buys ++ b.sells) ((answer_to b line).book.buys ++ (answer_to b line).book.sells) (events_in (printed (answer_to b line)))
 a_cancel_writes = written.cancel_writes
 
 -- "Close cancels all buys in rank order, then all sells, and closes."
-pub a_close_writes : (b : Book) (line : List ℕ) (c : Command) → sound b ≡ true → acts b line ≡ true → command_in line ≡ reading.Is c
+pub a_close_writes : (b : Book) (line : List ℕ) (c : Command) → sound b ≡ true → acts b line ≡ true → command_in line ≡ Some c
     → c.body ≡ body.Close
     → (events_in (printed (answer_to b line)) ≡ map close_line (b.buys ++ b.sells))
     × ((answer_to b line).book.buys ≡ []) × ((answer_to b line).book.sells ≡ []) × ((answer_to b line).book.held.closed ≡ true)
 a_close_writes = written.close_writes
 
 -- every accepted command leaves its number and its time ..
-pub a_command_leaves : (b : Book) (line : List ℕ) (c : Command) → acts b line ≡ true → command_in line ≡ reading.Is c
+pub a_command_leaves : (b : Book) (line : List ℕ) (c : Command) → acts b line ≡ true → command_in line ≡ Some c
     → ((answer_to b line).book.held.last ≡ c.number) × ((answer_to b line).book.held.time ≡ c.time)
 a_command_leaves = written.number_and_time_left
 
 -- .. a quote its away prices, and no other command changes those ..
-pub a_quote_is_held : (b : Book) (line : List ℕ) (c : Command) (away : Away) → acts b line ≡ true → command_in line ≡ reading.Is c
+pub a_quote_is_held : (b : Book) (line : List ℕ) (c : Command) (away : Away) → acts b line ≡ true → command_in line ≡ Some c
     → c.body ≡ body.Quote away → (answer_to b line).book.held.away ≡ away
 a_quote_is_held = written.quote_held
 
-pub a_quote_is_kept : (b : Book) (line : List ℕ) (c : Command) → acts b line ≡ true → command_in line ≡ reading.Is c
+pub a_quote_is_kept : (b : Book) (line : List ℕ) (c : Command) → acts b line ≡ true → command_in line ≡ Some c
     → ((away : Away) → c.body ≢ body.Quote away) → (answer_to b line).book.held.away ≡ b.held.away
 a_quote_is_kept = written.away_kept
 
 -- .. and none but a close closes the book
-pub only_a_close_closes : (b : Book) (line : List ℕ) (c : Command) → acts b line ≡ true → command_in line ≡ reading.Is c → c.body ≢ body.Close
+pub only_a_close_closes : (b : Book) (line : List ℕ) (c : Command) → acts b line ≡ true → command_in line ≡ Some c → c.body ≢ body.Close
     → (answer_to b line).book.held.closed ≡ false
 only_a_close_closes = written.open_unless_closed
 
@@ -250,11 +249,11 @@ pub sound_all_day_by_line : (lines : List (List ℕ)) → sound (book_after fres
 sound_all_day_by_line lines = after_sound fresh lines fresh_sound
 
 -- "Command lines are read and written, each command having one line": what is written of a command is read as that command ..
-pub one_line_a_command : (c : Command) → Fits c → command_in (line_of c) ≡ reading.Is c
+pub one_line_a_command : (c : Command) → Fits c → command_in (line_of c) ≡ Some c
 one_line_a_command = command_in_line_of
 
 -- "and each well-formed line one command": .. and whatever is read as a command is the line that is written of it
-pub one_command_a_line : (line : List ℕ) (c : Command) → command_in line ≡ reading.Is c → (line ≡ line_of c) × Fits c
+pub one_command_a_line : (line : List ℕ) (c : Command) → command_in line ≡ Some c → (line ≡ line_of c) × Fits c
 one_command_a_line line c is = let read = command_in_is line c is in (read.line_is_lem, read.fits_are)
 
 -- and no two commands share a line
@@ -341,11 +340,11 @@ fills_determined = fills.fills_determined
 -- `tally/specs/Tally`; the readers meet those (`read_event_says`, `tally_says`).
 
 -- "It is the exact opposite of the event writer": what is written of an event is read as that event ..
-pub one_line_an_event : (e : Event) → FitsEvent e → event_in (event_line e) ≡ event.Is e
+pub one_line_an_event : (e : Event) → FitsEvent e → event_in (event_line e) ≡ Ok e
 one_line_an_event = event_in_event_line
 
 -- .. and whatever is read as an event is the line that is written of it
-pub one_event_a_line : (line : List ℕ) (e : Event) → event_in line ≡ event.Is e → (line ≡ event_line e) × FitsEvent e
+pub one_event_a_line : (line : List ℕ) (e : Event) → event_in line ≡ Ok e → (line ≡ event_line e) × FitsEvent e
 one_event_a_line line e is = let read = event_in_is line e is in (read.line_is_lem, read.fits_are)
 
 -- the tally of a day's own lines "must agree with demand 3's sums": for each accepted order nothing stops it, and it gives just the
@@ -374,20 +373,20 @@ tally_however_cut = tally_cut
 -- an accepted quote on a sound book: who does not cross it stands as before; who does is set at the Locking Price with a new stamp, or is
 -- gone, with Cancel Back; those that moved keep their order, behind whoever stood at that price; on both sides, each told by its line
 pub a_quote_moves : (b : Book) (line : List ℕ) (n : Number) (time : ℕ) (away : Away) → sound b ≡ true
-    → command_in line ≡ reading.Is (record { number = n; time = time; body = body.Quote away }) → acts b line ≡ true
+    → command_in line ≡ Some (record { number = n; time = time; body = body.Quote away }) → acts b line ≡ true
     → Quoted true n away b.buys (answer_to b line).book.buys (events_in (printed (answer_to b line)))
     × Quoted false n away b.sells (answer_to b line).book.sells (events_in (printed (answer_to b line)))
 a_quote_moves = quoted.quote_moves
 
 -- "Quote writes `14` .. or `13`, buys first, in former rank order", and nothing else
 pub a_quote_writes : (b : Book) (line : List ℕ) (n : Number) (time : ℕ) (away : Away) → sound b ≡ true
-    → command_in line ≡ reading.Is (record { number = n; time = time; body = body.Quote away }) → acts b line ≡ true
+    → command_in line ≡ Some (record { number = n; time = time; body = body.Quote away }) → acts b line ≡ true
     → WritesBoth away b.buys b.sells (events_in (printed (answer_to b line)))
 a_quote_writes = quoted.quote_writes
 
 -- so after it no non-displayed order crosses it; a displayed one may
 pub no_hidden_order_crosses : (b : Book) (line : List ℕ) (n : Number) (time : ℕ) (away : Away)
-    → command_in line ≡ reading.Is (record { number = n; time = time; body = body.Quote away }) → acts b line ≡ true
+    → command_in line ≡ Some (record { number = n; time = time; body = body.Quote away }) → acts b line ≡ true
     → All (λ (h : Resting). Crosses away h true → ⊥) (answer_to b line).book.buys
     × All (λ (h : Resting). Crosses away h false → ⊥) (answer_to b line).book.sells
 no_hidden_order_crosses = quoted.no_hidden_order_crosses
@@ -399,7 +398,7 @@ no_hidden_order_crosses = quoted.no_hidden_order_crosses
 -- shown part was not used up keeps its stamp and its reserve; whoever is due, and nobody else, is refilled to "the Max Floor .., or .. what is
 -- left if that is less", behind all displayed orders at its price that were not refilled; and no refill changes what an order holds in all.
 -- (Its lines stand in `an_order_writes`.)
-pub an_order_refills : (b : Book) (line : List ℕ) (c : Command) (o : Order) → sound b ≡ true → acts b line ≡ true → command_in line ≡ reading.Is c
+pub an_order_refills : (b : Book) (line : List ℕ) (c : Command) (o : Order) → sound b ≡ true → acts b line ≡ true → command_in line ≡ Some c
     → c.body ≡ body.Order o
     → Refills (not (buying o)) c.number (opposite o b) (opposite o (answer_to b line).book) (events_in (printed (answer_to b line)))
 an_order_refills = refilled.order_refills
@@ -476,18 +475,18 @@ never_through_the_away_quote = locks.not_through_the_away_quote
 -- "Post Only is now cancelled with reason 6 only if it meets a displayed order or would pass a hidden one", at its price from step 4; and it
 -- rests only where it does so of none
 pub post_only_as_it_meets : (b : Book) (line : List ℕ) (c : Command) (o : Order) → sound b ≡ true → acts b line ≡ true
-    → command_in line ≡ reading.Is c → c.body ≡ body.Order o → All (SaysOfPostOnly o b) (events_in (printed (answer_to b line)))
+    → command_in line ≡ Some c → c.body ≡ body.Order o → All (SaysOfPostOnly o b) (events_in (printed (answer_to b line)))
 post_only_as_it_meets = locks.post_only_as_it_meets
 
 -- .. and the other way round, of a Post Only order, which a lawful word makes Day: it is cancelled with reason 6 if it meets a displayed order
 -- or would pass a hidden one, and else it rests, at the price of an opposite hidden one too
 pub post_only_is_cancelled : (b : Book) (line : List ℕ) (c : Command) (o : Order) → sound b ≡ true → acts b line ≡ true
-    → command_in line ≡ reading.Is c → c.body ≡ body.Order o → has o.word post_only ≡ true → has o.word fok ≡ false → has o.word ioc ≡ false
+    → command_in line ≡ Some c → c.body ≡ body.Order o → has o.word post_only ≡ true → has o.word fok ≡ false → has o.word ioc ≡ false
     → PostOnlyMeets o b → events_in (printed (answer_to b line)) ≡ Cancelled c.number o.shares 6 ∷ []
 post_only_is_cancelled = locks.post_only_cancelled
 
 pub post_only_rests : (b : Book) (line : List ℕ) (c : Command) (o : Order) → sound b ≡ true → acts b line ≡ true
-    → command_in line ≡ reading.Is c → c.body ≡ body.Order o → has o.word post_only ≡ true → has o.word fok ≡ false → has o.word ioc ≡ false
+    → command_in line ≡ Some c → c.body ≡ body.Order o → has o.word post_only ≡ true → has o.word fok ≡ false → has o.word ioc ≡ false
     → (price : HalfCents) → seeks o b.held.away ≡ Rests price → ((h : Resting) → OneOf h (opposite o b) → MeetsOrPasses o price h → ⊥)
     → events_in (printed (answer_to b line)) ≡ Rested c.number price o.shares ∷ []
 post_only_rests = locks.post_only_rests
@@ -546,7 +545,7 @@ never_below_a_minimum = minimum.gives_its_least
 
 -- "An incoming one whose whole walk gives less than its minimum executes nothing": in all it executes nothing, or its minimum at least
 pub nothing_or_its_minimum : (b : Book) (line : List ℕ) (c : Command) (o : Order) → sound b ≡ true → acts b line ≡ true
-    → command_in line ≡ reading.Is c → c.body ≡ body.Order o
+    → command_in line ≡ Some c → c.body ≡ body.Order o
     → (executed_in c.number (events_in (printed (answer_to b line))) ≡ 0)
     ⊎ (minimum_of o.carried ≤ executed_in c.number (events_in (printed (answer_to b line))))
 nothing_or_its_minimum = minimum.executes_its_least
@@ -554,14 +553,14 @@ nothing_or_its_minimum = minimum.executes_its_least
 -- whoever gives nothing to an order, for it was skipped, or not reached, or the walk was undone, stands as before, stamp and minimum with it,
 -- and so in the same rank among those that stay
 pub who_gives_nothing_stays : (b : Book) (line : List ℕ) (c : Command) (o : Order) → sound b ≡ true → acts b line ≡ true
-    → command_in line ≡ reading.Is c → c.body ≡ body.Order o → (h : Resting) → OneOf h (opposite o b)
+    → command_in line ≡ Some c → c.body ≡ body.Order o → (h : Resting) → OneOf h (opposite o b)
     → given_in h.number (events_in (printed (answer_to b line))) ≡ 0 → OneOf h (opposite o (answer_to b line).book)
 who_gives_nothing_stays = minimum.untouched_stays
 
 -- "When fewer shares remain than the minimum, the minimum becomes what remains": of each order that is left of the side that an order meets,
 -- by what it was before. (What rests of an incoming one says the same in `an_order_writes`.)
 pub a_minimum_becomes_what_remains : (b : Book) (line : List ℕ) (c : Command) (o : Order) → sound b ≡ true → acts b line ≡ true
-    → command_in line ≡ reading.Is c → c.body ≡ body.Order o → (h : Resting) → OneOf h (opposite o (answer_to b line).book)
+    → command_in line ≡ Some c → c.body ≡ body.Order o → (h : Resting) → OneOf h (opposite o (answer_to b line).book)
     → Stands (BecomesWhatRemains h) (opposite o b)
 a_minimum_becomes_what_remains = minimum.becomes_what_remains
 
@@ -573,12 +572,12 @@ sound_minimums = minimum.record_minimums
 -- "A remainder that would still equal or pass an opposite order, save Post Only or at W6's locked price, is cancelled, new reason 8.": reason 8
 -- is given only to such a one, and whoever rests and isn't Post Only is none
 pub reason_8_as_it_meets : (b : Book) (line : List ℕ) (c : Command) (o : Order) → sound b ≡ true → acts b line ≡ true
-    → command_in line ≡ reading.Is c → c.body ≡ body.Order o → All (SaysOfReason8 o b (answer_to b line).book) (events_in (printed (answer_to b line)))
+    → command_in line ≡ Some c → c.body ≡ body.Order o → All (SaysOfReason8 o b (answer_to b line).book) (events_in (printed (answer_to b line)))
 reason_8_as_it_meets = still.reason_8
 
 -- .. and to every such one, of all that did not execute
 pub reason_8_is_given : (b : Book) (line : List ℕ) (c : Command) (o : Order) → sound b ≡ true → acts b line ≡ true
-    → command_in line ≡ reading.Is c → c.body ≡ body.Order o
+    → command_in line ≡ Some c → c.body ≡ body.Order o
     → executed_in c.number (events_in (printed (answer_to b line))) < o.shares.0 → StillMeets o b (answer_to b line).book
     → OneOf (Cancelled c.number (shares (o.shares.0 - executed_in c.number (events_in (printed (answer_to b line))))) 8)
     (events_in (printed (answer_to b line)))
@@ -586,6 +585,6 @@ reason_8_is_given = still.reason_8_given
 
 -- where neither the order nor one opposite has a minimum, no line has reason 8
 pub no_reason_8_without_a_minimum : (b : Book) (line : List ℕ) (c : Command) (o : Order) → sound b ≡ true → acts b line ≡ true
-    → command_in line ≡ reading.Is c → c.body ≡ body.Order o → NoMinimum o b → (n : Number) (left : Shares)
+    → command_in line ≡ Some c → c.body ≡ body.Order o → NoMinimum o b → (n : Number) (left : Shares)
     → OneOf (Cancelled n left 8) (events_in (printed (answer_to b line))) → ⊥
 no_reason_8_without_a_minimum = still.no_reason_8

@@ -18,7 +18,6 @@ use Rattle.rules.specs.declared.Away.{Away}
 use Rattle.rules.specs.declared.Event.{Event}
 use Rattle.rules.specs.declared.Event.TheVariants.{Executed, Cancelled}
 use Rattle.rules.specs.declared.Ending.TheVariants.{Rests}
-use Rattle.rules.specs.declared.Reading.TheVariants as reading
 use Rattle.rules.specs.declared.Order.{Order}
 use Rattle.rules.specs.declared.Resting.{Resting}
 use Rattle.rules.specs.Book.{Book, fresh, ranks_before, in_rank_order, apart, sound, shares_left}
@@ -48,6 +47,7 @@ use Rattle.promises.proofs.Promises.{executes_in_rank, who_gives_nothing_stays, 
 use Rattle.promises.specs.Night.{night, night_struck_out, night_events, reserved_rests, locked_night, locked_events, locked_sell, locking_buy, sweeping, the_sweeping}
 use Rattle.promises.specs.Night.{minimum_night, minimum_events, large_rests, small, choosy, the_small, the_choosy}
 use Rattle.promises.specs.Night.{killed, greedy, resting, reserved, taking, the_killed, the_greedy, the_resting, the_reserved, the_taking}
+use Rattle.std.specs.Prelude.{Some, None}
 
 -- ── What the night is computed by ──
 
@@ -183,7 +183,7 @@ taking_acts : acts found (line_of the_taking) ≡ true
 unfolding lines_answered book_after
 taking_acts = refl
 
-taking_reads : command_in (line_of the_taking) ≡ reading.Is the_taking
+taking_reads : command_in (line_of the_taking) ≡ Some the_taking
 unfolding lines_answered
 taking_reads = refl
 
@@ -233,7 +233,7 @@ sweeping_acts : acts lock_stands (line_of the_sweeping) ≡ true
 unfolding lines_answered book_after
 sweeping_acts = refl
 
-sweeping_reads : command_in (line_of the_sweeping) ≡ reading.Is the_sweeping
+sweeping_reads : command_in (line_of the_sweeping) ≡ Some the_sweeping
 unfolding lines_answered
 sweeping_reads = refl
 
@@ -366,7 +366,7 @@ small_acts : acts skipping (line_of the_small) ≡ true
 unfolding lines_answered book_after
 small_acts = refl
 
-small_reads : command_in (line_of the_small) ≡ reading.Is the_small
+small_reads : command_in (line_of the_small) ≡ Some the_small
 unfolding lines_answered
 small_reads = refl
 

@@ -4,11 +4,9 @@ use mathlib.Core.Bool.{Bool, true, false, ◌&&◌}
 use mathlib.Core.List.{List, [], ◌∷◌, map}
 use mathlib.Core.Logic.{⊎_elim}
 use mathlib.Core.Path.{◌≡◌, refl, sym, ap, ◌∙◌}
-use Rattle.std.specs.Prelude.{if◌then◌else◌}
+use Rattle.std.specs.Prelude.{if◌then◌else◌, Option, Some, None}
 use Rattle.basics.proofs.LawsChoice.{holds_or_not, and_left, and_right}
 use Rattle.digits.specs.declared.Field.{Field}
-use Rattle.digits.specs.declared.Value.{Value}
-use Rattle.digits.specs.declared.Value.TheVariants as value
 use Rattle.digits.specs.Digits.{number_at, field_of}
 use Rattle.rules.specs.CommandLines.{Numbers, are, none, also, numbers_from}
 
@@ -28,18 +26,18 @@ numbers_in fs = map (λ (f : Field). f.number) fs
 -- one by one
 taken : List Field → Numbers
 taken [] = are []
-taken (f ∷ fs) = also (if f.good then value.Is f.number else value.Bad) (taken fs)
+taken (f ∷ fs) = also (if f.good then Some f.number else None) (taken fs)
 
-field_again : (v : Value) → v ≡ (if (field_of v).good then value.Is (field_of v).number else value.Bad)
-field_again (value.Is n) = refl
-field_again value.Bad = refl
+field_again : (v : Option ℕ) → v ≡ (if (field_of v).good then Some (field_of v).number else None)
+field_again (Some n) = refl
+field_again None = refl
 
 numbers_taken : (at : ℕ) (ws s : List ℕ) → numbers_from at ws s ≡ taken (fields_from at ws s)
 unfolding numbers_from taken
 numbers_taken at [] s = refl
 numbers_taken at (w ∷ ws) s =
-    ap (λ (v : Value). also v (numbers_from (at + 2 * w) ws s)) (field_again (number_at w at s))
-    ∙ ap (also (if (field_of (number_at w at s)).good then value.Is (field_of (number_at w at s)).number else value.Bad)) (numbers_taken (at + 2 * w) ws s)
+    ap (λ (v : Option ℕ). also v (numbers_from (at + 2 * w) ws s)) (field_again (number_at w at s))
+    ∙ ap (also (if (field_of (number_at w at s)).good then Some (field_of (number_at w at s)).number else None)) (numbers_taken (at + 2 * w) ws s)
 
 good_before : (b : Bool) (fs : List Field) → good_after b fs ≡ true → b ≡ true
 good_before b [] t = t
@@ -50,16 +48,16 @@ unfolding taken
 taken_good b [] t = refl
 taken_good b (f ∷ fs) t = rw (and_right b f.good (good_before (b && f.good) fs t), taken_good (b && f.good) fs t)
 
-pub also_none : (v : Value) → also v none ≡ none
-also_none (value.Is n) = refl
-also_none value.Bad = refl
+pub also_none : (v : Option ℕ) → also v none ≡ none
+also_none (Some n) = refl
+also_none None = refl
 
 taken_bad : (b : Bool) (fs : List Field) → b ≡ true → good_after b fs ≡ false → taken fs ≡ none
 unfolding taken
 taken_bad b [] e t = let z : true ≡ false = sym e ∙ t in cc
 taken_bad b (f ∷ fs) e t =
     ⊎_elim
-    (λ (g : f.good ≡ true). rw (taken_bad (b && f.good) fs (rw (e, g)) t) (also_none (if f.good then value.Is f.number else value.Bad)))
+    (λ (g : f.good ≡ true). rw (taken_bad (b && f.good) fs (rw (e, g)) t) (also_none (if f.good then Some f.number else None)))
     (λ (g : f.good ≡ false). rw g)
     (holds_or_not f.good)
 

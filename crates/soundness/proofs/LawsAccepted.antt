@@ -6,12 +6,11 @@ use lib.Dec.{leb, ltb}
 use native.Mathlib.Omega.{arith}
 use borrow.Author.Tests.{not-false, ltb-false, leb-false, le-leb}
 use Rattle.basics.proofs.LawsChoice.{and_left, and_right, or_neither}
-use Rattle.std.specs.Prelude.{if◌then◌else◌}
+use Rattle.std.specs.Prelude.{if◌then◌else◌, Some, None}
 use Rattle.rules.specs.declared.Away.{Away}
 use Rattle.rules.specs.declared.Body.TheVariants as body
 use Rattle.rules.specs.declared.Command.{Command}
 use Rattle.rules.specs.declared.Order.{Order}
-use Rattle.rules.specs.declared.Reading.TheVariants as reading
 use Rattle.rules.specs.Instructions.{displayed, reserve, has, needs, lawful}
 use Rattle.rules.specs.Book.{Book, opening, closing, away_in_range}
 use Rattle.rules.specs.Refusals.{first_of, is_close, untimely, carries_floor, carries_minimum, order_lawful, order_in_range, rests_on_full_side, header_refusals, body_refusals, line_refusals}
@@ -32,7 +31,7 @@ not_late : (close : Bool) (time : ℕ) → (if close then ltb closing time else 
 not_late true time e = ltb-false closing time e
 not_late false time e = let l : time < closing = leb-false closing time e in omega arith
 
-pub accepted : (b : Book) (c : Command) → first_of (line_refusals b (reading.Is c)) ≡ 0 → InOrder b c
+pub accepted : (b : Book) (c : Command) → first_of (line_refusals b (Some c)) ≡ 0 → InOrder b c
 unfolding line_refusals header_refusals
 accepted b c e =
     let number = none_given 4 (leb c.number.0 b.held.last.0) _ (omega arith) e in

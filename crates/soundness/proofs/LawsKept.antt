@@ -9,7 +9,7 @@ use lib.ListN.{length, replicate, length-append, length-replicate}
 use lib.Seq.{take-append_seam, drop-append_seam}
 use native.Mathlib.Omega.{arith}
 use borrow.Author.Tests.{le-leb, leb-true, ltb-true, eq-eqb, eqb-true}
-use Rattle.std.specs.Prelude.{if◌then◌else◌}
+use Rattle.std.specs.Prelude.{if◌then◌else◌, Some, None}
 use Rattle.basics.specs.Lists.{every, distinct}
 use Rattle.basics.proofs.LawsChoice.{holds_or_not, and_left, and_right}
 use Rattle.basics.proofs.LawsLists.{all_alike}
@@ -25,8 +25,7 @@ use Rattle.rules.specs.declared.Command.{Command}
 use Rattle.rules.specs.declared.Fate.{Fate}
 use Rattle.rules.specs.declared.Fate.TheVariants.{Stays, IsCancelled, IsSet}
 use Rattle.rules.specs.declared.Order.{Order}
-use Rattle.rules.specs.declared.Reading.{Reading}
-use Rattle.rules.specs.declared.Reading.TheVariants as reading
+use Rattle.rules.specs.CommandLines.{Reading}
 use Rattle.rules.specs.declared.Resting.{Resting}
 use Rattle.rules.specs.Book.{Book, BookRecord, fresh, opening, closing, places_a_side, stamp, in_rank_order, apart, away_in_range, sound, unused, is_unused, orders_in, places_of, book_in, record_of, places_sound, record_sound}
 use Rattle.rules.specs.CommandLines.{command_in}
@@ -136,7 +135,7 @@ module _ (b : Book) (s : Sound b) (n : Number) (time : ℕ) (next : n.0 ≡ b.he
   body_sound (body.Quote away) e = quote_sound away e
   body_sound body.Close e = close_sound
 
-pub does_sound : (b : Book) (c : Command) → sound b ≡ true → first_of (line_refusals b (reading.Is c)) ≡ 0 → sound (does c.number c.time c.body b).book ≡ true
+pub does_sound : (b : Book) (c : Command) → sound b ≡ true → first_of (line_refusals b (Some c)) ≡ 0 → sound (does c.number c.time c.body b).book ≡ true
 does_sound b c s e =
     let a = accepted b c e in
     is_sound_lem (does c.number c.time c.body b).book (body_sound b (sound_is b s) c.number c.time a.next a.is_open a.opened a.in_time c.body a.by_body)
@@ -145,8 +144,8 @@ does_sound b c s e =
 
 done_sound : (b : Book) (r : Reading) → sound b ≡ true → first_of (line_refusals b r) ≡ 0 → sound (done_by r b).book ≡ true
 unfolding done_by
-done_sound b reading.Bad s e = s
-done_sound b (reading.Is c) s e = does_sound b c s e
+done_sound b None s e = s
+done_sound b (Some c) s e = does_sound b c s e
 
 answer_kept : (b : Book) (r : Reading) (refusal : ℕ) → sound b ≡ true → (refusal ≡ 0 → first_of (line_refusals b r) ≡ 0) → sound (answer refusal r b).book ≡ true
 unfolding answer

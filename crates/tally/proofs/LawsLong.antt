@@ -8,15 +8,13 @@ use lib.ListN.{length, take}
 use lib.Seq.{take-take}
 use native.Mathlib.Omega.{arith}
 use borrow.Author.Tests.{lt-ltb, le-ltb}
-use Rattle.std.specs.Prelude.{if◌then◌else◌}
-use Rattle.digits.specs.declared.Value.{Value}
-use Rattle.digits.specs.declared.Value.TheVariants as value
+use Rattle.std.specs.Prelude.{if◌then◌else◌, Option, Some, None, Err}
 use Rattle.digits.specs.Digits.{number_in, number_at}
 use Rattle.kinds.specs.declared.Number.{Number}
 use Rattle.command_lines.specs.Pieces.{part_kept, all_of}
 use Rattle.command_lines.proofs.lines.LawsPieces.{cut_alike}
-use Rattle.rules.specs.declared.EventReading.{EventReading}
-use Rattle.rules.specs.declared.EventReading.TheVariants.{UnknownKind, TrailingBytes}
+use Rattle.rules.specs.EventReading.{EventReading}
+use Rattle.rules.specs.declared.NoEvent.TheVariants.{UnknownKind, TrailingBytes}
 use Rattle.rules.specs.CommandLines.{Making, digits_in}
 use Rattle.rules.specs.EventLines.{executed_kind, rested_kind, cancelled_kind, moved_kind, executed_fields, rested_fields, cancelled_fields, moved_fields, with_kind}
 use Rattle.rules.specs.EventReading.{executed_of, rested_of, cancelled_of, moved_of, of_fields, of_kind, event_in}
@@ -24,31 +22,31 @@ use Rattle.tally.specs.declared.Tally.{Tally}
 use Rattle.tally.specs.Tally.{none_counted, going_on, turn, tally_of, tally_of_pieces}
 
 -- what a line is read as that is longer than every event line
-read_long : Value → EventReading
-read_long (value.Is kind) =
-    if eqb kind executed_kind then TrailingBytes
-    else if eqb kind rested_kind then TrailingBytes
-    else if eqb kind cancelled_kind then TrailingBytes
-    else if eqb kind moved_kind then TrailingBytes
-    else UnknownKind
-read_long value.Bad = UnknownKind
+read_long : Option ℕ → EventReading
+read_long (Some kind) =
+    if eqb kind executed_kind then Err TrailingBytes
+    else if eqb kind rested_kind then Err TrailingBytes
+    else if eqb kind cancelled_kind then Err TrailingBytes
+    else if eqb kind moved_kind then Err TrailingBytes
+    else Err UnknownKind
+read_long None = Err UnknownKind
 
-fields_long : (fields : List ℕ) (make : Making fields EventReading) (s : List ℕ) → digits_in (with_kind fields) + 1 < length s → of_fields fields make s ≡ TrailingBytes
+fields_long : (fields : List ℕ) (make : Making fields EventReading) (s : List ℕ) → digits_in (with_kind fields) + 1 < length s → of_fields fields make s ≡ (Err TrailingBytes)
 unfolding of_fields
 fields_long fields make s l =
     let n = digits_in (with_kind fields) + 1 in
     rw (le-ltb (length s) n (omega (arith, l)), lt-ltb n (length s) l) refl
 
-kind_long : (v : Value) (s : List ℕ) → 36 ≤ length s → of_kind v s ≡ read_long v
+kind_long : (v : Option ℕ) (s : List ℕ) → 36 ≤ length s → of_kind v s ≡ read_long v
 unfolding of_kind read_long
-kind_long (value.Is kind) s l =
+kind_long (Some kind) s l =
     rw (
       fields_long executed_fields executed_of s (omega (arith, l)),
       fields_long rested_fields rested_of s (omega (arith, l)),
       fields_long cancelled_fields cancelled_of s (omega (arith, l)),
       fields_long moved_fields moved_of s (omega (arith, l)),
     ) refl
-kind_long value.Bad s l = refl
+kind_long None s l = refl
 
 event_long : (s : List ℕ) → 36 ≤ length s → event_in s ≡ read_long (number_at 1 0 s)
 unfolding event_in

@@ -18,8 +18,7 @@ use Rattle.rules.specs.declared.Body.TheVariants as body
 use Rattle.rules.specs.declared.Event.{Event}
 use Rattle.rules.specs.declared.Event.TheVariants.{Executed, Rested, Cancelled, Moved}
 use Rattle.rules.specs.declared.Order.{Order}
-use Rattle.rules.specs.declared.Reading.{Reading}
-use Rattle.rules.specs.declared.Reading.TheVariants as reading
+use Rattle.rules.specs.CommandLines.{Reading}
 use Rattle.rules.specs.declared.Resting.{Resting}
 use Rattle.rules.specs.Book.{Book, sound}
 use Rattle.rules.specs.CommandLines.{command_in}
@@ -38,6 +37,7 @@ use Rattle.demands.proofs.LawsFairly.{every_told, every_last}
 use Rattle.demands.proofs.LawsLinesTell.{every_refill}
 use Rattle.demands.proofs.LawsOnce.{next_acts}
 use Rattle.tally.specs.Tally.{executed_shares}
+use Rattle.std.specs.Prelude.{Some, None}
 
 abbrev pub TwoParties : Event → Type 0
 TwoParties (Executed incoming resting price shares) = incoming.0 ≢ resting.0
@@ -97,8 +97,8 @@ does_two b n time s next =
 
 done_two : (b : Book) (r : Reading) → sound b ≡ true → command_number r ≡ b.held.last.0 + 1 → All TwoParties (done_by r b).events
 unfolding done_by
-done_two b reading.Bad s next = none
-done_two b (reading.Is c) s next = does_two b c.number c.time s next c.body
+done_two b None s next = none
+done_two b (Some c) s next = does_two b c.number c.time s next c.body
 
 pub line_two : (b : Book) (line : List ℕ) → sound b ≡ true → acts b line ≡ true → All TwoParties (answer_to b line).events
 unfolding answer_to answer

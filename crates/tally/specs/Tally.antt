@@ -1,12 +1,12 @@
 -- The tally (02, W1): "a tally that takes a day's lines and gives, for one order number, shares executed and cancelled. The tally passes
 -- over `1f` lines, stops with the reader's refusal at any other bad line .. A sum that would pass 4,294,967,295 is refused by name."
-use Rattle.std.specs.Prelude.{ℕ, ◌+◌, ◌-◌, Bool, true, false, ◌||◌, List, [], eqb, ltb, length, if◌then◌else◌}
+use Rattle.std.specs.Prelude.{ℕ, ◌+◌, ◌-◌, Bool, true, false, ◌||◌, List, [], eqb, ltb, length, if◌then◌else◌, Ok, Err}
 use Rattle.kinds.specs.declared.Number.{Number}
 use Rattle.kinds.specs.Kinds.{shares, largest}
 use Rattle.rules.specs.declared.Event.{Event}
 use Rattle.rules.specs.declared.Event.TheVariants.{Executed, Rested, Cancelled, Moved}
-use Rattle.rules.specs.declared.EventReading.{EventReading}
-use Rattle.rules.specs.declared.EventReading.TheVariants as reading
+use Rattle.rules.specs.EventReading.{EventReading}
+use Rattle.rules.specs.declared.NoEvent.TheVariants as no_event
 use Rattle.digits.specs.Digits.{number_at}
 use Rattle.rules.specs.Day.{cut, lines_in}
 use Rattle.rules.specs.EventLines.{refusal_kind}
@@ -58,11 +58,11 @@ added executed cancelled t =
 
 -- what was read of a line, counted: what it cancels as demand 3 does; a line that is no event line stops it, with the reader's word
 abbrev pub counted : Number → EventReading → Tally → Tally
-counted n (reading.Is e) t = added (executed_shares n e) (cancelled_by n e) t
-counted n reading.UnknownKind t = stopped_by stop.UnknownKind t
-counted n reading.Short t = stopped_by stop.Short t
-counted n reading.TrailingBytes t = stopped_by stop.TrailingBytes t
-counted n reading.BadDigitOrEnding t = stopped_by stop.BadDigitOrEnding t
+counted n (Ok e) t = added (executed_shares n e) (cancelled_by n e) t
+counted n (Err no_event.UnknownKind) t = stopped_by stop.UnknownKind t
+counted n (Err no_event.Short) t = stopped_by stop.Short t
+counted n (Err no_event.TrailingBytes) t = stopped_by stop.TrailingBytes t
+counted n (Err no_event.BadDigitOrEnding) t = stopped_by stop.BadDigitOrEnding t
 
 abbrev pub is_going : Stop → Bool
 is_going stop.Going = true

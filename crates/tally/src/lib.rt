@@ -14,7 +14,7 @@ ghost use Rattle.tally.specs.Tally.{is_going, turn, fed_on};
 use command_lines::lines;
 use event_lines::reader;
 use kinds::{Number, Shares};
-use rules::{Event, EventReading};
+use rules::{Event, NoEvent};
 
 // What stopped a tally: nothing yet, a line that is no event line, or a sum that four bytes would not hold.
 #[derive(Clone, Copy)]
@@ -169,15 +169,15 @@ fn tells_a_refusal(line: &[u8]) -> bool
 }
 
 // What was read of a line, counted; a line that is no event line stops it, with the reader's word.
-fn count(t: Tally, number: Number, read: EventReading) -> Tally
+fn count(t: Tally, number: Number, read: Result<Event, NoEvent>) -> Tally
     ensures { result ≡ counted number read t }
 {
     match read {
-        EventReading::Is(e) => add(t, executed_shares(number, e), cancelled_shares(number, e)),
-        EventReading::UnknownKind => stop_by(t, Stop::UnknownKind),
-        EventReading::Short => stop_by(t, Stop::Short),
-        EventReading::TrailingBytes => stop_by(t, Stop::TrailingBytes),
-        EventReading::BadDigitOrEnding => stop_by(t, Stop::BadDigitOrEnding),
+        Ok(e) => add(t, executed_shares(number, e), cancelled_shares(number, e)),
+        Err(NoEvent::UnknownKind) => stop_by(t, Stop::UnknownKind),
+        Err(NoEvent::Short) => stop_by(t, Stop::Short),
+        Err(NoEvent::TrailingBytes) => stop_by(t, Stop::TrailingBytes),
+        Err(NoEvent::BadDigitOrEnding) => stop_by(t, Stop::BadDigitOrEnding),
     }
 }
 

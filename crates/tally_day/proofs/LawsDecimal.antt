@@ -10,9 +10,9 @@ use lib.Seq.{drop-cons}
 use native.Mathlib.Omega.{arith}
 use borrow.Author.Tests.{le-leb, lt-leb}
 use Rattle.basics.proofs.LawsChoice.{holds_or_not}
-use Rattle.digits.specs.declared.Value.TheVariants.{Is, Bad}
 use Rattle.kinds.specs.Kinds.{largest}
 use Rattle.tally_day.specs.Decimal.{is_decimal, all_decimal, decimal_after, decimal_in}
+use Rattle.std.specs.Prelude.{Some, None}
 
 -- more digits never make a number less
 after_least : (acc : ℕ) (s : List ℕ) → acc ≤ decimal_after acc s
@@ -37,13 +37,13 @@ module _ (s : List ℕ) where
   reading_start = record { within = omega arith; ahead = refl; goes_on = refl; small = omega arith }
 
   -- no digits at all, or too many
-  pub reading_length : (eqb (length s) 0 || ltb 10 (length s)) ≡ true → Bad ≡ decimal_in s
+  pub reading_length : (eqb (length s) 0 || ltb 10 (length s)) ≡ true → None ≡ decimal_in s
   unfolding decimal_in
   reading_length t = rw t refl
 
   module _ (of_length : OfLength) (value i : ℕ) (r : Reading value i) where
     -- the digits end
-    pub reading_end : length s ≤ i → Is value ≡ decimal_in s
+    pub reading_end : length s ≤ i → Some value ≡ decimal_in s
     unfolding decimal_in all_decimal decimal_after
     reading_end l =
         let none : drop i s ≡ [] = drop_of_length-le s l in
@@ -56,7 +56,7 @@ module _ (s : List ℕ) where
       next = drop-cons s i 0 l
 
       -- a byte that is no digit
-      pub reading_other : is_decimal (get_or s i 0) ≡ false → Bad ≡ decimal_in s
+      pub reading_other : is_decimal (get_or s i 0) ≡ false → None ≡ decimal_in s
       unfolding decimal_in all_decimal
       reading_other t =
           let bad : all_decimal s ≡ false = r.ahead ∙ ap all_decimal next ∙ rw t refl in
@@ -77,7 +77,7 @@ module _ (s : List ℕ) where
             rw (← one) (record { within = omega (arith, l); ahead = ahead_next; goes_on = goes_next; small = m })
 
         -- a number that four bytes would not hold
-        pub reading_large : largest < value * 10 + (get_or s i 0 - 48) → Bad ≡ decimal_in s
+        pub reading_large : largest < value * 10 + (get_or s i 0 - 48) → None ≡ decimal_in s
         unfolding decimal_in
         reading_large m =
             let most = after_least (value * 10 + (get_or s i 0 - 48)) (drop (suc i) s) in

@@ -1,8 +1,6 @@
 -- An order number as a clerk writes it: one to ten decimal digits, the most significant first, at most the largest number that four
 -- bytes hold.
-use Rattle.std.specs.Prelude.{ℕ, ◌+◌, ◌-◌, ◌*◌, Bool, true, ◌&&◌, ◌||◌, List, [], ◌∷◌, leb, ltb, eqb, length, if◌then◌else◌}
-use Rattle.digits.specs.declared.Value.{Value}
-use Rattle.digits.specs.declared.Value.TheVariants.{Is, Bad}
+use Rattle.std.specs.Prelude.{ℕ, ◌+◌, ◌-◌, ◌*◌, Bool, true, ◌&&◌, ◌||◌, List, [], ◌∷◌, leb, ltb, eqb, length, if◌then◌else◌, Option, Some, None}
 use Rattle.kinds.specs.Kinds.{largest}
 
 abbrev pub is_decimal : ℕ → Bool
@@ -17,8 +15,8 @@ unfoldable pub decimal_after : ℕ → List ℕ → ℕ
 decimal_after acc [] = acc
 decimal_after acc (c ∷ s) = decimal_after (acc * 10 + (c - 48)) s
 
-unfoldable pub decimal_in : List ℕ → Value
+unfoldable pub decimal_in : List ℕ → Option ℕ
 decimal_in s =
-    if eqb (length s) 0 || ltb 10 (length s) then Bad
-    else if all_decimal s && leb (decimal_after 0 s) largest then Is (decimal_after 0 s)
-    else Bad
+    if eqb (length s) 0 || ltb 10 (length s) then None
+    else if all_decimal s && leb (decimal_after 0 s) largest then Some (decimal_after 0 s)
+    else None

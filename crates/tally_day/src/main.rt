@@ -11,7 +11,6 @@ ghost use Rattle.tally_day.specs.Decimal.{is_decimal, decimal_in};
 
 use anyhow::{Context, Result};
 use command_lines::lines;
-use digits::Value;
 use kinds::Number;
 use std::env::{Env, FillError};
 use std::io;
@@ -26,25 +25,25 @@ fn is_decimal(c: u8) -> bool
 }
 
 // The order number that one to ten decimal digits write.
-fn decimal_in(s: &[u8]) -> Value
+fn decimal_in(s: &[u8]) -> Option<u32>
     ensures { result ≡ decimal_in s.now }
 {
     if (s.len() == 0) | (10 < s.len()) {
-        return Value::Bad;
+        return None;
     }
     let mut value: u64 = 0;
     let mut i = 0;
     while i < s.len() {
         if !is_decimal(s[i]) {
-            return Value::Bad;
+            return None;
         }
         value = value * 10 + (s[i] - 48) as u64;
         if (kinds::LARGEST as u64) < value {
-            return Value::Bad;
+            return None;
         }
         i += 1;
     }
-    Value::Is(value as u32)
+    Some(value as u32)
 }
 
 // ── A piece ──
@@ -157,19 +156,19 @@ fn say_usage(rt: &impl Eprint) -> Result<()> {
 }
 
 // The order number that the one argument writes.
-fn asked(rt: &HostRuntime) -> Value {
+fn asked(rt: &HostRuntime) -> Option<u32> {
     let mut word = [0u8; 16];
     let Ok(length) = rt.arg(1, &mut word) else {
-        return Value::Bad;
+        return None;
     };
     let Err(FillError::NotPresent) = rt.arg(2, &mut []) else {
-        return Value::Bad;
+        return None;
     };
     decimal_in(&word[..length])
 }
 
 fn main(rt: HostRuntime) -> Result<()> {
-    let Value::Is(number) = asked(&rt) else {
+    let Some(number) = asked(&rt) else {
         return say_usage(&rt);
     };
     let mut from = rt.stdin();

@@ -17,8 +17,7 @@ use Rattle.rules.specs.declared.Body.TheVariants.{Order, Cancel, Quote, Close}
 use Rattle.rules.specs.declared.Carried.{Carried}
 use Rattle.rules.specs.declared.Carried.TheVariants.{Nothing, MaxFloor, Minimum}
 use Rattle.rules.specs.declared.Command.{Command}
-use Rattle.rules.specs.declared.Reading.{Reading}
-use Rattle.rules.specs.declared.Reading.TheVariants as reading
+use Rattle.rules.specs.CommandLines.{Reading}
 use Rattle.rules.specs.CommandLines.{kinds, line_feed, header_form, order_kind_of, order_form_of, kind_of, form_of, numbers_of}
 use Rattle.rules.specs.CommandLines.{digits_with_header, written, line, line_of, command_in}
 use Rattle.rules.proofs.LawsLines.{command_in_is}
@@ -27,6 +26,7 @@ use Rattle.rules.proofs.LawsWriting.{length_line_of}
 use Rattle.command_lines.specs.declared.lines.Line.{Line}
 use Rattle.command_lines.specs.Lines.{is_line_feed, to_line_feed, first_line, other_line, digits_from, digits_after}
 use Rattle.command_lines.proofs.lines.LawsScanned.{unended_bad}
+use Rattle.std.specs.Prelude.{Some, None}
 
 -- ── The line feed of a command ──
 
@@ -44,7 +44,7 @@ first_feed [] rest none = refl
 first_feed (c ∷ s) rest (also e a) = rw e (ap suc (first_feed s rest a))
 
 -- bytes that read as a command end at the first line feed
-command_feed : (s : List ℕ) (n : ℕ) (c : Command) → n < length s → command_in (take (suc n) s) ≡ reading.Is c → to_line_feed s ≡ n
+command_feed : (s : List ℕ) (n : ℕ) (c : Command) → n < length s → command_in (take (suc n) s) ≡ Some c → to_line_feed s ≡ n
 command_feed s n c l is =
     let line : take (suc n) s ≡ inside c ++ (line_feed ∷ []) = (command_in_is (take (suc n) s) c is).line_is_lem ∙ line_inside c in
     let whole : s ≡ inside c ++ (line_feed ∷ drop (suc n) s) =
@@ -55,8 +55,8 @@ command_feed s n c l is =
     all_both (written_unended header_form (kind_of c.body ∷ c.number.0 ∷ c.time ∷ [])) (written_unended (form_of c.body) (numbers_of c.body)) in
     ap to_line_feed whole ∙ first_feed (inside c) (drop (suc n) s) unended ∙ omega (arith, long)
 
-pub first_command : (s : List ℕ) (n : ℕ) (c : Command) → n < length s → command_in (take (suc n) s) ≡ reading.Is c
-    → record { digits = n; reading = reading.Is c } ≡ first_line s
+pub first_command : (s : List ℕ) (n : ℕ) (c : Command) → n < length s → command_in (take (suc n) s) ≡ Some c
+    → record { digits = n; reading = Some c } ≡ first_line s
 first_command s n c l is = rw (command_feed s n c l is) (ap (λ (r : Reading). at_place n r) (sym is))
   where
     at_place : ℕ → Reading → Line
@@ -92,7 +92,7 @@ feed_nowhere (c ∷ s) l =
     (holds_or_not (is_line_feed c))
 
 -- where the first line is a command, its second byte tells its length, and it is not the last of the bytes by itself
-told : (s : List ℕ) (c : Command) → command_in (take (suc (to_line_feed s)) s) ≡ reading.Is c
+told : (s : List ℕ) (c : Command) → command_in (take (suc (to_line_feed s)) s) ≡ Some c
     → (to_line_feed s < length s) × (digits_after (get_or s 1 0) ≡ to_line_feed s) × (1 < length s)
 told s c is =
     let e = to_line_feed s in
@@ -104,21 +104,21 @@ told s c is =
     (l, ap digits_after second ∙ second_tells c ∙ omega (arith, long), omega (arith, long, l)))
     (λ (l : length s ≤ e).
     let all : take (suc e) s ≡ s = take_all (suc e) s (omega arith) in
-    let bad : command_in (take (suc e) s) ≡ reading.Bad = rw all (unended_bad s (feed_nowhere s l)) in
-    let z : reading.Bad ≡ reading.Is c = sym bad ∙ is in let y : true ≡ false = cc in absurd (true≢false y))
+    let bad : command_in (take (suc e) s) ≡ None = rw all (unended_bad s (feed_nowhere s l)) in
+    let z : None ≡ Some c = sym bad ∙ is in let y : true ≡ false = cc in absurd (true≢false y))
     (lt_or_le e (length s))
 
 -- so the first line is none where the bytes that its second digit tells are none
-pub first_other : (s : List ℕ) → (1 < length s → digits_after (get_or s 1 0) < length s → command_in (take (suc (digits_after (get_or s 1 0))) s) ≡ reading.Bad)
+pub first_other : (s : List ℕ) → (1 < length s → digits_after (get_or s 1 0) < length s → command_in (take (suc (digits_after (get_or s 1 0))) s) ≡ None)
     → other_line s ≡ first_line s
 first_other s never = ap (λ (r : Reading). at_place r) (sym (by_reading (command_in (take (suc (to_line_feed s)) s)) refl))
   where
     at_place : Reading → Line
     at_place r = record { digits = to_line_feed s; reading = r }
 
-    by_reading : (r : Reading) → command_in (take (suc (to_line_feed s)) s) ≡ r → command_in (take (suc (to_line_feed s)) s) ≡ reading.Bad
-    by_reading reading.Bad e = e
-    by_reading (reading.Is c) e =
+    by_reading : (r : Reading) → command_in (take (suc (to_line_feed s)) s) ≡ r → command_in (take (suc (to_line_feed s)) s) ≡ None
+    by_reading None e = e
+    by_reading (Some c) e =
         let t = told s c e in
         let same : digits_after (get_or s 1 0) ≡ to_line_feed s = t.1 in
         ap (λ (k : ℕ). command_in (take (suc k) s)) (sym same) ∙ never t.2 (omega (arith, same, t.0))

@@ -11,8 +11,7 @@ use Rattle.basics.proofs.LawsBytes.{onto_none}
 use Rattle.side.specs.Table.{Shows}
 use Rattle.side.proofs.rows.LawsShown.{holds_shows}
 use Rattle.rules.specs.declared.Command.{Command}
-use Rattle.rules.specs.declared.Reading.{Reading}
-use Rattle.rules.specs.declared.Reading.TheVariants as reading
+use Rattle.rules.specs.CommandLines.{Reading}
 use Rattle.rules.specs.Book.{Book}
 use Rattle.rules.specs.Day.{printed}
 use Rattle.rules.specs.EventLines.{event_lines, refusal_line}
@@ -26,15 +25,16 @@ use Rattle.side.specs.Tables.{book_on}
 use Rattle.side.proofs.tables.LawsAnswers.{head_same, refused_with}
 use Rattle.day.specs.declared.replay.Printed.{Printed}
 use Rattle.day.specs.Feed.{answer_for, printed_step}
+use Rattle.std.specs.Prelude.{Some, None}
 
 -- ── The answer to a reading ──
 
 -- of a command: that of a sound book, with room for its lines
-answer_command : (b : Book) (r : Reading) (c : Command) → r ≡ reading.Is c → answer_for b r ≡ answer_of c b
+answer_command : (b : Book) (r : Reading) (c : Command) → r ≡ Some c → answer_for b r ≡ answer_of c b
 unfolding answer_of refusals first_of
 answer_command b r c is = rw is
 
-answer_bad : (b : Book) (r : Reading) → r ≡ reading.Bad → answer_for b r ≡ refused_with 3 b
+answer_bad : (b : Book) (r : Reading) → r ≡ None → answer_for b r ≡ refused_with 3 b
 unfolding answer refusals line_refusals first_of
 answer_bad b r bad = rw bad
 
@@ -63,13 +63,13 @@ module _ (h : Head) (x : List ℕ) (t : List (List ℕ)) (y : List ℕ) (u : Lis
       (ap (λ (g : Head). leaving g 5) (head_same h x t y u), (buys, (sells, wrote)))
 
   -- refusal 3
-  pub shown_bad : r ≡ reading.Bad → (n : ℕ) (out' : List ℕ) → n ≡ 5 → out' ≡ onto (refusal_line 3) out
+  pub shown_bad : r ≡ None → (n : ℕ) (out' : List ℕ) → n ≡ 5 → out' ≡ onto (refusal_line 3) out
       → Shown (leaving h n) x t y u out' out (answer_for (book_on h x t y u) r)
   shown_bad bad n out' five wrote =
       shown_refused 3 n x t y u out' _ (answer_bad (book_on h x t y u) r bad) (λ z. omega arith) five (holds_shows h.buys x t stands.buys) (holds_shows h.sells y u stands.sells) wrote
 
   -- a command, after its step
-  module _ (c : Command) (is : r ≡ reading.Is c) (s : Step) (x' : List ℕ) (t' : List (List ℕ)) (y' : List ℕ) (u' : List (List ℕ)) (out' : List ℕ)
+  module _ (c : Command) (is : r ≡ Some c) (s : Step) (x' : List ℕ) (t' : List (List ℕ)) (y' : List ℕ) (u' : List (List ℕ)) (out' : List ℕ)
       (stepped : Left s x' t' y' u' out' out (answer_of c (book_on h x t y u))) where
     it : Answer
     it = answer_of c (book_on h x t y u)

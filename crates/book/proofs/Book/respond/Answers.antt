@@ -1,7 +1,7 @@
 -- `Book::respond` meets its contract: the book is loaded; refusals 1 and 2 first, then 3, and then the command. Assumes nothing.
 use mathlib.Core.Path.{sym, ap, ◌∙◌}
 use native.Mathlib.Omega.{arith}
-use Rattle.rules.specs.declared.Reading.{Reading}
+use Rattle.rules.specs.CommandLines.{Reading}
 use Rattle.rules.specs.Step.{Returned, step_on}
 use Rattle.book.specs.Record.{record_in, reply_of}
 use Rattle.book.proofs.LawsStep.{step_unfit, step_bad, fit}
@@ -37,4 +37,4 @@ work-requires c =
     }
 
 pub returns : goal.returns
-returns c = rw c.in-Is.is c.work.ensures
+returns c = rw c.in-Some.is c.work.ensures

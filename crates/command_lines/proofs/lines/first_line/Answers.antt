@@ -4,11 +4,11 @@ use Prim.Native.Nat.{suc, ◌+◌, ◌-◌, ◌<◌}
 use mathlib.Core.Path.{◌≡◌, sym, ◌∙◌}
 use lib.ListN.{length, get_or, take}
 use native.Mathlib.Omega.{arith}
-use Rattle.rules.specs.declared.Reading.TheVariants as reading
 use Rattle.rules.specs.CommandLines.{command_in}
 use Rattle.command_lines.specs.Lines.{digits_after}
 use Rattle.command_lines.proofs.lines.LawsFirst.{first_command, first_other}
 use Rattle.command_lines.proofs.lines.first_line.Goals as goal
+use Rattle.std.specs.Prelude.{Some, None}
 
 -- too short for a second byte
 pub returns-then-s-lt2 : goal.returns-then-s-lt2
@@ -30,7 +30,7 @@ returns-in_default c =
     let k = c.digits_after-n.result in
     let n : k ≡ digits_after (get_or s 1 0) = c.digits_after-n.ensures in
     let all : k + 1 - 0 ≡ suc k = omega arith in
-    let bad : command_in (take (k + 1 - 0) s) ≡ reading.Bad = sym c.read_command.ensures ∙ c.in_default.is in
+    let bad : command_in (take (k + 1 - 0) s) ≡ None = sym c.read_command.ensures ∙ c.in_default.is in
     c.other_line-in_default.ensures ∙ first_other s (λ _ _. rw (all, n) at bad)
 
 -- that command
@@ -39,5 +39,5 @@ returns c =
     let s = c.args.s.now in
     let k = c.digits_after-n.result in
     let all : k + 1 - 0 ≡ suc k = omega arith in
-    let is : command_in (take (k + 1 - 0) s) ≡ reading.Is _ = sym c.read_command.ensures ∙ c.in-Is.is in
+    let is : command_in (take (k + 1 - 0) s) ≡ Some _ = sym c.read_command.ensures ∙ c.in-Some.is in
     first_command s k _ (omega (arith, c.if-s-n.false)) (rw all at is)

@@ -9,12 +9,12 @@ use native.Mathlib.Omega.{arith}
 use Rattle.digits.specs.declared.Field.{Field}
 use Rattle.digits.specs.Digits.{number_at}
 use Rattle.digits.proofs.LawsDigits.{number_at_short}
-use Rattle.rules.specs.declared.BodyReading.{BodyReading}
-use Rattle.rules.specs.declared.BodyReading.TheVariants as body
+use Rattle.rules.specs.CommandLines.{BodyReading}
 use Rattle.rules.specs.CommandLines.{numbers_from, header_form, body_in, command_in}
 use Rattle.rules.proofs.LawsFields.{fields_from, numbers_good, numbers_bad, also_none}
 use Rattle.command_lines.proofs.reader.read_command.Goals as goal
 use Rattle.command_lines.proofs.reader.read_command.Goals.{After-field_at-time, After-read_body}
+use Rattle.std.specs.Prelude.{Some, None}
 
 -- the line and the fields of its header
 module _ (c : After-field_at-time) where
@@ -58,11 +58,11 @@ unfolding command_in
 returns-in_default c =
     let here = (goal.at.returns-in_default c).After-read_body in
     let header = (goal.at.returns-in_default c).After-field_at-time in
-    rw (numbers_good 0 header_form (whole header) (read header) (are_read header) c.if-not-kind-number.false, body_is here body.Bad c.in_default.is)
+    rw (numbers_good 0 header_form (whole header) (read header) (are_read header) c.if-not-kind-number.false, body_is here None c.in_default.is)
 
 pub returns : goal.returns
 unfolding command_in
 returns c =
     let here = (goal.at.returns c).After-read_body in
     let header = (goal.at.returns c).After-field_at-time in
-    rw (numbers_good 0 header_form (whole header) (read header) (are_read header) c.if-not-kind-number.false, body_is here (body.Is c.in-Is.body) c.in-Is.is)
+    rw (numbers_good 0 header_form (whole header) (read header) (are_read header) c.if-not-kind-number.false, body_is here (Some c.in-Some.body) c.in-Some.is)

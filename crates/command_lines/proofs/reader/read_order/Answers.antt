@@ -7,19 +7,19 @@ use Rattle.digits.specs.declared.Field.{Field}
 use Rattle.digits.proofs.LawsDigits.{field_fits}
 use Rattle.rules.specs.CommandLines.{order_form}
 use Rattle.rules.proofs.LawsFields.{fields_from, numbers_good, numbers_bad}
-use Rattle.command_lines.specs.declared.reader.CarriedReading.{CarriedReading}
-use Rattle.command_lines.specs.declared.reader.CarriedReading.TheVariants.{Is, Bad}
 use Rattle.command_lines.specs.Reading.{carried_in}
 use Rattle.command_lines.proofs.reader.LawsOrder.{with_carried, order_body}
 use Rattle.command_lines.proofs.reader.read_order.Goals as goal
 use Rattle.command_lines.proofs.reader.read_order.Goals.{After-field_at-shares, After-read_carried}
+use Rattle.rules.specs.declared.Carried.{Carried}
+use Rattle.std.specs.Prelude.{Option, Some, None}
 
 -- the digits of the body, and what the order was found to carry
 module _ (c : After-read_carried) where
   abbrev body : List ℕ
   body = c.args.s.now
 
-  carries : (r : CarriedReading) → c.read_carried.result ≡ r → carried_in c.args.kind body ≡ r
+  carries : (r : Option Carried) → c.read_carried.result ≡ r → carried_in c.args.kind body ≡ r
   carries r e = sym c.read_carried.ensures ∙ e
 
 -- its fields
@@ -39,7 +39,7 @@ pub returns-in_default : goal.returns-in_default
 unfolding with_carried
 returns-in_default c =
     let here = (goal.at.returns-in_default c).After-read_carried in
-    rw (order_body (body here) c.args.kind, carries here Bad c.in_default.is)
+    rw (order_body (body here) c.args.kind, carries here None c.in_default.is)
 
 pub returns-then-not-side-word : goal.returns-then-not-side-word
 unfolding with_carried
@@ -48,7 +48,7 @@ returns-then-not-side-word c =
     let e = (goal.at.returns-then-not-side-word c).After-read_carried in
     rw (
       order_body (body e) e.args.kind,
-      carries e (Is c.in-Is.carried) c.in-Is.is,
+      carries e (Some c.in-Some.carried) c.in-Some.is,
       numbers_bad 0 order_form (body e) (read here) (are_read here) c.if-not-side-word.true,
     )
 
@@ -65,6 +65,6 @@ returns c =
     let e = (goal.at.returns c).After-read_carried in
     rw (
       order_body (body e) e.args.kind,
-      carries e (Is c.in-Is.carried) c.in-Is.is,
+      carries e (Some c.in-Some.carried) c.in-Some.is,
       numbers_good 0 order_form (body e) (read here) (are_read here) c.if-not-side-word.false,
     )

@@ -9,15 +9,15 @@ use borrow.Author.Tests.{lt-ltb, le-ltb}
 use Rattle.basics.specs.Bytes.{onto, onto_from}
 use Rattle.basics.proofs.LawsBytes.{onto_next, onto_part}
 use Rattle.rules.specs.CommandLines.{command_in, form_of, written, line, numbers_of, header_form, kind_of, line_of}
-use Rattle.rules.specs.declared.Reading.TheVariants.{Is}
 use Rattle.rules.proofs.LawsLines.{command_in_line_of, header_fits}
 use Rattle.rules.proofs.LawsWriting.{length_line_of, length_written, header_paired, form_of_short}
 use Rattle.command_lines.specs.Writing.{written_for, buffer_of}
 use Rattle.command_lines.proofs.writer.write_command.Goals as goal
 use Rattle.command_lines.proofs.writer.write_command.Goals.{After-digits_in, Else-out-length}
+use Rattle.std.specs.Prelude.{Some}
 
 -- the command's fields fit, so its line reads back
-reads_back : (c : After-digits_in) → command_in (line_of c.args.c) ≡ Is c.args.c
+reads_back : (c : After-digits_in) → command_in (line_of c.args.c) ≡ Some c.args.c
 reads_back c =
     let a = c.args in
     command_in_line_of a.c (record { header = header_fits a.c (omega arith) (omega arith); body = c.digits_in.ensures.fitting })

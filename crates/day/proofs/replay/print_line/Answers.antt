@@ -20,7 +20,7 @@ pub returns-then-step-eq0 : goal.returns-then-step-eq0
 returns-then-step-eq0 c =
     let a = c.args in
     let s = c.apply-step in
-    shown_done a.h a.x.now a.buys.now a.y.now a.sells.now c.requires.0 a.reading a.out.now _ c.in-Is.is
+    shown_done a.h a.x.now a.buys.now a.y.now a.sells.now c.requires.0 a.reading a.out.now _ c.in-Some.is
     s.result _ _ _ _ _ s.ensures (omega (arith, c.if-step-eq0.true))
 
 pub write_refusal-length-requires-2 : goal.write_refusal-length-requires-2
@@ -32,5 +32,5 @@ returns c =
     let a = c.args in
     let s = c.apply-step in
     let w = c.write_refusal-length-2 in
-    shown_refusal a.h a.x.now a.buys.now a.y.now a.sells.now c.requires.0 a.reading a.out.now _ c.in-Is.is
+    shown_refusal a.h a.x.now a.buys.now a.y.now a.sells.now c.requires.0 a.reading a.out.now _ c.in-Some.is
     s.result _ _ _ _ _ s.ensures (λ z. omega (arith, z, c.if-step-eq0.false)) w.result w.new.out w.ensures.value w.ensures.out_after

@@ -3,7 +3,6 @@ use Prim.Native.Nat.{ℕ}
 use mathlib.Core.List.{List}
 use mathlib.Core.Path.{◌≡◌, refl, sym, ap, ◌∙◌}
 use borrow.Author.Tests.{ne_eqb}
-use Rattle.digits.specs.declared.Value.TheVariants.{Is, Bad}
 use Rattle.digits.specs.Digits.{number_at}
 use Rattle.digits.proofs.LawsDigits.{field_is, field_bad}
 use Rattle.rules.specs.EventLines.{executed_kind, rested_kind, cancelled_kind, moved_kind}
@@ -13,16 +12,17 @@ use Rattle.event_lines.specs.Ended.{when_ended}
 use Rattle.event_lines.proofs.reader.LawsEventReader.{event_in_short, event_in_kind}
 use Rattle.event_lines.proofs.reader.read_event.Goals as goal
 use Rattle.event_lines.proofs.reader.read_event.Goals.{Else-not-read}
+use Rattle.std.specs.Prelude.{Some, None}
 
 -- the line, of which a kind was read
 module _ (c : Else-not-read) where
   abbrev whole : List ℕ
   whole = c.args.s.now
 
-  by_kind : (kind : ℕ) → c.field_at-read.result.number ≡ kind → event_in whole ≡ of_kind (Is kind) whole
+  by_kind : (kind : ℕ) → c.field_at-read.result.number ≡ kind → event_in whole ≡ of_kind (Some kind) whole
   by_kind kind e =
-      event_in_kind whole (Is kind) c.if-s-lt2.false
-      (field_is (number_at 1 0 whole) c.field_at-read.ensures (not-false _ c.if-not-read.false) ∙ ap Is e)
+      event_in_kind whole (Some kind) c.if-s-lt2.false
+      (field_is (number_at 1 0 whole) c.field_at-read.ensures (not-false _ c.if-not-read.false) ∙ ap Some e)
 
 pub returns-then-s-lt2 : goal.returns-then-s-lt2
 returns-then-s-lt2 c = sym (event_in_short _ c.if-s-lt2.true)
@@ -32,7 +32,7 @@ unfolding of_kind
 returns-then-not-read c =
     let s = c.args.s.now in
     let bad = field_bad (number_at 1 0 s) c.field_at-read.ensures (not-true _ c.if-not-read.true) in
-    sym (event_in_kind s Bad c.if-s-lt2.false bad)
+    sym (event_in_kind s None c.if-s-lt2.false bad)
 
 pub returns-in-17 : goal.returns-in-17
 unfolding of_kind of_fields when_ended
