@@ -67,7 +67,7 @@ impl Table {
     {
         for rank in 0..self.len() {
             let o = self.at(rank);
-            if o.number.0 == number.0 {
+            if o.number == number {
                 return Some(rank);
             }
         }
@@ -82,7 +82,7 @@ impl Table {
         let hint = self.index[rows::hint_of(number)];
         let slot = rows::wide(hint) % PLACES;
         let o = self.rows[slot].order;
-        if o.number.0 != number.0 {
+        if o.number != number {
             return None;
         }
         let i = place_of(&self.index, self.held, hint)?;
@@ -96,7 +96,7 @@ impl Table {
 fn earlier(s: Stamp, t: Stamp) -> bool
     ensures { result ≡ earlierStamp s t }
 {
-    (s.command.0 < t.command.0) | ((s.command.0 == t.command.0) & (s.place < t.place))
+    (s.command < t.command) | ((s.command == t.command) & (s.place < t.place))
 }
 
 // Whether `x` ranks before `y`. By values and not by ways, so that it compiles to no branch.
@@ -104,9 +104,9 @@ pub fn ranks_before(buying: bool, x: Resting, y: Resting) -> bool
     ensures { result ≡ ranks_before buying x y }
 {
     let stamped = earlier(x.stamp, y.stamp);
-    let nearer = (buying & (y.price.0 < x.price.0)) | (!buying & (x.price.0 < y.price.0));
+    let nearer = (buying & (y.price < x.price)) | (!buying & (x.price < y.price));
     let first = (x.displayed & !y.displayed) | ((x.displayed | !y.displayed) & stamped);
-    nearer | ((x.price.0 == y.price.0) & first)
+    nearer | ((x.price == y.price) & first)
 }
 
 // ── A new order's place ──

@@ -66,17 +66,7 @@ pub(crate) const FREE: Row = Row {
 pub fn is_unused(o: Resting) -> bool
     ensures { result ≡ is_unused o }
 {
-    let stamp = o.stamp;
-    (o.number.0 == 0)
-        & (o.price.0 == 0)
-        & (o.shares.0 == 0)
-        & !o.displayed
-        & !o.back
-        & (stamp.command.0 == 0)
-        & (stamp.place == 0)
-        & (o.reserve.0 == 0)
-        & (o.floor.0 == 0)
-        & (o.minimum.0 == 0)
+    o == UNUSED
 }
 
 // The shares of an order, shown and in reserve (02, W4).
