@@ -43,8 +43,7 @@ fn place_of(x: &Index, n: usize, slot: u8) -> Option<usize>
     ensures { Named slot n x.now result }
 {
     let steps = rows::STEPS;
-    let mut part = 0;
-    while part < n {
+    for part in (0..n).step_by(PART) {
         let mut found: u8 = 0;
         for i in 0..PART {
             let b = x[part + i];
@@ -55,7 +54,6 @@ fn place_of(x: &Index, n: usize, slot: u8) -> Option<usize>
         if x[at] == slot {
             return if at < n { Some(at) } else { None };
         }
-        part += PART;
     }
     None
 }

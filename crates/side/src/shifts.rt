@@ -39,8 +39,7 @@ fn raise(x: &mut Index, from: usize, to: usize)
     let v = x[from];
     let steps = rows::STEPS;
     let mut last: u8 = 0;
-    let mut part = 0;
-    while part <= from {
+    for part in (0..from + 1).step_by(PART) {
         let lo = within(to + 1, part);
         let hi = within(from + 1, part);
         for i in 0..PART {
@@ -49,7 +48,6 @@ fn raise(x: &mut Index, from: usize, to: usize)
             x[part + i] = turned(lo, hi, j, last, b);
             last = b;
         }
-        part += PART;
     }
     x[to] = v;
 }
@@ -62,8 +60,7 @@ fn lower(x: &mut Index, from: usize, to: usize)
     let v = x[from];
     let steps = rows::STEPS;
     let mut b = x[0];
-    let mut part = 0;
-    while part <= to {
+    for part in (0..to + 1).step_by(PART) {
         let lo = within(from, part);
         let hi = within(to, part);
         for i in 0..PART {
@@ -72,7 +69,6 @@ fn lower(x: &mut Index, from: usize, to: usize)
             x[part + i] = turned(lo, hi, j, next, b);
             b = next;
         }
-        part += PART;
     }
     x[to] = v;
 }
