@@ -27,10 +27,10 @@ returns c =
     let holds = c.self.invariant in
     let i = c.in_ok-i.i in
     let place = c.place_of.ensures i c.in_ok-i.was in
-    let hint = c.wide-slot.result in
+    let hint = c.from-slot.result in
     let slot = hint % places_a_side in
     let in_table : get_or t.index i 0 < places_a_side = names_below t.index holds.names i (omega (arith, place.0, holds.fits)) in
-    let named : get_or t.index i 0 ≡ slot = omega (arith, place.1, c.wide-slot.ensures, in_table) in
+    let named : get_or t.index i 0 ≡ slot = omega (arith, place.1, c.from-slot.ensures, in_table) in
     let its : is_number a.number (order_of (get_or t.rows slot free)) ≡ true = not-false _ (sym c.ne.ensures ∙ c.if-ne.false) in
     let led : t.held - 1 - i ≡ first_where (is_number a.number) a.self.now =
     rw c.self.view_is at (hint_leads t.held t.index t.rows holds a.number (rw (← c.self.view_is) at c.requires) slot i named place.0 its) in
