@@ -14,7 +14,8 @@ use Rattle.kinds.specs.declared.Number.{Number}
 use Rattle.rules.specs.declared.Resting.{Resting}
 use Rattle.rules.specs.Book.{unused, numbers}
 use Rattle.rules.specs.Commands.{is_number}
-use Rattle.side.specs.Table.{order_of, ranked, side, Holds}
+use Rattle.side.specs.declared.rows.Row.{Row}
+use Rattle.side.specs.Table.{order_of, free, ranked, side, Holds}
 use Rattle.side.proofs.rows.LawsIndex.{ranked_at}
 use Rattle.side.proofs.rows.LawsShown.{length_side, order_at}
 
@@ -42,11 +43,11 @@ only_one number (h ∷ s) d (suc k) l e =
     (holds_or_not (is_number number h))
 
 -- a row in use, whose place in the index is i
-pub hint_leads : (n : ℕ) (x : List ℕ) (t : List (List ℕ)) → Holds n x t → (number : Number) → distinct (numbers (side n x t)) ≡ true
-    → (slot i : ℕ) → get_or x i 0 ≡ slot → i < n → is_number number (order_of (get_or t slot [])) ≡ true → n - 1 - i ≡ first_where (is_number number) (side n x t)
+pub hint_leads : (n : ℕ) (x : List ℕ) (t : List Row) → Holds n x t → (number : Number) → distinct (numbers (side n x t)) ≡ true
+    → (slot i : ℕ) → get_or x i 0 ≡ slot → i < n → is_number number (order_of (get_or t slot free)) ≡ true → n - 1 - i ≡ first_where (is_number number) (side n x t)
 hint_leads n x t holds number d slot i named l its =
     let k = n - 1 - i in
     let back : n - 1 - k ≡ i = omega arith in
     let at : get_or (ranked n x) k 0 ≡ slot = ranked_at n x k (omega arith) ∙ ap (λ (j : ℕ). get_or x j 0) back ∙ named in
-    let found : order_of (get_or t slot []) ≡ get_or (side n x t) k unused = rw at at (order_at n x t k (omega arith)) in
+    let found : order_of (get_or t slot free) ≡ get_or (side n x t) k unused = rw at at (order_at n x t k (omega arith)) in
     only_one number (side n x t) d k (omega (arith, length_side n x t)) (ap (is_number number) (sym found) ∙ its)

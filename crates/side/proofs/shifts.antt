@@ -1,3 +1,2 @@
 pub mod LawsRotated
 pub mod LawsShifts
-pub mod Determined

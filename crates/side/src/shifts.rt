@@ -1,12 +1,13 @@
 // Orders moved in and out of one side, in place: the index is turned, and the rows stay where they are.
-ghost use Rattle.std.specs.Prelude.{◌&&◌, ◌≡◌, ◌+◌, ◌-◌, ◌≤◌, ◌<◌, min, ltb, leb, get_or, set, if◌then◌else◌};
-ghost use Rattle.basics.specs.Lists.{insert_at, remove_at};
-ghost use Rattle.side.specs.Table.{places_a_part, rotated, side, Holds, Shows};
+ghost use Rattle.std.specs.Prelude.{true, ◌&&◌, ◌≡◌, ◌+◌, ◌-◌, ◌≤◌, ◌<◌, min, ltb, leb, length, drop, get_or, set, if◌then◌else◌};
+ghost use Rattle.basics.specs.Lists.{every, insert_at, remove_at};
+ghost use Rattle.side.specs.Table.{index_size, places_a_part, rotated};
 ghost use Rattle.rules.specs.Book.{places_a_side, unused};
-ghost use Rattle.side.specs.Shifts.{less_by};
+ghost use Rattle.side.specs.Shifts.{keeps, keepers, less_by};
 
 use crate::rows;
-use crate::rows::{Index, PART, Rows};
+use crate::rows::{Index, PART};
+use crate::table::Table;
 use kinds::Shares;
 use rules::Resting;
 
@@ -32,10 +33,9 @@ fn turned(lo: u8, hi: u8, j: u8, neighbour: u8, own: u8) -> u8
 
 // The byte at place `from` comes to stand at place `to`, which is no later, and those between move one up.
 fn raise(x: &mut Index, from: usize, to: usize)
-    requires { (to ≤ from) × (from < places_a_side) }
+    requires { (length x.old ≡ index_size) × (to ≤ from) × (from < places_a_side) }
     ensures { x.new ≡ rotated from to x.old }
 {
-    rows::whole_index(x);
     let v = x[from];
     let steps = rows::STEPS;
     let mut last: u8 = 0;
@@ -56,10 +56,9 @@ fn raise(x: &mut Index, from: usize, to: usize)
 
 // The same to a place that is no earlier: those between move one down.
 fn lower(x: &mut Index, from: usize, to: usize)
-    requires { (from ≤ to) × (to < places_a_side) }
+    requires { (length x.old ≡ index_size) × (from ≤ to) × (to < places_a_side) }
     ensures { x.new ≡ rotated from to x.old }
 {
-    rows::whole_index(x);
     let v = x[from];
     let steps = rows::STEPS;
     let mut b = x[0];
@@ -79,28 +78,6 @@ fn lower(x: &mut Index, from: usize, to: usize)
 }
 
 // ── Orders ──
-
-// The side with one more order, at rank `at`: it takes the first free row.
-pub(crate) fn insert(x: &mut Index, t: &mut Rows, n: usize, at: usize, o: Resting)
-    requires { Holds n x.old t.old × (at ≤ n) × (n < places_a_side) }
-    ensures { Shows (insert_at at o (side n x.old t.old)) x.new t.new }
-{
-    rows::whole_index(x);
-    let slot = x[n];
-    raise(x, n, n - at);
-    let hint = rows::hint_of(o.number);
-    x[hint] = slot;
-    rows::put_row(t, rows::wide(slot), o);
-}
-
-// The side without the order at rank `at`: its row is free.
-pub fn remove(x: &mut Index, t: &Rows, n: usize, at: usize)
-    requires { Holds n x.old t.now × (at < n) }
-    ensures { Shows (remove_at at (side n x.old t.now)) x.new t.now }
-{
-    let last = n - 1;
-    lower(x, last - at, last);
-}
 
 // What is left of so many shares without others; nothing where these are more.
 fn without(all: u32, gone: u32) -> u32
@@ -123,27 +100,80 @@ fn cut(minimum: u32, shown: u32, reserve: u32) -> u32
     shown + reserve
 }
 
-// The side with `part` shares fewer in the order at rank `at`: of its shown part first, and then of its reserve.
-pub fn reduce(x: &Index, t: &mut Rows, n: usize, at: usize, part: Shares)
-    requires { Holds n x.now t.old × (at < n) }
-    ensures { Shows (set (side n x.now t.old) at
-        (less_by part.0 (get_or (side n x.now t.old) at unused)))
-        x.now t.new }
+// Whether an order has something left, shown or in reserve.
+fn has_shares(o: Resting) -> bool
+    ensures { result ≡ keeps o }
 {
-    let slot = rows::slot_at(x, n, at);
-    let o = rows::row(t, slot);
-    let shown = without(o.shares.0, part.0);
-    let more = without(part.0, o.shares.0);
-    let reserve = without(o.reserve.0, more);
-    let minimum = cut(o.minimum.0, shown, reserve);
-    rows::put_row(
-        t,
-        slot,
-        Resting {
+    !((o.shares.0 == 0) & (o.reserve.0 == 0))
+}
+
+// One more where the test holds.
+fn counted(to: usize, one: bool) -> usize
+    requires { to < places_a_side }
+    ensures { result ≡ (if one then to + 1 else to) }
+{
+    if one { to + 1 } else { to }
+}
+
+impl Table {
+    // The side with one more order, at rank `at`: it takes the first free row.
+    pub(crate) fn insert(&mut self, at: usize, o: Resting)
+        requires { (at ≤ length self.old) × (length self.old < places_a_side) }
+        ensures { self.new ≡ insert_at at o self.old }
+    {
+        let n = self.held;
+        let slot = self.index[n];
+        raise(&mut self.index, n, n - at);
+        let hint = rows::hint_of(o.number);
+        self.index[hint] = slot;
+        self.rows[rows::wide(slot)] = rows::row_of(o);
+        self.held = n + 1;
+    }
+
+    // The side without the order at rank `at`: its row is free.
+    pub fn remove(&mut self, at: usize)
+        requires { at < length self.old }
+        ensures { self.new ≡ remove_at at self.old }
+    {
+        let last = self.held - 1;
+        lower(&mut self.index, last - at, last);
+        self.held = last;
+    }
+
+    // The side with `part` shares fewer in the order at rank `at`: of its shown part first, and then of its reserve.
+    pub fn reduce(&mut self, at: usize, part: Shares)
+        requires { at < length self.old }
+        ensures { self.new ≡ set self.old at (less_by part.0 (get_or self.old at unused)) }
+    {
+        let slot = rows::slot_at(&self.index, self.held, at);
+        let o = self.rows[slot].order;
+        let shown = without(o.shares.0, part.0);
+        let more = without(part.0, o.shares.0);
+        let reserve = without(o.reserve.0, more);
+        let minimum = cut(o.minimum.0, shown, reserve);
+        self.rows[slot] = rows::row_of(Resting {
             shares: Shares(shown),
             reserve: Shares(reserve),
             minimum: Shares(minimum),
             ..o
-        },
-    );
+        });
+    }
+
+    // Of the first `reached` orders those leave that have nothing left. From the worst of them to the best, each changes places with the
+    // first that leaves, so that whoever leaves comes to stand behind; whether one counts is no branch.
+    pub fn close_up(&mut self, reached: usize)
+        requires within { reached ≤ length self.old }
+        requires others { every keeps (drop reached self.old) ≡ true }
+        ensures { self.new ≡ keepers self.old }
+    {
+        let mut to = self.held - reached;
+        for i in to..self.held {
+            let slot = self.index[i];
+            self.index[i] = self.index[to];
+            self.index[to] = slot;
+            let o = self.rows[rows::wide(slot)].order;
+            to = counted(to, has_shares(o));
+        }
+        self.held = to;
+    }
 }
