@@ -1,4 +1,4 @@
--- A command to a sound book, with room for its lines: the answer of 01, and what it leaves of the book and of the output.
+-- A command to a sound book, with room for its lines: the answer of 01, and what it leaves of the two sides and the output.
 use Rattle.std.specs.Prelude.{ℕ, List, ◌≡◌, length, Some, Result}
 use Rattle.basics.specs.Bytes.{onto}
 use Rattle.kinds.specs.declared.Number.{Number}
@@ -20,9 +20,11 @@ answer_of c b = answer (first_of (line_refusals b (Some c))) (Some c) b
 unfoldable pub body_answer : Number → ℕ → Body → Book → Answer
 body_answer n time body b = answer (first_of (body_refusals b body)) (Some (record { number = n; time = time; body = body })) b
 
--- what a command returns and leaves: `a` is 01's answer, `buys` and `sells` are the sides then, and `out'` is what is then in the output,
--- where `out` was
+-- what a command leaves of two sides and an output that are lent: `a` is 01's answer, `buys` and `sells` are what then rests, and `out'`
+-- is what is then in the output, where `out` was
 abbrev pub Left : Result ℕ Refusal → List Resting → List Resting → List ℕ → List ℕ → Answer → Type 0
 Left r buys sells out' out a =
     (r ≡ or_refused (length (event_lines a.events)) a.refusal)
-    × ((buys ≡ a.book.buys) × ((sells ≡ a.book.sells) × (out' ≡ onto (event_lines a.events) out)))
+    × (buys ≡ a.book.buys)
+    × (sells ≡ a.book.sells)
+    × (out' ≡ onto (event_lines a.events) out)
