@@ -1,2 +1,3 @@
 pub mod LawsRotated
 pub mod LawsShifts
+pub mod LawsClosing

@@ -39,7 +39,7 @@ fn greater(a: u8, b: u8) -> u8
 // A place before `n` of an index whose byte names a row. It looks for it part by part, with no branch on a single byte and one on what a part
 // gave; that it finds the place, if there is one, is not promised.
 fn place_of(x: &Index, n: usize, slot: u8) -> Option<usize>
-    requires { (length x.now ≡ index_size) × (n ≤ places_a_side) }
+    requires { n ≤ places_a_side }
     ensures { Named slot n x.now result }
 {
     let steps = rows::STEPS;

@@ -33,7 +33,7 @@ fn turned(lo: u8, hi: u8, j: u8, neighbour: u8, own: u8) -> u8
 
 // The byte at place `from` comes to stand at place `to`, which is no later, and those between move one up.
 fn raise(x: &mut Index, from: usize, to: usize)
-    requires { (length x.old ≡ index_size) × (to ≤ from) × (from < places_a_side) }
+    requires { (to ≤ from) × (from < places_a_side) }
     ensures { x.new ≡ rotated from to x.old }
 {
     let v = x[from];
@@ -56,7 +56,7 @@ fn raise(x: &mut Index, from: usize, to: usize)
 
 // The same to a place that is no earlier: those between move one down.
 fn lower(x: &mut Index, from: usize, to: usize)
-    requires { (length x.old ≡ index_size) × (from ≤ to) × (to < places_a_side) }
+    requires { (from ≤ to) × (to < places_a_side) }
     ensures { x.new ≡ rotated from to x.old }
 {
     let v = x[from];

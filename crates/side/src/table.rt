@@ -75,7 +75,11 @@ impl Table {
     pub fn get(&self, rank: usize) -> Option<Resting>
         ensures { result ≡ slice_get self.now rank }
     {
-        if rank < self.held { Some(self.at(rank)) } else { None }
+        if rank < self.held {
+            Some(self.at(rank))
+        } else {
+            None
+        }
     }
 
     // The level of the order at a rank.
@@ -85,6 +89,10 @@ impl Table {
     {
         let slot = rows::slot_at(&self.index, self.held, rank);
         let row = self.rows[slot];
-        if buying { row.buy_level } else { row.sell_level }
+        if buying {
+            row.buy_level
+        } else {
+            row.sell_level
+        }
     }
 }

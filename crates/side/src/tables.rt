@@ -40,7 +40,7 @@ fn numbered(n: usize, i: usize) -> usize
 
 // An index of a side whose orders stand in the first `n` rows, in rank order.
 fn number(x: &mut Index, n: usize)
-    requires { (length x.old ≡ index_size) × (n ≤ places_a_side) }
+    requires { n ≤ places_a_side }
     ensures { Numbered n x.new }
 {
     for i in 0..PLACES {

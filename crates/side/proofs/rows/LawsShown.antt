@@ -6,16 +6,18 @@ use mathlib.Core.List.{List, [], ◌∷◌, map}
 use mathlib.Core.Logic.{⊎_elim}
 use mathlib.Core.Path.{◌≡◌, refl, sym, ap, ◌∙◌}
 use lib.Dec.{eqb}
-use lib.ListN.{length, get_or, set, drop, length-append, length-take, length-drop, length-map, length-set}
+use lib.ListN.{length, get_or, set, drop, length-map, length-set}
 use lib.Seq.{get_or-set_same, get_or-set_other}
+use Rattle.std.proofs.lemmas.List.{get_or-map}
 use native.Mathlib.Omega.{arith}
 use borrow.Author.Tests.{eq-eqb, eqb-false}
 use Rattle.basics.specs.Lists.{times, insert_at, remove_at}
 use Rattle.basics.proofs.LawsChoice.{holds_or_not}
-use Rattle.basics.proofs.LawsLists.{map_drop, map_set, map_insert_at, map_remove_at, length_remove_at}
+use Rattle.basics.proofs.LawsLists.{map_drop, map_set, map_insert_at, map_remove_at}
 use Rattle.rules.specs.declared.Resting.{Resting}
 use Rattle.rules.specs.Book.{places_a_side, unused}
 use Rattle.side.specs.declared.rows.Row.{Row}
+use Rattle.side.specs.declared.table.Table.TheInside.{Inside}
 use Rattle.side.specs.Table.{order_of, row_of, level_of, level_in, free, ranked, rows_at, side, Names, Holds}
 use Rattle.side.proofs.rows.LawsTable.{orders_rows}
 use Rattle.side.proofs.rows.LawsIndex.{length_ranked, ranked_at, ranked_drop, names_below, ranked_once, next_free, times_there}
@@ -25,27 +27,26 @@ use Rattle.side.proofs.rows.LawsIndex.{length_ranked, ranked_at, ranked_drop, na
 pub length_side : (n : ℕ) (x : List ℕ) (t : List Row) → length (side n x t) ≡ n
 length_side n x t = length-map (rows_at t (ranked n x)) order_of ∙ length-map (ranked n x) (λ (j : ℕ). get_or t j free) ∙ length_ranked n x
 
-pub get_d_map_in : {A B : Type 0} (g : A → B) (s : List A) (i : ℕ) (d : A) (e : B) → i < length s → get_or (map g s) i e ≡ g (get_or s i d)
-get_d_map_in g [] i d e p = let z : ⊥ = omega arith in absurd z
-get_d_map_in g (x ∷ s) zero d e p = refl
-get_d_map_in g (x ∷ s) (suc i) d e p = get_d_map_in g s i d e (omega arith)
+-- how many orders a table holds is the length of its side
+pub length_is : (t : Inside) {s : List Resting} → side t.held t.index t.rows ≡ s → t.held ≡ length s
+length_is t e = sym (length_side t.held t.index t.rows) ∙ ap length e
 
 module _ (n : ℕ) (x : List ℕ) (t : List Row) (i : ℕ) (l : i < n) where
   row_at : get_or (rows_at t (ranked n x)) i free ≡ get_or t (get_or (ranked n x) i 0) free
-  row_at = get_d_map_in (λ (j : ℕ). get_or t j free) (ranked n x) i 0 free (omega (arith, length_ranked n x))
+  row_at = get_or-map (λ (j : ℕ). get_or t j free) (ranked n x) i 0 free (omega (arith, length_ranked n x))
 
   -- the order at a rank stands in the row that the index names there
   pub order_at : order_of (get_or t (get_or (ranked n x) i 0) free) ≡ get_or (side n x t) i unused
   order_at =
       let m : i < length (rows_at t (ranked n x)) = omega (arith, length-map (ranked n x) (λ (j : ℕ). get_or t j free), length_ranked n x) in
-      ap order_of (sym row_at) ∙ sym (get_d_map_in order_of (rows_at t (ranked n x)) i free unused m)
+      ap order_of (sym row_at) ∙ sym (get_or-map order_of (rows_at t (ranked n x)) i free unused m)
 
   -- that row is the order's row, so it has the order's level
   pub level_at_lem : Holds n x t → (buy : Bool) → level_in buy (get_or t (get_or (ranked n x) i 0) free) ≡ level_of buy (get_or (side n x t) i unused)
   level_at_lem h buy =
       let m : i < length (side n x t) = omega (arith, length_side n x t) in
       let r : get_or t (get_or (ranked n x) i 0) free ≡ row_of (get_or (side n x t) i unused) =
-      sym row_at ∙ ap (λ (rs : List Row). get_or rs i free) h.words ∙ get_d_map_in row_of (side n x t) i unused free m in
+      sym row_at ∙ ap (λ (rs : List Row). get_or rs i free) h.words ∙ get_or-map row_of (side n x t) i unused free m in
       ap (level_in buy) r ∙ by_side buy (get_or (side n x t) i unused)
     where
       by_side : (b : Bool) (o : Resting) → level_in b (row_of o) ≡ level_of b o

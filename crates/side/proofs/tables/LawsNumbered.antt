@@ -18,7 +18,8 @@ use Rattle.rules.specs.Book.{places_a_side}
 use Rattle.side.specs.declared.rows.Row.{Row}
 use Rattle.side.specs.Table.{row_of, free, ranked, rows_at, Names}
 use Rattle.side.proofs.rows.LawsIndex.{length_ranked, ranked_at}
-use Rattle.side.proofs.rows.LawsShown.{get_d_map_in, Shows, shows_rows}
+use Rattle.std.proofs.lemmas.List.{get_or-map}
+use Rattle.side.proofs.rows.LawsShown.{Shows, shows_rows}
 use Rattle.side.specs.Tables.{numbered_at, Numbered}
 
 -- who stands at a place stands there by turning round the first n places, and turning them again leads back
@@ -88,9 +89,13 @@ module _ (n : ℕ) (x : List ℕ) (fits : n ≤ places_a_side) (numbered : Numbe
           let back : n - 1 - i < n = omega arith in
           let is : get_or (ranked n x) i 0 ≡ i =
           ranked_at n x i l ∙ (numbered.each (n - 1 - i) (omega arith) ∙ rw (lt-ltb (n - 1 - i) n back) (omega arith)) in
-          get_d_map_in (λ (j : ℕ). get_or t j free) (ranked n x) i 0 free (omega (arith, length_ranked n x))
+          get_or-map (λ (j : ℕ). get_or t j free) (ranked n x) i 0 free (omega (arith, length_ranked n x))
           ∙ (ap (λ (j : ℕ). get_or t j free) is ∙ sym (get_or-take n t i free l))
 
   -- what was loaded is shown
   pub numbered_shows : (s : List Resting) (t : List Row) → length t ≡ places_a_side → take n t ≡ map row_of s → Shows s n x t
   numbered_shows s t all e = shows_rows s x t n fits all numbered_names (rows_first t all ∙ e)
+
+-- a side with no order, whatever the rows
+pub numbered_none : (x : List ℕ) (t : List Row) → Numbered 0 x → length t ≡ places_a_side → Shows [] 0 x t
+numbered_none x t numbered all = numbered_shows 0 x (omega arith) numbered [] t all refl

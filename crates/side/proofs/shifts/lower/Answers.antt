@@ -51,7 +51,7 @@ loop-part-preserved c =
     let l = c.loop-part in
     let m = c.loop-i in
     let x₀ = c.args.x.now in
-    let long : length x₀ ≡ index_size = c.requires.0 in
+    let long : length x₀ ≡ index_size = c.told-x in
     let all : l.part + m.i ≡ l.part + places_a_part = omega arith in
     (omega arith, rw all at (m.invariant.2 x₀ long l.invariant.1))
 
@@ -60,5 +60,5 @@ returns c =
     let l = c.loop-part in
     let a = c.args in
     let x₀ = a.x.now in
-    let long : length x₀ ≡ index_size = c.requires.0 in
+    let long : length x₀ ≡ index_size = c.told-x in
     filled_end a.from a.to x₀ l.part l.x l.invariant.1.0 (omega arith) (omega arith) (omega arith) (omega arith)
