@@ -76,14 +76,13 @@ fn first_waiting(at: usize, waits: usize, reserve: Shares) -> usize
 // The part ahead of a cursor, if there is one, and the cursor behind it.
 pub(crate) fn next(t: &Table, c: Cursor) -> Option<(Part, Cursor)>
     requires { IsAt t.now c }
-    ensures { Follows t.now c result }
+    ensures value { Follows t.now c result }
+    ensures fits { length t.now ≤ places_a_side }
 {
-    let Some(o) = t.get(c.at) else {
-        if c.waits < c.at {
-            return Some(next_reserve(t, c));
-        }
-        return None;
-    };
+    if t.len() <= c.at {
+        return if c.waits < c.at { Some(next_reserve(t, c)) } else { None };
+    }
+    let o = t.at(c.at);
     if (c.waits < c.at) & (o.price.0 != c.level.0) {
         return Some(next_reserve(t, c));
     }

@@ -131,6 +131,7 @@ pub(crate) fn match_order(
     let locked = pricing::locked_price(own);
     let bound = pricing::bound_under(o, away, locked);
     let w = work::walk_of(o, bound, opposite, took);
+    let unreached = opposite.len() - w.at;
     let kept = w.skipped.min(w.at);
     let end = work::ending_of(o, away, locked, opposite, kept, w.left);
     let full = is_rest(end) & own.is_full();
@@ -138,7 +139,6 @@ pub(crate) fn match_order(
         return Err(Refusal::FullSide);
     }
     let length = reports::report(opposite, took, number, o.side == 0, locked, out);
-    let unreached = opposite.len() - w.at;
     fills::take_off(opposite, w.at, took);
     let reached = opposite.len() - unreached;
     let more = finish(

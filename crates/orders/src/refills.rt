@@ -11,7 +11,7 @@ ghost use Rattle.orders.specs.Refills.{MayRefill};
 
 use kinds::{Number, Shares};
 use rules::{Fate, Resting};
-use settling::Settled;
+use settling::Settling;
 use side::rows;
 use side::table::Table;
 
@@ -55,18 +55,20 @@ pub(crate) fn refill(
     ensures settles { t.new ≡ settled_side number first_move buying refill_fate t.old }
     ensures out_after { out.new ≡ onto (event_lines (told refill_fate t.old)) out.old }
 {
-    let mut m = Settled {
+    let mut m = Settling {
+        number,
+        buying,
         next: settling::FIRST_MOVE,
         length: 0,
     };
     let mut at = 0;
     while at < reached {
         let o = t.at(at);
-        if o.shares.0 != 0 {
+        let is_shown = o.shares.0 != 0;
+        if is_shown {
             at += 1;
         } else {
-            let fate = Fate::IsSet(refill_order(o));
-            m = settling::settle(t, m, at, o, fate, buying, number, out);
+            m = m.settle(t, at, o, Fate::IsSet(refill_order(o)), out);
         }
     }
     m.length

@@ -24,9 +24,9 @@ use Rattle.rules.proofs.LawsTakings.{nothing_total, walk_at_most}
 use Rattle.orders.specs.Locks.{locked_price, executes_at}
 use Rattle.orders.specs.declared.walk.Walked.{Walked}
 use Rattle.orders.specs.declared.cursor.Part.{Part}
-use Rattle.orders.specs.declared.walk.Taking.{Taking}
+use Rattle.orders.specs.declared.takings.Taking.{Taking}
 use Rattle.orders.specs.Cursor.{parts, Placed, part_of, placed_from}
-use Rattle.orders.specs.Walk.{most_takings, is_within, is_passed, part_gives, takings_from, takings_in, takings_of}
+use Rattle.orders.specs.Walk.{most_takings, is_within, part_is_skipped, part_gives, takings_from, takings_in, takings_of}
 use Rattle.orders.specs.Walking.{Walkable, untouched, bound_walk, is_idle, walk_for, takings_for, walk_bound, takings_by, Walks}
 use Rattle.orders.proofs.cursor.LawsAhead.{length_parts}
 use Rattle.orders.proofs.cursor.LawsParts.{placed_holdings, all_placed, parts_present, Alike, walk_present, best_closed, parts_within}
@@ -51,7 +51,7 @@ module _ {A B : Type 0} (f : A → B) (may : B → Bool) (gives : ℕ → B → 
 
 -- no part gives more than is left
 part_at_most : (left : ℕ) (p : Part) → part_gives left p ≤ left
-part_at_most left p = by_choice (λ (k : ℕ). k ≤ left) (is_passed left p) (λ t. omega arith) (λ t. omega arith)
+part_at_most left p = by_choice (λ (k : ℕ). k ≤ left) (part_is_skipped left p) (λ t. omega arith) (λ t. omega arith)
 
 -- ── An order's walk ──
 

@@ -30,7 +30,7 @@ use Rattle.rules.specs.Holdings.{holdings, executions, after}
 use Rattle.rules.specs.Settling.{first_move, told, settled_side}
 use Rattle.rules.specs.Working.{buying, Met, execution_price, takings, ending, last_line, refill_fate}
 use Rattle.rules.proofs.LawsEvents.{executed_length, event_lines_append, lines_behind, last_long, told_long}
-use Rattle.orders.specs.declared.walk.Taking.{Taking}
+use Rattle.orders.specs.declared.takings.Taking.{Taking}
 use Rattle.orders.specs.declared.walk.Walked.{Walked}
 use Rattle.orders.specs.Walk.{is_below, takings_in}
 use Rattle.orders.specs.Walking.{met_with, Walkable, walk_bound, walk_for, takings_for, takings_by, Walks, ending_by_best}
@@ -210,7 +210,7 @@ module _ (k : Known) (l : Left k) where
   unreached_stay =
       omega (
         arith,
-        after_long k.walk.at (below k) k.opposite (all_alike (λ h w. w.least) k.walkable.workable) (keep_all k),
+        after_long k.walk.at (below k) k.opposite (all_alike (λ h w. w.remains) k.walkable.workable) (keep_all k),
         ap length (taken k),
         stay_is,
         k.opposite_long,
@@ -284,7 +284,7 @@ report-length-requires c =
 pub take_off-stay-requires : goal.take_off-stay-requires
 take_off-stay-requires c =
     let k = known (goal.at.take_off-stay-requires c).After-places_after-held in
-    let least = all_alike (λ h w. w.least) k.walkable.workable in
+    let least = all_alike (λ h w. w.remains) k.walkable.workable in
     (c.requires.1, reached k, (walks k).fits, below k, all_keep (all_alike (λ h w. w.holds) k.walkable.workable), least)
 
 pub overflow_sub-reached : goal.overflow_sub-reached

@@ -11,7 +11,7 @@ use Rattle.side.specs.Table.{side}
 use Rattle.rules.specs.Book.{unused}
 use Rattle.rules.specs.EventLines.{event_line, event_lines}
 use Rattle.rules.proofs.LawsEvents.{executed_length}
-use Rattle.orders.specs.declared.walk.Taking.{Taking}
+use Rattle.orders.specs.declared.takings.Taking.{Taking}
 use Rattle.orders.specs.Locks.{executes_at}
 use Rattle.orders.specs.Walk.{most_takings, takings_in}
 use Rattle.orders.proofs.walk.LawsTaken.{no_taking, length_takings, taking_read, taking_all}

@@ -10,7 +10,7 @@ use Rattle.kinds.specs.Kinds.{shares}
 use Rattle.side.specs.Table.{side}
 use Rattle.side.proofs.rows.LawsShown.{length_side}
 use Rattle.orders.specs.Cursor.{ahead, Gives}
-use Rattle.orders.specs.Walk.{is_within, is_passed, part_gives, taking, taking_row, laid_at}
+use Rattle.orders.specs.Walk.{is_within, part_is_skipped, part_gives, taking, taking_row, laid_at}
 use Rattle.orders.proofs.walk.LawsWalk.{Underway, underway_start, underway_on, underway_past, less, ended_side, ended_none, ended_beyond}
 use Rattle.orders.proofs.walk.walk.Goals as goal
 use Rattle.orders.proofs.walk.walk.Goals.{In-Is}
@@ -36,20 +36,20 @@ take_from-taken-requires c =
     let a = c.args in
     let g = gave (goal.at.take_from-taken-requires c).In-Is in
     let k = less g in
-    let passes : is_passed l.left.0 c.in-Is.part ≡ false = sym c.is_passed.ensures ∙ c.if-is_passed.false in
+    let passes : part_is_skipped l.left.0 c.in-Is.part ≡ false = sym c.part_is_skipped.ensures ∙ c.if-part_is_skipped.false in
     (omega (arith, l.invariant.room, k), omega (arith, g.place, length_side a.n a.x.now a.t.now, c.requires.fits), passes)
 
-pub loop-left-smaller-then-is_passed : goal.loop-left-smaller-then-is_passed
-loop-left-smaller-then-is_passed c = less (gave (goal.at.loop-left-smaller-then-is_passed c).In-Is)
+pub loop-left-smaller-then-part_is_skipped : goal.loop-left-smaller-then-part_is_skipped
+loop-left-smaller-then-part_is_skipped c = less (gave (goal.at.loop-left-smaller-then-part_is_skipped c).In-Is)
 
-pub loop-left-preserved-then-is_passed : goal.loop-left-preserved-then-is_passed
-loop-left-preserved-then-is_passed c =
+pub loop-left-preserved-then-part_is_skipped : goal.loop-left-preserved-then-part_is_skipped
+loop-left-preserved-then-part_is_skipped c =
     let l = c.loop-left in
     let a = c.args in
     let p = c.in-Is.part in
     let m : is_within a.buying a.bound p ≡ true = sym c.within.ensures ∙ c.if-not-within.false in
-    let passed : is_passed l.left.0 p ≡ true = sym c.is_passed.ensures ∙ c.if-is_passed.true in
-    rw c.first_of-skipped.ensures (underway_past l.invariant (omega arith) (gave (goal.at.loop-left-preserved-then-is_passed c).In-Is) m passed)
+    let passed : part_is_skipped l.left.0 p ≡ true = sym c.part_is_skipped.ensures ∙ c.if-part_is_skipped.true in
+    rw c.first_of-skipped.ensures (underway_past l.invariant (omega arith) (gave (goal.at.loop-left-preserved-then-part_is_skipped c).In-Is) m passed)
 
 pub loop-left-smaller : goal.loop-left-smaller
 loop-left-smaller c = less (gave (goal.at.loop-left-smaller c).In-Is)
@@ -62,7 +62,7 @@ loop-left-preserved c =
     let g = part_gives l.left.0 p in
     let taken = c.take_from-taken in
     let m : is_within a.buying a.bound p ≡ true = sym c.within.ensures ∙ c.if-not-within.false in
-    let passes : is_passed l.left.0 p ≡ false = sym c.is_passed.ensures ∙ c.if-is_passed.false in
+    let passes : part_is_skipped l.left.0 p ≡ false = sym c.part_is_skipped.ensures ∙ c.if-part_is_skipped.false in
     let r : taken.result ≡ record { count = l.count + length (taking p g); left = shares (l.left.0 - g) } = taken.ensures.value in
     let t : taken.new.took ≡ laid_at l.count (map taking_row (taking p g)) l.took = taken.ensures.took_after in
     let on = underway_on l.invariant (omega arith) (gave (goal.at.loop-left-preserved c).In-Is) m in
