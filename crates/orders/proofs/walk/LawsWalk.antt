@@ -2,7 +2,7 @@
 use Prim.Native.Nat.{ℕ, suc, ◌+◌, ◌-◌, ◌≤◌, ◌<◌, min, max}
 use mathlib.Core.Bool.{Bool, true, false}
 use mathlib.Core.List.{List, [], ◌∷◌, ◌++◌, append_assoc, append-nil}
-use mathlib.Core.Path.{◌≡◌, refl, sym, ap, ◌∙◌}
+use mathlib.Core.Path.{◌≡◌, refl, sym, ap, subst, ◌∙◌}
 use lib.Dec.{eqb}
 use lib.ListN.{length, length-append}
 use native.Mathlib.Omega.{arith}
@@ -127,7 +127,7 @@ module _ {may : Part → Bool} {want : ℕ} {s : List Resting} {took : List Taki
     pub ended_beyond : may p ≡ false → Ended may want s took c left skipped
     ended_beyond t = ended (rw g.list (over_beyond may took c.at skipped left p (ahead s next) some t))
 
-    pub underway_on : may p ≡ true → Underway may want s (took ++ taking p (part_gives left p)) next (left - part_gives left p)
+    underway_on : may p ≡ true → Underway may want s (took ++ taking p (part_gives left p)) next (left - part_gives left p)
         (if part_is_skipped left p then min skipped p.place else skipped)
     underway_on t =
         let x = taking p (part_gives left p) in
@@ -141,6 +141,13 @@ module _ {may : Part → Bool} {want : ℕ} {s : List Resting} {took : List Taki
               ∙ sym (turn may took c.at skipped left p (ahead s next) some t)
               ∙ ap (outcome may took c.at skipped left) (sym g.list) ∙ w.rest;
         }
+
+    -- by a part that is not skipped
+    pub underway_taken : may p ≡ true → part_is_skipped left p ≡ false
+        → Underway may want s (took ++ taking p (part_gives left p)) next (left - part_gives left p) skipped
+    underway_taken t takes =
+        let same : (if part_is_skipped left p then min skipped p.place else skipped) ≡ skipped = rw takes in
+        subst (λ (k : ℕ). Underway may want s (took ++ taking p (part_gives left p)) next (left - part_gives left p) k) same (underway_on t)
 
     -- one that is skipped gives nothing
     pub underway_past : may p ≡ true → part_is_skipped left p ≡ true → Underway may want s took next left (min skipped p.place)
