@@ -25,7 +25,7 @@ use Rattle.basics.proofs.LawsLists.{all_alike}
 use Rattle.rules.specs.Book.{places_a_side, stamp, in_rank_order}
 use Rattle.soundness.proofs.LawsThinned.{thinned_after, thinned_all, thinned_ranked}
 use Rattle.side.specs.Looking.{Older}
-use Rattle.orders.specs.declared.walk.Taking.{Taking}
+use Rattle.orders.specs.declared.takings.Taking.{Taking}
 use Rattle.orders.specs.Fills.{after_takings}
 use Rattle.orders.specs.Refills.{MayRefill}
 use Rattle.orders.specs.Walk.{is_below}
@@ -126,9 +126,9 @@ pub may_refill : (buy : Bool) (n : Number) (at : ℕ) {ks : List Taking} → All
     → after_takings ks s ≡ after s ts → in_rank_order buy s ≡ true → All Workable s → All (Older (stamp n first_move)) s
     → MayRefill buy n (length (after s ts) - (length s - at)) (after s ts)
 may_refill buy n at {ks = ks} below s ts is ranked workable older =
-    let thinned = thinned_after ts (all_alike (λ h w. record { is_left = omega (arith, w.holds); least = w.least }) workable) in
+    let thinned = thinned_after ts (all_alike (λ h w. record { is_left = omega (arith, w.holds); least = w.remains }) workable) in
     let unreached : drop (length (after s ts) - (length s - at)) (after s ts) ≡ drop at s =
-    ap (λ (u : List Resting). drop (length u - (length s - at)) u) (sym is) ∙ after_unreached at below s (all_alike (λ h w. w.least) workable) (all_keep (all_alike (λ h w. w.holds) workable)) in
+    ap (λ (u : List Resting). drop (length u - (length s - at)) u) (sym is) ∙ after_unreached at below s (all_alike (λ h w. w.remains) workable) (all_keep (all_alike (λ h w. w.holds) workable)) in
     record {
       within = omega arith;
       ranked = thinned_ranked buy thinned ranked;

@@ -2,7 +2,7 @@
 -- as the checker reads it from the source (`Post`), not from a copy. Assumes nothing.
 use Prim.Native.Nat.{ℕ}
 use mathlib.Core.Path.{◌≡◌, sym, ◌∙◌}
-use Rattle.orders.specs.declared.walk.Taking.{Taking}
+use Rattle.orders.specs.declared.takings.Taking.{Taking}
 use Rattle.orders.specs.declared.walk.Walked.{Walked}
 use Rattle.orders.proofs.walk.first_of.Reads as first_of
 use Rattle.orders.proofs.walk.taking_at.Reads as taking-at
