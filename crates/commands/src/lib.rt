@@ -5,9 +5,12 @@
 
 mod cancels;
 
-ghost use Rattle.std.specs.Prelude.{◌≤◌, length};
+ghost use Rattle.std.specs.Prelude.{◌≡◌, ◌≤◌, length};
+ghost use Rattle.basics.specs.Bytes.{onto};
+ghost use Rattle.rules.specs.EventLines.{event_lines};
 ghost use Rattle.rules.specs.Refusals.{least_room};
-ghost use Rattle.side.specs.Answers.{answer_of, Answers};
+ghost use Rattle.rules.specs.Refusing.{or_refused};
+ghost use Rattle.side.specs.Answers.{answer_of};
 ghost use Rattle.commands.specs.Sides.{AreSound, Closes};
 
 use orders::reports;
@@ -41,7 +44,9 @@ pub fn apply(
     out: &mut [u8],
 ) -> Result<usize, Refusal>
     requires { least_room ≤ length out.old }
-    ensures { Answers result book.new out.new out.old (answer_of c book.old) }
+    ensures value { result ≡ or_refused (length (event_lines (answer_of c book.old).events)) (answer_of c book.old).refusal }
+    ensures book_after { book.new ≡ (answer_of c book.old).book }
+    ensures out_after { out.new ≡ onto (event_lines (answer_of c book.old).events) out.old }
 {
     let held = book.held;
     judge::header(held, c)?;
