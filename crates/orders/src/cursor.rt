@@ -80,7 +80,11 @@ pub(crate) fn next(t: &Table, c: Cursor) -> Option<(Part, Cursor)>
     ensures fits { length t.now ≤ places_a_side }
 {
     if t.len() <= c.at {
-        return if c.waits < c.at { Some(next_reserve(t, c)) } else { None };
+        return if c.waits < c.at {
+            Some(next_reserve(t, c))
+        } else {
+            None
+        };
     }
     let o = t.at(c.at);
     if (c.waits < c.at) & (o.price.0 != c.level.0) {

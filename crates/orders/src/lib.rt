@@ -36,7 +36,7 @@ pub fn enter(
 ) -> Result<usize, Refusal>
     requires is_sound { sound (record { held = held.now; buys = buys.old; sells = sells.old }) ≡ true }
     requires room { least_room ≤ length out.old }
-    requires above { held.now.last.0 < number.0 }
+    requires next { held.now.last.0 < number.0 }
     ensures { Left result buys.new sells.new out.new out.old
         (body_answer number held.now.time (body.Order o) (record { held = held.now; buys = buys.old; sells = sells.old })) }
 {

@@ -36,7 +36,13 @@ pub(crate) fn report(
     for taking in took.as_slice() {
         let resting = t.at(taking.place);
         let price = pricing::execution_price(buying, locked, taking.price);
-        len += writer::write_executed(&mut out[len..], number, resting.number, price, taking.shares);
+        len += writer::write_executed(
+            &mut out[len..],
+            number,
+            resting.number,
+            price,
+            taking.shares,
+        );
     }
     len
 }

@@ -12,6 +12,6 @@ returns-clause-took_after c =
     let a = c.args in
     let gives : c.smaller-gives.result.0 ≡ part_gives a.left.0 a.p = ap (λ (n : Shares). n.0) c.smaller-gives.ensures ∙ sym (rw c.requires.takes) in
     elim c.if-gives-ne0.branch [
-      then-gives-ne0 w ↦ rw (w.took-is, ← gives, taking_one a.p c.smaller-gives.result.0 w.if-gives-ne0.true) w.push.ensures
-    | else-gives-ne0 w ↦ rw (w.took-is, ← gives, w.if-gives-ne0.false, taking_none a.p, append-nil a.took.now)
+      | then-gives-ne0 w ↦ rw (w.took-is, ← gives, taking_one a.p c.smaller-gives.result.0 w.if-gives-ne0.true) w.push.ensures
+      | else-gives-ne0 w ↦ rw (w.took-is, ← gives, w.if-gives-ne0.false, taking_none a.p, append-nil a.took.now)
     ]
