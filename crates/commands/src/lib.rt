@@ -14,7 +14,7 @@ ghost use Rattle.side.specs.Answers.{answer_of};
 ghost use Rattle.commands.specs.Sides.{AreSound, Closes};
 
 use orders::reports;
-use orders::walk::Takings;
+use orders::takings::Takings;
 use rules::{Body, Command, Held, Refusal};
 use side::table::Table;
 use side::tables::SoundBook;
