@@ -1,5 +1,5 @@
-// A quote on a sound book whose header and sides are lent: the away prices are tested, and the orders that would now cross them are moved
-// or cancelled (02, W2), buys first. The header is for the caller to write.
+// A quote on a sound book whose header and sides are lent: the orders that would now cross the away prices are moved or cancelled (02, W2),
+// buys first.
 
 #![tactic(auto)]
 
@@ -15,6 +15,7 @@ use kinds::Number;
 use rules::{Away, Held, Refusal};
 use side::table::Table;
 
+// Of the header only the clauses speak: the caller writes the new one.
 pub fn quote(
     held: &Held,
     number: Number,

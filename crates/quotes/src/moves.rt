@@ -47,7 +47,7 @@ fn fate_beyond(o: Resting, locking: HalfCents) -> Fate
 }
 
 // The moves of one side: from the best order on, as far as prices are beyond the Locking Price. A displayed order is passed over, and
-// one that is set anew stands behind all that are still to be looked at. No `for`: whoever is settled leaves the rank to the next.
+// one that is set anew stands behind all that are still to be looked at.
 pub(crate) fn move_side(
     t: &mut Table,
     buying: bool,
@@ -74,6 +74,7 @@ pub(crate) fn move_side(
         length: 0,
     };
     let mut at = 0;
+    // A `while` and no `for`: the next order comes to stand at the rank of one that is settled, so not each turn goes one rank on.
     while let Some(o) = beyond_at(t, at, buying, locking) {
         if o.displayed {
             at += 1;
