@@ -17,11 +17,7 @@ use rules::Resting;
 fn within(place: usize, part: usize) -> u8
     ensures { result ≡ min (place - part) places_a_part }
 {
-    if place <= part {
-        return 0;
-    }
-    let far = place - part;
-    if far < PART { far as u8 } else { PART as u8 }
+    place.saturating_sub(part).min(PART) as u8
 }
 
 // What stands at place `j` once those from `lo` on, before `hi`, have each taken a neighbour's: the neighbour's, or its own.
@@ -39,8 +35,7 @@ fn raise(x: &mut Index, from: usize, to: usize)
     let v = x[from];
     let steps = rows::STEPS;
     let mut last: u8 = 0;
-    let mut part = 0;
-    while part <= from {
+    for part in (0..from + 1).step_by(PART) {
         let lo = within(to + 1, part);
         let hi = within(from + 1, part);
         for i in 0..PART {
@@ -49,7 +44,6 @@ fn raise(x: &mut Index, from: usize, to: usize)
             x[part + i] = turned(lo, hi, j, last, b);
             last = b;
         }
-        part += PART;
     }
     x[to] = v;
 }
@@ -62,8 +56,7 @@ fn lower(x: &mut Index, from: usize, to: usize)
     let v = x[from];
     let steps = rows::STEPS;
     let mut b = x[0];
-    let mut part = 0;
-    while part <= to {
+    for part in (0..to + 1).step_by(PART) {
         let lo = within(from, part);
         let hi = within(to, part);
         for i in 0..PART {
@@ -72,32 +65,18 @@ fn lower(x: &mut Index, from: usize, to: usize)
             x[part + i] = turned(lo, hi, j, next, b);
             b = next;
         }
-        part += PART;
     }
     x[to] = v;
 }
 
 // ── Orders ──
 
-// What is left of so many shares without others; nothing where these are more.
-fn without(all: u32, gone: u32) -> u32
-    ensures { result ≡ all - gone }
-{
-    if gone < all { all - gone } else { 0 }
-}
-
 // A minimum, or what is left of its order where that is less (02, W7): the shown part and the reserve, whose sum may be more than a word
 // holds.
 fn cut(minimum: u32, shown: u32, reserve: u32) -> u32
     ensures { result ≡ min minimum (shown + reserve) }
 {
-    if minimum <= shown {
-        return minimum;
-    }
-    if minimum - shown <= reserve {
-        return minimum;
-    }
-    shown + reserve
+    shown.saturating_add(reserve).min(minimum)
 }
 
 // Whether an order has something left, shown or in reserve.
@@ -105,14 +84,6 @@ fn has_shares(o: Resting) -> bool
     ensures { result ≡ keeps o }
 {
     !((o.shares.0 == 0) & (o.reserve.0 == 0))
-}
-
-// One more where the test holds.
-fn counted(to: usize, one: bool) -> usize
-    requires { to < places_a_side }
-    ensures { result ≡ (if one then to + 1 else to) }
-{
-    if one { to + 1 } else { to }
 }
 
 impl Table {
@@ -126,7 +97,7 @@ impl Table {
         raise(&mut self.index, n, n - at);
         let hint = rows::hint_of(o.number);
         self.index[hint] = slot;
-        self.rows[rows::wide(slot)] = rows::row_of(o);
+        self.rows[usize::from(slot)] = rows::row_of(o);
         self.held = n + 1;
     }
 
@@ -148,9 +119,9 @@ impl Table {
     {
         let slot = rows::slot_at(&self.index, self.held, at);
         let o = self.rows[slot].order;
-        let shown = without(o.shares.0, part.0);
-        let more = without(part.0, o.shares.0);
-        let reserve = without(o.reserve.0, more);
+        let shown = o.shares.0.saturating_sub(part.0);
+        let more = part.0.saturating_sub(o.shares.0);
+        let reserve = o.reserve.0.saturating_sub(more);
         let minimum = cut(o.minimum.0, shown, reserve);
         self.rows[slot] = rows::row_of(Resting {
             shares: Shares(shown),
@@ -172,8 +143,8 @@ impl Table {
             let slot = self.index[i];
             self.index[i] = self.index[to];
             self.index[to] = slot;
-            let o = self.rows[rows::wide(slot)].order;
-            to = counted(to, has_shares(o));
+            let o = self.rows[usize::from(slot)].order;
+            to += usize::from(has_shares(o));
         }
         self.held = to;
     }

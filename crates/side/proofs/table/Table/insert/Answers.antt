@@ -20,7 +20,7 @@ invariant_of-self c =
     let t = c.self.inside in
     let a = c.args in
     let n = length_is c.self.inside c.self.view_is in
-    rw (c.raise.ensures, c.hint_of-hint.ensures, c.wide.ensures, c.row_of.ensures)
+    rw (c.raise.ensures, c.hint_of-hint.ensures, c.from.ensures, c.row_of.ensures)
     (shows_inserted t.held t.index t.rows c.self.invariant a.at (hint_of a.o.number.0) a.o (omega (arith, c.requires.0)) (omega (arith, c.requires.1)) (omega arith)).holds
 
 pub returns : goal.returns
@@ -28,7 +28,7 @@ returns c =
     let t = c.self.inside in
     let a = c.args in
     let n = length_is c.self.inside c.self.view_is in
-    rw (c.raise.ensures, c.hint_of-hint.ensures, c.wide.ensures, c.row_of.ensures) (
+    rw (c.raise.ensures, c.hint_of-hint.ensures, c.from.ensures, c.row_of.ensures) (
     (shows_inserted t.held t.index t.rows c.self.invariant a.at (hint_of a.o.number.0) a.o (omega (arith, c.requires.0)) (omega (arith, c.requires.1)) (omega arith)).is
     ∙ ap (λ (s : List Resting). insert_at a.at a.o s) c.self.view_is
     )
