@@ -33,6 +33,7 @@ use Rattle.rules.proofs.LawsRefusing.{refused_alike, passed_zero, refused_above}
 use Rattle.side.specs.Answers.{Left, answer_of, body_answer}
 use Rattle.side.proofs.tables.LawsAnswers.{refused_with, done_with, body_refused, body_done}
 use Rattle.soundness.proofs.LawsKept.{answer_kept}
+use Rattle.commands.specs.Sides.{held_after}
 
 -- what a command leaves of a book and of the output
 pub record Leaves (r : Result ℕ Refusal) (book : Book) (out' out : List ℕ) (a : Answer) : Type 0 where
@@ -51,6 +52,10 @@ module _ (c : Command) (b : Book) where
   abbrev given : ℕ
   given = first_of (header_refusals (book_holding b.held) c)
 
+  -- what the header gets
+  abbrev pub IsJudged : Result (Unit {0}) Refusal → Type 0
+  IsJudged r = r ≡ or_refused (tt {0}) given
+
   -- to the header no more of a book is of account
   same_header : header_refusals (book_holding b.held) c ≡ header_refusals b c
   unfolding header_refusals
@@ -64,21 +69,21 @@ module _ (c : Command) (b : Book) where
       rw (g, ne_eqb given 0 (λ (z : given ≡ 0). omega arith))
 
   -- a header that is refused leaves the book and the output
-  pub header_refused : (e : Refusal) (out : List ℕ) → Err e ≡ or_refused tt given → Leaves (Err e) b out out (answer_of c b)
+  pub header_refused : (e : Refusal) (out : List ℕ) → IsJudged (Err e) → Leaves (Err e) b out out (answer_of c b)
   unfolding event_lines
   header_refused e out h =
-      let is = refused_is (refused_above tt given e (sym h)) in
+      let is = refused_is (refused_above (tt {0}) given e (sym h)) in
       record {
-        value = sym (refused_alike tt (length (event_lines [])) given e (sym h)) ∙ sym (ap (λ (a : Answer). or_refused (length (event_lines a.events)) a.refusal) is);
+        value = sym (refused_alike (tt {0}) (length (event_lines [])) given e (sym h)) ∙ sym (ap (λ (a : Answer). or_refused (length (event_lines a.events)) a.refusal) is);
         book_after = sym (ap (λ (a : Answer). a.book) is);
         out_after = onto_none out ∙ sym (ap (λ (a : Answer). onto (event_lines a.events) out) is);
       }
 
-  module _ (passes : Ok tt ≡ or_refused tt given) where
+  module _ (passes : IsJudged (Ok (tt {0}))) where
     none : first_of (header_refusals b c) ≡ 0
     none =
         let most : given ≤ last_refusal = first_numbered last_refusal (header_refusals b c) (header_numbered b c) in
-        passed_zero tt tt given most (sym passes)
+        passed_zero (tt {0}) (tt {0}) given most (sym passes)
 
     -- the number of a command that passes is above the last
     pub header_next : b.held.last.0 < c.number.0
@@ -90,13 +95,6 @@ module _ (c : Command) (b : Book) where
     by_body = rw (first_passed last_refusal (header_refusals b c) (body_refusals b c.body) (header_numbered b c) none)
 
 -- ── The body ──
-
--- what a body changes of the header
-abbrev pub held_after : Body → Held → Held
-held_after (body.Order o) h = h
-held_after (body.Cancel of) h = h
-held_after (body.Quote away) h = with_away away h
-held_after body.Close h = shut h
 
 module _ (n : Number) (time time' : ℕ) (b : Book) where
   -- neither the sides nor the events depend on the time
@@ -127,7 +125,7 @@ module _ (n : Number) (time time' : ℕ) (b : Book) where
   does_held (body.Quote away) = rw (quote_does n time b away).0 refl
   does_held body.Close = rw (close_does n time b).0 refl
 
-module _ (c : Command) (b : Book) (passes : Ok tt ≡ or_refused tt (given c b)) (time : ℕ) where
+module _ (c : Command) (b : Book) (passes : IsJudged c b (Ok (tt {0}))) (time : ℕ) where
   abbrev judged : ℕ
   judged = first_of (body_refusals b c.body)
 
