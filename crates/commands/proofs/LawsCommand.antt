@@ -16,22 +16,19 @@ use Rattle.kinds.specs.declared.Number.{Number}
 use Rattle.rules.specs.declared.Body.{Body}
 use Rattle.rules.specs.declared.Body.TheVariants as body
 use Rattle.rules.specs.declared.Command.{Command}
-use Rattle.rules.specs.declared.Held.{Held}
 use Rattle.rules.specs.declared.Refusal.{Refusal}
 use Rattle.rules.specs.declared.Resting.{Resting}
 use Rattle.rules.specs.Book.{Book, sound}
-use Rattle.rules.specs.Commands.{with_accepted, with_away, shut, does, carried_out, cancel, quote, close}
+use Rattle.rules.specs.Commands.{with_accepted, does}
 use Rattle.rules.specs.EventLines.{event_lines}
 use Rattle.rules.specs.Refusals.{first_of, last_refusal, header_refusals, body_refusals, line_refusals}
 use Rattle.rules.specs.Refusing.{or_refused}
-use Rattle.rules.specs.Settling.{settled, both_settled}
-use Rattle.rules.specs.Step.{Answer, answer, done_by}
-use Rattle.rules.specs.Working.{accept, worked}
+use Rattle.rules.specs.Step.{Answer, answer}
 use Rattle.rules.proofs.LawsCommands.{order_does, cancel_does, quote_does, close_does}
 use Rattle.rules.proofs.LawsRefusals.{none_given, first_given, first_passed, first_numbered, header_numbered, body_numbered}
 use Rattle.rules.proofs.LawsRefusing.{refused_alike, passed_zero, refused_above}
 use Rattle.side.specs.Answers.{Left, answer_of, body_answer}
-use Rattle.side.proofs.tables.LawsAnswers.{refused_with, done_with, body_refused, body_done}
+use Rattle.side.proofs.tables.LawsAnswers.{refused_with, body_refused, body_done}
 use Rattle.soundness.proofs.LawsKept.{answer_kept}
 use Rattle.commands.specs.Sides.{held_after}
 
@@ -81,6 +78,7 @@ module _ (c : Command) (b : Book) where
 
   module _ (passes : IsJudged (Ok (tt {0}))) where
     none : first_of (header_refusals b c) ≡ 0
+    unfolding header_refusals
     none =
         let most : given ≤ last_refusal = first_numbered last_refusal (header_refusals b c) (header_numbered b c) in
         passed_zero (tt {0}) (tt {0}) given most (sym passes)

@@ -1,9 +1,8 @@
 -- The answer to a cancel where no number stands twice: the number is of a buy, of a sell or of no order. Assumes nothing.
-use Prim.Native.Nat.{ℕ, ◌<◌}
+use Prim.Native.Nat.{ℕ}
 use mathlib.Core.Bool.{true, false}
 use mathlib.Core.List.{[], ◌∷◌, ◌++◌}
 use mathlib.Core.Path.{◌≡◌, ◌∙◌}
-use lib.ListN.{length}
 use native.Mathlib.Omega.{arith}
 use Rattle.basics.specs.Lists.{any, distinct, remove_at}
 use Rattle.kinds.specs.declared.Number.{Number}

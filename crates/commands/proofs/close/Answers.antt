@@ -1,9 +1,9 @@
 -- `commands::close` meets its contract: the lines of the buys, then those of the sells, and both sides empty. Assumes nothing.
-use Prim.Native.Nat.{◌+◌, ◌-◌, ◌*◌, ◌≤◌}
+use Prim.Native.Nat.{◌+◌, ◌*◌, ◌≤◌}
 use mathlib.Core.Bool.{true, false}
 use mathlib.Core.List.{List, ◌++◌, map}
 use mathlib.Core.Path.{◌≡◌, sym, ◌∙◌}
-use lib.ListN.{length, take, drop, length-append, length-take, length-drop}
+use lib.ListN.{length, length-append, length-take, length-drop}
 use native.Mathlib.Omega.{arith}
 use Rattle.kinds.specs.Kinds.{shares}
 use Rattle.orders.specs.Reports.{cancelled_for}

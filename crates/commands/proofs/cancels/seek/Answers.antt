@@ -1,5 +1,5 @@
 -- `commands::cancels::seek` meets its contract: where a hint leads, the order is, and no other of its number. Assumes nothing.
-use mathlib.Core.Path.{◌≡◌, refl, sym}
+use mathlib.Core.Path.{◌≡◌, refl}
 use native.Mathlib.Omega.{arith}
 use Rattle.std.specs.Prelude.{Some}
 use Rattle.rules.specs.Commands.{is_number}
