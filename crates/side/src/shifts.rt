@@ -1,7 +1,7 @@
 // Orders moved in and out of one side, in place: the index is turned, and the rows stay where they are.
 ghost use Rattle.std.specs.Prelude.{true, ◌&&◌, ◌≡◌, ◌+◌, ◌-◌, ◌≤◌, ◌<◌, min, ltb, leb, length, drop, get_or, set, if◌then◌else◌};
 ghost use Rattle.basics.specs.Lists.{every, insert_at, remove_at};
-ghost use Rattle.side.specs.Table.{index_size, places_a_part, rotated};
+ghost use Rattle.side.specs.Table.{places_a_part, rotated};
 ghost use Rattle.rules.specs.Book.{places_a_side, unused};
 ghost use Rattle.side.specs.Shifts.{keeps, keepers, less_by};
 

@@ -2,7 +2,6 @@
 ghost use Rattle.std.specs.Prelude.{◌≡◌, ◌≤◌, ◌<◌, [], length, get_or, leb, slice_get};
 ghost use Rattle.rules.specs.Book.{places_a_side, unused};
 ghost use Rattle.side.specs.Table.{level_of};
-ghost use Rattle.side.specs.Tables.{Numbered};
 
 use crate::rows;
 use crate::rows::{Index, PLACES, Rows};

@@ -8,13 +8,12 @@ use lib.ListN.{length, get_or, length-set}
 use native.Mathlib.Omega.{arith}
 use Rattle.std.specs.Prelude.{if◌then◌else◌}
 use Rattle.side.specs.Table.{index_size}
-use Rattle.side.proofs.rows.LawsSteps.{counted, steps, step_at}
+use Rattle.side.proofs.rows.LawsSteps.{steps, step_at}
 use Rattle.side.proofs.shifts.LawsRotated.{lowering_step, filled_end, within_le, within_lt}
 use Rattle.side.proofs.shifts.lower.Goals as goal
 use Rattle.side.proofs.shifts.lower.Goals.{else-loop-part-test, then-loop-part-test+else-loop-i-test+else-part-end-part-gt64}
 
 pub loop-i-preserved : goal.loop-i-preserved
-unfolding counted
 loop-i-preserved c =
     let l = c.loop-part in
     let m = c.loop-i in
