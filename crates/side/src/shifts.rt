@@ -106,7 +106,8 @@ impl Table {
     #[tactic(auto, using(crate::proofs::rows::LawsShown::length_is))]
     pub fn remove(&mut self, at: usize)
         requires { at < length self.old }
-        ensures { self.new ≡ remove_at at self.old }
+        ensures value { self.new ≡ remove_at at self.old }
+        ensures room { length self.new < places_a_side }
     {
         let last = self.held - 1;
         lower(&mut self.index, last - at, last);
