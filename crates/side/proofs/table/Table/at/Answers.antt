@@ -10,9 +10,6 @@ use Rattle.side.specs.Table.{order_of, free}
 use Rattle.side.proofs.rows.LawsShown.{length_is, order_at}
 use Rattle.side.proofs.table.Table.at.Goals as goal
 
-pub slot_at-requires : goal.slot_at-requires
-slot_at-requires c = (c.self.invariant.names, omega (arith, c.requires, length_is c.self.inside c.self.view_is), c.self.invariant.fits)
-
 pub returns : goal.returns
 returns c =
     let t = c.self.inside in

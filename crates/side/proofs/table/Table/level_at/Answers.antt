@@ -11,9 +11,6 @@ use Rattle.side.proofs.rows.LawsShown.{length_is, level_at_lem}
 use Rattle.side.proofs.table.Table.level_at.Goals as goal
 use Rattle.side.proofs.table.Table.level_at.Goals.{After-slot_at}
 
-pub slot_at-requires : goal.slot_at-requires
-slot_at-requires c = (c.self.invariant.names, omega (arith, c.requires, length_is c.self.inside c.self.view_is), c.self.invariant.fits)
-
 level_is : (c : After-slot_at)
     → let a = c.args in
     level_in a.buying (get_or c.self.inside.rows c.slot_at.result free) ≡ level_of a.buying (get_or a.self.now a.rank unused)
