@@ -86,7 +86,8 @@ pub(crate) fn next(t: &Table, c: Cursor) -> Option<(Part, Cursor)>
         return None;
     }
     let o = t.at(c.at);
-    if (c.waits < c.at) & (o.price != c.level) {
+    let price_ends = (c.waits < c.at) & (o.price != c.level);
+    if price_ends {
         return Some(next_reserve(t, c));
     }
     let part = Part {

@@ -16,8 +16,8 @@ next_reserve-requires-clause-ends c = ends_with_side c.args.t.now c.args.c (omeg
 pub returns-then-len-c-clause-value : goal.returns-then-len-c-clause-value
 returns-then-len-c-clause-value c = ahead_end c.args.t.now c.args.c (omega (arith, c.if-len-c.true)) c.if-c.false
 
-pub next_reserve-requires-then-c-ne-clause-ends : goal.next_reserve-requires-then-c-ne-clause-ends
-next_reserve-requires-then-c-ne-clause-ends c =
+pub next_reserve-requires-then-price_ends-clause-ends : goal.next_reserve-requires-then-price_ends-clause-ends
+next_reserve-requires-then-price_ends-clause-ends c =
     let a = c.args in
     let other : c.at-o.result.price.0 ≡ a.c.level.0 → ⊥ = λ e. grind (arith, common_steps) in
     ends_at_price a.t.now a.c (omega (arith, c.if-len-c.false)) (rw c.at-o.ensures at other)
