@@ -9,10 +9,11 @@ ghost use Rattle.std.specs.Prelude.{◌≡◌};
 ghost use Rattle.rules.specs.Book.{away_in_range};
 ghost use Rattle.rules.specs.Refusals.{first_of, is_close, header_refusals};
 ghost use Rattle.rules.specs.Refusals.{carries_floor, carries_minimum, order_lawful, carried_in_range, order_in_range};
+ghost use Rattle.rules.specs.Refusing.{or_refused};
 ghost use Rattle.judge.specs.Judge.{book_holding};
 
 use kinds::{Cents, Shares};
-use rules::{Body, Carried, Command, Held, Order};
+use rules::{Body, Carried, Command, Held, Order, Refusal};
 
 // The session, in milliseconds after midnight Eastern.
 pub const OPENING: u32 = 34200000;
@@ -24,41 +25,35 @@ pub const CLOSING: u32 = 57600000;
 fn is_close(body: Body) -> bool
     ensures { result ≡ is_close body }
 {
-    match body {
-        Body::Order(_) => false,
-        Body::Cancel(_) => false,
-        Body::Quote(_) => false,
-        Body::Close => true,
-    }
+    matches!(body, Body::Close)
 }
 
-// The lowest of refusals 4 to 7 that the header gets, or 0. The difference of the numbers is taken, so that the last number may
+// The first of refusals 4 to 7 that the header gets, if it gets one. The difference of the numbers is taken, so that the last number may
 // be the largest of four bytes.
-pub fn header_refusal(h: Held, c: Command) -> u8
-    ensures { result ≡ first_of (header_refusals (book_holding h) c) }
+pub fn header(h: Held, c: Command) -> Result<(), Refusal>
+    ensures { result ≡ or_refused tt (first_of (header_refusals (book_holding h) c)) }
 {
     let number = c.number;
     let time = c.time;
-    let body = c.body;
-    let closing = is_close(body);
+    let closing = is_close(c.body);
     let seen = number.0 <= h.last.0;
     if seen {
-        return 4;
+        return Err(Refusal::SeenAlready);
     }
     if 1 < number.0 - h.last.0 {
-        return 5;
+        return Err(Refusal::TooFarAhead);
     }
     if h.closed {
-        return 6;
+        return Err(Refusal::Closed);
     }
     if (time < h.time)
         | (time < OPENING)
         | (closing & (CLOSING < time))
         | (!closing & (CLOSING <= time))
     {
-        return 7;
+        return Err(Refusal::Untimely);
     }
-    0
+    Ok(())
 }
 
 // ── The fields of a body ──
@@ -66,21 +61,13 @@ pub fn header_refusal(h: Held, c: Command) -> u8
 fn carries_floor(carried: Carried) -> bool
     ensures { result ≡ carries_floor carried }
 {
-    match carried {
-        Carried::Nothing => false,
-        Carried::MaxFloor(_) => true,
-        Carried::Minimum(_) => false,
-    }
+    matches!(carried, Carried::MaxFloor(_))
 }
 
 fn carries_minimum(carried: Carried) -> bool
     ensures { result ≡ carries_minimum carried }
 {
-    match carried {
-        Carried::Nothing => false,
-        Carried::MaxFloor(_) => false,
-        Carried::Minimum(_) => true,
-    }
+    matches!(carried, Carried::Minimum(_))
 }
 
 // Refusal 8 of an order: its word is lawful, bit 10 is set just where it carries a Max Floor, and no displayed order carries a minimum.
@@ -99,8 +86,8 @@ fn carried_in_range(size: Shares, carried: Carried) -> bool
 {
     match carried {
         Carried::Nothing => true,
-        Carried::MaxFloor(floor) => (1 <= floor.0) & (floor.0 <= size.0),
-        Carried::Minimum(least) => (1 <= least.0) & (least.0 <= size.0),
+        Carried::MaxFloor(floor) => (1 <= floor.0) & (floor <= size),
+        Carried::Minimum(least) => (1 <= least.0) & (least <= size),
     }
 }
 

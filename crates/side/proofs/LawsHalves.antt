@@ -11,10 +11,11 @@ use native.Mathlib.Omega.{arith}
 use borrow.Author.Tests.{lt-ltb, le-ltb}
 use Rattle.basics.specs.Lists.{first_where, All, none, also}
 use Rattle.basics.proofs.LawsChoice.{holds_or_not, lt_or_le}
+use Rattle.std.specs.Int.{from_bool}
 use Rattle.rules.specs.declared.Resting.{Resting}
 use Rattle.rules.specs.Book.{unused, ranks_before, in_rank_order}
 use Rattle.rules.proofs.LawsRank.{ranks_transitive, ranked_first, ranked_rest}
-use Rattle.side.specs.Table.{flag_of, level_of}
+use Rattle.side.specs.Table.{level_of}
 use Rattle.side.specs.Looking.{Newest}
 use Rattle.side.proofs.LawsPlaces.{first_within, first_before}
 use Rattle.side.proofs.LawsLevels.{place_by_level, rank_by_level, place_by_level_lem}
@@ -72,7 +73,7 @@ Within n m low range = (low ≤ m) × (m ≤ low + range) × (low + range ≤ n)
 module _ (n m low range : ℕ) (within : Within n m low range) where
   -- three looks together
   pub quartered : (q a b c : ℕ) → 1 ≤ q → 4 * q ≤ range + 1
-      → a ≡ flag_of (ltb (low + q - 1) m) → b ≡ flag_of (ltb (low + 2 * q - 1) m) → c ≡ flag_of (ltb (low + 3 * q - 1) m)
+      → a ≡ from_bool (ltb (low + q - 1) m) → b ≡ from_bool (ltb (low + 2 * q - 1) m) → c ≡ from_bool (ltb (low + 3 * q - 1) m)
       → (a + b + c ≤ 3) × Within n m (low + q * (a + b + c)) (range - 3 * q)
   quartered q a b c some l e f g =
       ⊎_elim
@@ -93,7 +94,7 @@ module _ (n m low range : ℕ) (within : Within n m low range) where
       (lt_or_le m (low + q))
 
   -- one look
-  pub halved : (a : ℕ) → 1 ≤ range → a ≡ flag_of (ltb low m) → Within n m (low + a) (range - 1)
+  pub halved : (a : ℕ) → 1 ≤ range → a ≡ from_bool (ltb low m) → Within n m (low + a) (range - 1)
   halved a some e =
       ⊎_elim
       (λ (u : low < m). rw (e, lt-ltb low m u) (omega arith))

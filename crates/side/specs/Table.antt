@@ -1,5 +1,6 @@
 -- A side of the book in rows and an index: what a row has of its order, and which rows hold the side, in which order.
 use Rattle.std.specs.Prelude.{ℕ, zero, suc, ◌+◌, ◌-◌, ◌*◌, ◌%◌, ◌≤◌, Bool, true, false, not, List, [], ◌∷◌, map, ◌≡◌, length, get_or, if◌then◌else◌}
+use Rattle.std.specs.Int.{from_bool}
 use Rattle.basics.specs.Lists.{times, insert_at, remove_at}
 use Rattle.rules.specs.declared.Resting.{Resting}
 use Rattle.rules.specs.Book.{places_a_side, unused}
@@ -7,16 +8,12 @@ use Rattle.side.specs.declared.rows.Row.{Row}
 
 -- ── A row ──
 
--- a choice as a number
-abbrev pub flag_of : Bool → ℕ
-flag_of b = if b then 1 else 0
-
 -- Price and display in one number, for each side of the market: of two orders the better has the lower one, and two at one price and display
 -- have the same. A price that no book would hold is cut to what four bytes have room for.
 abbrev pub level_of : Bool → Resting → ℕ
 level_of buy o =
     let twice = o.price.0 % 2147483648 * 2 in
-    if buy then 4294967295 - (twice + flag_of o.displayed) else twice + flag_of (not o.displayed)
+    if buy then 4294967295 - (twice + from_bool o.displayed) else twice + from_bool (not o.displayed)
 
 -- an order as a row, and the order in a row
 abbrev pub row_of : Resting → Row
@@ -78,4 +75,4 @@ pub record Holds (n : ℕ) (x : List ℕ) (t : List Row) : Type 0 where
   pub fits : n ≤ places_a_side
   pub all : length t ≡ places_a_side
   pub names : Names x
-  pub words : rows_at t (ranked n x) ≡ map row_of (side n x t)
+  pub rows : rows_at t (ranked n x) ≡ map row_of (side n x t)

@@ -10,9 +10,10 @@ pub mod shifts;
 pub mod table;
 pub mod tables;
 
-ghost use Rattle.std.specs.Prelude.{true, ◌≡◌, ◌≤◌, ◌<◌, ◌-◌, max, eqb, ltb, length, get_or, if◌then◌else◌};
+ghost use Rattle.std.specs.Prelude.{true, ◌≡◌, ◌≤◌, ◌<◌, eqb, ltb, length, get_or, if◌then◌else◌};
+ghost use Rattle.std.specs.Int.{from_bool};
 ghost use Rattle.basics.specs.Lists.{first_where, distinct};
-ghost use Rattle.side.specs.Table.{index_size, level_of};
+ghost use Rattle.side.specs.Table.{level_of};
 ghost use Rattle.rules.specs.Book.{places_a_side, unused, numbers, earlier as earlierStamp, ranks_before, in_rank_order};
 ghost use Rattle.side.specs.Looking.{Newest, rank_of, Hinted, Named};
 
@@ -30,12 +31,6 @@ fn here(b: u8, slot: u8, j: u8) -> u8
     if b == slot { j } else { 0 }
 }
 
-fn greater(a: u8, b: u8) -> u8
-    ensures { result ≡ max a b }
-{
-    if a < b { b } else { a }
-}
-
 // A place before `n` of an index whose byte names a row. It looks for it part by part, with no branch on a single byte and one on what a part
 // gave; that it finds the place, if there is one, is not promised.
 fn place_of(x: &Index, n: usize, slot: u8) -> Option<usize>
@@ -43,19 +38,17 @@ fn place_of(x: &Index, n: usize, slot: u8) -> Option<usize>
     ensures { Named slot n x.now result }
 {
     let steps = rows::STEPS;
-    let mut part = 0;
-    while part < n {
+    for part in (0..n).step_by(PART) {
         let mut found: u8 = 0;
         for i in 0..PART {
             let b = x[part + i];
             let j = steps[i];
-            found = greater(here(b, slot, j), found);
+            found = found.max(here(b, slot, j));
         }
-        let at = part + rows::wide(found);
+        let at = part + usize::from(found);
         if x[at] == slot {
             return if at < n { Some(at) } else { None };
         }
-        part += PART;
     }
     None
 }
@@ -67,7 +60,7 @@ impl Table {
     {
         for rank in 0..self.len() {
             let o = self.at(rank);
-            if o.number.0 == number.0 {
+            if o.number == number {
                 return Some(rank);
             }
         }
@@ -80,9 +73,9 @@ impl Table {
         ensures { Hinted number self.now result }
     {
         let hint = self.index[rows::hint_of(number)];
-        let slot = rows::wide(hint) % PLACES;
+        let slot = usize::from(hint) % PLACES;
         let o = self.rows[slot].order;
-        if o.number.0 != number.0 {
+        if o.number != number {
             return None;
         }
         let i = place_of(&self.index, self.held, hint)?;
@@ -96,7 +89,7 @@ impl Table {
 fn earlier(s: Stamp, t: Stamp) -> bool
     ensures { result ≡ earlierStamp s t }
 {
-    (s.command.0 < t.command.0) | ((s.command.0 == t.command.0) & (s.place < t.place))
+    (s.command < t.command) | ((s.command == t.command) & (s.place < t.place))
 }
 
 // Whether `x` ranks before `y`. By values and not by ways, so that it compiles to no branch.
@@ -104,9 +97,9 @@ pub fn ranks_before(buying: bool, x: Resting, y: Resting) -> bool
     ensures { result ≡ ranks_before buying x y }
 {
     let stamped = earlier(x.stamp, y.stamp);
-    let nearer = (buying & (y.price.0 < x.price.0)) | (!buying & (x.price.0 < y.price.0));
+    let nearer = (buying & (y.price < x.price)) | (!buying & (x.price < y.price));
     let first = (x.displayed & !y.displayed) | ((x.displayed | !y.displayed) & stamped);
-    nearer | ((x.price.0 == y.price.0) & first)
+    nearer | ((x.price == y.price) & first)
 }
 
 // ── A new order's place ──
@@ -116,10 +109,10 @@ impl Table {
     // three of them is no branch.
     fn is_passed(&self, rank: usize, buying: bool, mine: u32) -> usize
         requires { rank < length self.now }
-        ensures { result ≡ (if ltb mine (level_of buying (get_or self.now rank unused)) then 1 else 0) }
+        ensures { result ≡ from_bool (ltb mine (level_of buying (get_or self.now rank unused))) }
     {
         let level = self.level_at(rank, buying);
-        if mine < level { 1 } else { 0 }
+        usize::from(mine < level)
     }
 
     // The place that a new order takes: before the first that it ranks before. The side is in rank order, so each turn halves the range in

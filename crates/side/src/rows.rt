@@ -4,7 +4,7 @@ ghost use Rattle.std.specs.Prelude.{◌≡◌, ◌≤◌, ◌<◌, length, get_o
 ghost use Rattle.kinds.specs.Kinds.{shares};
 ghost use Rattle.rules.specs.Book.{places_a_side, is_unused, shares_left};
 ghost use Rattle.side.specs.Shifts.{Countable};
-ghost use Rattle.side.specs.Table.{flag_of, level_of, row_of, hint_of, ranked, Names};
+ghost use Rattle.side.specs.Table.{level_of, row_of, hint_of, ranked, Names};
 
 use kinds::{HalfCents, Number, Shares};
 use rules::{Resting, Stamp};
@@ -66,17 +66,7 @@ pub(crate) const FREE: Row = Row {
 pub fn is_unused(o: Resting) -> bool
     ensures { result ≡ is_unused o }
 {
-    let stamp = o.stamp;
-    (o.number.0 == 0)
-        & (o.price.0 == 0)
-        & (o.shares.0 == 0)
-        & !o.displayed
-        & !o.back
-        & (stamp.command.0 == 0)
-        & (stamp.place == 0)
-        & (o.reserve.0 == 0)
-        & (o.floor.0 == 0)
-        & (o.minimum.0 == 0)
+    o == UNUSED
 }
 
 // The shares of an order, shown and in reserve (02, W4).
@@ -89,22 +79,15 @@ pub fn shares_left(o: Resting) -> Shares
 
 // ── A row ──
 
-// A choice as a number.
-fn flag(b: bool) -> u32
-    ensures { result ≡ flag_of b }
-{
-    if b { 1 } else { 0 }
-}
-
 // Price and display in one number, by which a new order's place is found on a side of the market.
 pub(crate) fn level_of(o: Resting, buying: bool) -> u32
     ensures { result ≡ level_of buying o }
 {
     let twice = o.price.0 % 2147483648 * 2;
     if buying {
-        return 4294967295 - (twice + flag(o.displayed));
+        return 4294967295 - (twice + u32::from(o.displayed));
     }
-    twice + flag(!o.displayed)
+    twice + u32::from(!o.displayed)
 }
 
 pub(crate) fn row_of(o: Resting) -> Row
@@ -119,13 +102,6 @@ pub(crate) fn row_of(o: Resting) -> Row
 
 // ── An index ──
 
-// A byte of an index as a row's place in the table.
-pub(crate) fn wide(b: u8) -> usize
-    ensures { result ≡ b }
-{
-    b as usize
-}
-
 // Where the hint of an order's number stands in an index.
 pub(crate) fn hint_of(number: Number) -> usize
     ensures { result ≡ hint_of number.0 }
@@ -138,5 +114,5 @@ pub(crate) fn slot_at(x: &Index, n: usize, i: usize) -> usize
     requires { Names x.now × (i < n) × (n ≤ places_a_side) }
     ensures { (result ≡ get_or (ranked n x.now) i 0) × (result < places_a_side) }
 {
-    wide(x[n - 1 - i])
+    usize::from(x[n - 1 - i])
 }

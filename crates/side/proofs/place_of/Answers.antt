@@ -1,5 +1,5 @@
 -- `side::place_of` meets its contract: it looks at a place before it hands it on. Assumes nothing.
-use Prim.Native.Nat.{◌+◌, ◌<◌, max}
+use Prim.Native.Nat.{◌+◌, ◌<◌}
 use mathlib.Core.Bool.{true, false}
 use mathlib.Core.Logic.{⊎_elim}
 use mathlib.Core.Path.{◌≡◌}
@@ -9,11 +9,10 @@ use native.Mathlib.Omega.{arith}
 use Rattle.std.specs.Prelude.{if◌then◌else◌}
 use Rattle.basics.proofs.LawsChoice.{holds_or_not}
 use Rattle.side.specs.Table.{places_a_part}
-use Rattle.side.proofs.rows.LawsSteps.{counted, steps, step_at}
+use Rattle.side.proofs.rows.LawsSteps.{steps, step_at}
 use Rattle.side.proofs.place_of.Goals as goal
 
 pub loop-i-preserved : goal.loop-i-preserved
-unfolding counted
 loop-i-preserved c =
     let l = c.loop-part in
     let m = c.loop-i in
@@ -26,5 +25,4 @@ loop-i-preserved c =
     (λ (t : eqb b a.slot ≡ true). omega (arith, rw t at it))
     (λ (t : eqb b a.slot ≡ false). omega (arith, rw t at it))
     (holds_or_not (eqb b a.slot)) in
-    let e : c.greater-found.result ≡ max c.here.result m.found = c.greater-found.ensures in
-    (omega arith, omega arith)
+    (omega arith, omega (arith, below))

@@ -9,7 +9,6 @@ use Rattle.side.proofs.rows.is_unused.Reads as is-unused
 use Rattle.side.proofs.rows.shares_left.Reads as shares_left
 use Rattle.side.proofs.rows.level_of.Reads as level-of
 use Rattle.side.proofs.rows.row_of.Reads as row-of
-use Rattle.side.proofs.rows.wide.Reads as wide
 use Rattle.side.proofs.rows.hint_of.Reads as hint-of
 use Rattle.side.proofs.rows.slot_at.Reads as slot_at
 
@@ -24,9 +23,6 @@ level_of_determined κs a r r' s s' p q = p ∙ sym q
 
 pub row_of_determined : (κs : _) (a : _) (r r' : Row) (s s' : _) → row-of.Post κs a r s → row-of.Post κs a r' s' → r ≡ r'
 row_of_determined κs a r r' s s' p q = p ∙ sym q
-
-pub wide_determined : (κs : _) (a : _) (r r' : ℕ) (s s' : _) → wide.Post κs a r s → wide.Post κs a r' s' → r ≡ r'
-wide_determined κs a r r' s s' p q = p ∙ sym q
 
 pub hint_of_determined : (κs : _) (a : _) (r r' : ℕ) (s s' : _) → hint-of.Post κs a r s → hint-of.Post κs a r' s' → r ≡ r'
 hint_of_determined κs a r r' s s' p q = p ∙ sym q

@@ -4,10 +4,11 @@ use mathlib.Core.Bool.{Bool, true, false}
 use mathlib.Core.List.{List, [], ◌∷◌, map}
 use mathlib.Core.Path.{◌≡◌, refl, ap}
 use native.Mathlib.Omega.{arith}
+use Rattle.std.specs.Int.{from_bool}
 use Rattle.rules.specs.declared.Resting.{Resting}
-use Rattle.side.specs.Table.{flag_of, order_of, row_of}
+use Rattle.side.specs.Table.{order_of, row_of}
 
-pub flag_small : (b : Bool) → flag_of b ≤ 1
+pub flag_small : (b : Bool) → from_bool b ≤ 1
 flag_small true = omega arith
 flag_small false = omega arith
 

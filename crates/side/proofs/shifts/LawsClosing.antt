@@ -15,6 +15,7 @@ use Rattle.basics.specs.Lists.{every, times}
 use Rattle.basics.proofs.LawsChoice.{holds_or_not, lt_or_le, and_left, and_right}
 use Rattle.side.specs.declared.rows.Row.{Row}
 use Rattle.side.specs.Shifts.{keeps, keepers}
+use Rattle.std.specs.Int.{from_bool}
 use Rattle.side.specs.Table.{order_of, row_of, free, ranked, rows_at, side, Holds}
 use Rattle.side.proofs.rows.LawsIndex.{ranked_alike, names_same}
 use Rattle.side.proofs.rows.LawsShown.{Shows, shows_rows, side_dropped}
@@ -87,7 +88,7 @@ closing_start n x t reached h l e =
       long = refl;
       ahead = λ k p. refl;
       same = λ j. refl;
-      rows = rw all worst.holds.words;
+      rows = rw all worst.holds.rows;
     }
 
 module _ {n : ℕ} {x₀ x : List ℕ} {t : List Row} {to i : ℕ} (h : Holds n x₀ t) (w : Closing n x₀ x t to i) where
@@ -104,11 +105,11 @@ module _ {n : ℕ} {x₀ x : List ℕ} {t : List Row} {to i : ℕ} (h : Holds n 
     unfolding ranked
     row_next =
         let z : n - (n - suc i) ≡ suc i = omega arith in
-        let words : rows_at t (ranked (suc i) x₀) ≡ map row_of (side (suc i) x₀ t) = rw z at (side_dropped n x₀ t h (n - suc i) (omega arith)).holds.words in
+        let words : rows_at t (ranked (suc i) x₀) ≡ map row_of (side (suc i) x₀ t) = rw z at (side_dropped n x₀ t h (n - suc i) (omega arith)).holds.rows in
         ap (λ (rs : List Row). get_or rs 0 free) words
 
     module _ (o : Resting) (e : o ≡ order_of (get_or t (get_or x i 0) free)) where
-      rows_next : rows_at t (ranked (if keeps o then to + 1 else to) (swapped to i x)) ≡ map row_of (keepers (side (i + 1) x₀ t))
+      rows_next : rows_at t (ranked (to + from_bool (keeps o)) (swapped to i x)) ≡ map row_of (keepers (side (i + 1) x₀ t))
       unfolding ranked keepers
       rows_next =
           let y = set x i (get_or x to 0) in
@@ -127,10 +128,11 @@ module _ {n : ℕ} {x₀ x : List ℕ} {t : List Row} {to i : ℕ} (h : Holds n 
           rw (k, add-one to, add-one i, here, front, kept) (cc))
           (λ (k : keeps o ≡ false).
           let gone : keeps (order_of (get_or t (get_or x₀ i 0) free)) ≡ false = rw next at k in
-          rw (k, add-one i, front, gone) rows)
+          let still : to + 0 ≡ to = omega arith in
+          rw (k, still, add-one i, front, gone) rows)
           (holds_or_not (keeps o))
 
-      pub closing_on : Closing n x₀ (swapped to i x) t (if keeps o then to + 1 else to) (i + 1)
+      pub closing_on : Closing n x₀ (swapped to i x) t (to + from_bool (keeps o)) (i + 1)
       closing_on =
           let y = set x i (get_or x to 0) in
           let long : length y ≡ length x = length-set x i (get_or x to 0) in

@@ -6,7 +6,8 @@ use lib.Dec.{ltb}
 use lib.ListN.{length, get_or}
 use native.Mathlib.Omega.{arith}
 use Rattle.rules.specs.Book.{unused}
-use Rattle.side.specs.Table.{flag_of, level_of}
+use Rattle.std.specs.Int.{from_bool}
+use Rattle.side.specs.Table.{level_of}
 use Rattle.side.proofs.LawsHalves.{passed, looked, all_looked, Within, quartered, halved}
 use Rattle.side.proofs.table.Table.place.Goals as goal
 use Rattle.side.proofs.table.Table.place.Goals.{After-is_passed-c, After-is_passed-low, After-len-n}
@@ -15,12 +16,12 @@ use Rattle.side.proofs.table.Table.place.Goals.{After-is_passed-c, After-is_pass
 look : (c : After-len-n) (i r : ℕ)
     → let a = c.args in
     let mine = c.level_of-mine.result in
-    1 ≤ i → i ≤ length a.self.now → r ≡ flag_of (ltb mine (level_of a.buying (get_or a.self.now (c.len-n.result - i) unused)))
-    → r ≡ flag_of (ltb (i - 1) (passed a.self.now a.buying mine))
+    1 ≤ i → i ≤ length a.self.now → r ≡ from_bool (ltb mine (level_of a.buying (get_or a.self.now (c.len-n.result - i) unused)))
+    → r ≡ from_bool (ltb (i - 1) (passed a.self.now a.buying mine))
 look c i r some l e =
     let a = c.args in
     rw c.len-n.ensures.value at e
-    ∙ ap flag_of (looked a.self.now a.buying a.o c.requires.ranked c.requires.newest c.level_of-mine.result c.level_of-mine.ensures i some l)
+    ∙ ap from_bool (looked a.self.now a.buying a.o c.requires.ranked c.requires.newest c.level_of-mine.result c.level_of-mine.ensures i some l)
 
 -- what three looks told
 narrowed : (c : After-is_passed-c)

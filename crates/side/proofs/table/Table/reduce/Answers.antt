@@ -10,9 +10,6 @@ use Rattle.side.proofs.rows.LawsShown.{Shows, length_is, order_at, side_put}
 use Rattle.side.proofs.table.Table.reduce.Goals as goal
 use Rattle.side.proofs.table.Table.reduce.Goals.{After-row_of}
 
-pub slot_at-slot-requires : goal.slot_at-slot-requires
-slot_at-slot-requires c = (c.self.invariant.names, omega (arith, c.requires, length_is c.self.inside c.self.view_is), c.self.invariant.fits)
-
 shown : (c : After-row_of)
     → let a = c.args in
     let t = c.self.inside in
@@ -27,7 +24,7 @@ shown c =
     ap (λ (j : ℕ). order_of (get_or t.rows j free)) slot ∙ order_at t.held t.index t.rows a.at l in
     let put : c.row_of.result ≡ row_of (less_by a.part.0 o) =
     c.row_of.ensures
-    ∙ rw (c.cut-minimum.ensures, c.without-reserve.ensures, c.without-more.ensures, c.without-shown.ensures) in
+    ∙ rw (c.cut-minimum.ensures, c.saturating_sub-reserve.ensures, c.saturating_sub-more.ensures, c.saturating_sub-shown.ensures) in
     rw (put, read, slot, ← c.self.view_is) (side_put t.held t.index t.rows c.self.invariant a.at (less_by a.part.0 (get_or (side t.held t.index t.rows) a.at unused)) l)
 
 pub invariant_of-self : goal.invariant_of-self

@@ -1,4 +1,4 @@
--- `judge::header_refusal` meets its contract: the tests come in the table's order. Assumes nothing.
+-- `judge::header` meets its contract: the tests come in the table's order. Assumes nothing.
 use Prim.Native.Nat.{◌+◌, ◌≤◌, ◌<◌}
 use mathlib.Core.Bool.{true, false}
 use mathlib.Core.Path.{◌≡◌, sym, ◌∙◌}
@@ -9,7 +9,7 @@ use Rattle.rules.specs.Book.{opening, closing}
 use Rattle.rules.specs.Refusals.{first_of, is_close, untimely, header_refusals}
 use Rattle.judge.specs.Judge.{book_holding}
 use Rattle.judge.proofs.LawsJudge.{late_by_values}
-use Rattle.judge.proofs.header_refusal.Goals as goal
+use Rattle.judge.proofs.header.Goals as goal
 
 pub returns-then-seen : goal.returns-then-seen
 unfolding first_of header_refusals
