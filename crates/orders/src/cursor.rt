@@ -80,14 +80,14 @@ pub(crate) fn next(t: &Table, c: Cursor) -> Option<(Part, Cursor)>
     ensures fits { length t.now ≤ places_a_side }
 {
     if t.len() <= c.at {
-        return if c.waits < c.at {
-            Some(next_reserve(t, c))
-        } else {
-            None
-        };
+        if c.waits < c.at {
+            return Some(next_reserve(t, c));
+        }
+        return None;
     }
     let o = t.at(c.at);
-    if (c.waits < c.at) & (o.price.0 != c.level.0) {
+    let price_ends = (c.waits < c.at) & (o.price != c.level);
+    if price_ends {
         return Some(next_reserve(t, c));
     }
     let part = Part {

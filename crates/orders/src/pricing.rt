@@ -40,13 +40,14 @@ pub(crate) fn execution_price(buy: bool, locked: HalfCents, price: HalfCents) ->
     requires { locked.0 < largest }
     ensures { result ≡ executes_at buy locked price }
 {
-    if price.0 == locked.0 {
+    if price == locked {
         return half_a_cent(buy, price);
     }
     price
 }
 
 // The limit, or for a market order the farthest price that there is.
+#[tactic(auto, unfolding(crate::specs::Bound::farthest))]
 fn limit_of(o: Order) -> HalfCents
     requires { (limit_of o).0 ≤ largest }
     ensures { result ≡ farthest o }
@@ -62,6 +63,7 @@ fn limit_of(o: Order) -> HalfCents
 }
 
 // The limit, or the away price where that comes first and restricts the order.
+#[tactic(auto, unfolding(crate::specs::Bound::bound_of))]
 fn bound_of(o: Order, away: Away) -> HalfCents
     requires { ((limit_of o).0 ≤ largest) × ((locking_price (buying o) away).0 ≤ largest) }
     ensures { result ≡ bound_of o away }
@@ -84,7 +86,7 @@ pub(crate) fn bound_under(o: Order, away: Away, locked: HalfCents) -> HalfCents
     ensures { result ≡ bound_under (buying o) locked (bound_of o away) }
 {
     let bound = bound_of(o, away);
-    if bound.0 == locked.0 {
+    if bound == locked {
         return half_a_cent(o.side != 0, bound);
     }
     bound
@@ -115,6 +117,7 @@ fn adjust(o: Order, price: HalfCents) -> Ending
     Ending::Cancels(5)
 }
 
+#[tactic(auto, unfolding(rules::specs::Working::seeks))]
 pub(crate) fn seek(o: Order, away: Away) -> Ending
     requires { ((limit_of o).0 ≤ largest) × ((locking_price (buying o) away).0 < largest - 1) }
     ensures { result ≡ seeks o away }
@@ -127,7 +130,7 @@ pub(crate) fn seek(o: Order, away: Away) -> Ending
     }
     let crosses = !prices::within(buy, locking, price);
     let displayed = instructions::has(o.word, rules::DISPLAYED);
-    if displayed & ((price.0 == locking.0) | crosses) {
+    if displayed & ((price == locking) | crosses) {
         return adjust(o, less_aggressive(buy, locking));
     }
     if !displayed & crosses {

@@ -27,7 +27,7 @@ fn is_skipped(left: Shares, p: Part) -> bool
     ensures { result ≡ part_is_skipped left.0 p }
 {
     let least = p.minimum.smaller(p.shares);
-    left.0 < least.0
+    left < least
 }
 
 // Takes from a part that is not skipped what it gives, as the next taking; the shares that are left. One that gives nothing is no taking.

@@ -36,6 +36,7 @@ fn least_of(o: Order) -> Shares
 
 // The walk of an order up to a bound, with its takings: Post Only takes nothing, nor does an order whose walk gives less than the least
 // that it must.
+#[tactic(auto, unfolding(crate::specs::Walking::walk_for, crate::specs::Walking::takings_for))]
 pub(crate) fn walk_of(o: Order, bound: HalfCents, t: &Table, took: &mut Takings) -> Walked
     ensures value { result ≡ walk_for o bound t.now }
     ensures took_after { took.new ≡ takings_for o bound t.now }
@@ -91,7 +92,7 @@ fn rest_unless_meets(
         }
         return Ending::Rests(price);
     }
-    let still_meets = prices::within(buy, price, best.price) & (price.0 != locked.0);
+    let still_meets = prices::within(buy, price, best.price) & (price != locked);
     if still_meets {
         return Ending::Cancels(8);
     }
@@ -99,6 +100,7 @@ fn rest_unless_meets(
 }
 
 // What becomes of an order of which `left` shares are left after the walk.
+#[tactic(auto, unfolding(crate::specs::Walking::ending_by_best))]
 pub(crate) fn ending_of(
     o: Order,
     away: Away,

@@ -7,6 +7,8 @@ use lib.Dec.{eqb}
 use lib.ListN.{drop}
 use Rattle.std.specs.List.{slice_get}
 use Rattle.std.specs.Prelude.{Some, None}
+use Rattle.std.proofs.lemmas.Grind.{common_steps}
+use native.Mathlib.Omega.{arith}
 use Rattle.rules.specs.declared.Resting.{Resting}
 use Rattle.rules.specs.Instructions.{has, post_only}
 use Rattle.rules.specs.Working.{buying, reaches, meets_or_passes}
@@ -33,40 +35,20 @@ best_left c = left_from c.args.kept c.args.t.now c.in-Some.best (sym c.get.ensur
 
 pub returns-in_default : goal.returns-in_default
 unfolding rests_unless_best_meets
-returns-in_default c = rw (none_from c.args.kept c.args.t.now (sym c.get.ensures ∙ c.in_default.is)) refl
+returns-in_default c = rw (none_from c.args.kept c.args.t.now (sym c.get.ensures ∙ c.in_default.is))
 
 pub returns-then-meets : goal.returns-then-meets
 unfolding rests_unless_best_meets
-returns-then-meets c =
-    let a = c.args in
-    let post : has a.o.word post_only ≡ true = sym c.has.ensures ∙ c.if-has.true in
-    let met : meets_or_passes (buying a.o) a.price c.in-Some.best ≡ true = sym c.meets.ensures ∙ c.if-meets.true in
-    rw (best_left (goal.at.returns-then-meets c).In-Some, post, met) refl
+returns-then-meets c = rw (best_left (goal.at.returns-then-meets c).In-Some) (grind (arith, common_steps))
 
 pub returns-then-has : goal.returns-then-has
 unfolding rests_unless_best_meets
-returns-then-has c =
-    let a = c.args in
-    let post : has a.o.word post_only ≡ true = sym c.has.ensures ∙ c.if-has.true in
-    let met : meets_or_passes (buying a.o) a.price c.in-Some.best ≡ false = sym c.meets.ensures ∙ c.if-meets.false in
-    rw (best_left (goal.at.returns-then-has c).In-Some, post, met) refl
+returns-then-has c = rw (best_left (goal.at.returns-then-has c).In-Some) (grind (arith, common_steps))
 
 pub returns-then-still_meets : goal.returns-then-still_meets
 unfolding rests_unless_best_meets
-returns-then-still_meets c =
-    let a = c.args in
-    let best = c.in-Some.best in
-    let other : has a.o.word post_only ≡ false = sym c.has.ensures ∙ c.if-has.false in
-    let reached : c.within.result ≡ reaches (buying a.o) a.price best.price = c.within.ensures ∙ sym (reaches_is (buying a.o) a.price best.price) in
-    let still : (reaches (buying a.o) a.price best.price && not (eqb a.price.0 a.locked.0)) ≡ true = rw reached at c.if-still_meets.true in
-    rw (best_left (goal.at.returns-then-still_meets c).In-Some, other, still) refl
+returns-then-still_meets c = rw (best_left (goal.at.returns-then-still_meets c).In-Some) (grind (arith, common_steps))
 
 pub returns : goal.returns
 unfolding rests_unless_best_meets
-returns c =
-    let a = c.args in
-    let best = c.in-Some.best in
-    let other : has a.o.word post_only ≡ false = sym c.has.ensures ∙ c.if-has.false in
-    let reached : c.within.result ≡ reaches (buying a.o) a.price best.price = c.within.ensures ∙ sym (reaches_is (buying a.o) a.price best.price) in
-    let still : (reaches (buying a.o) a.price best.price && not (eqb a.price.0 a.locked.0)) ≡ false = rw reached at c.if-still_meets.false in
-    rw (best_left (goal.at.returns c).In-Some, other, still) refl
+returns c = rw (best_left (goal.at.returns c).In-Some) (grind (arith, common_steps))
