@@ -41,7 +41,7 @@ use Rattle.day.specs.Feed.{Feeds}
 use Rattle.day.specs.Pieces.{printed_at_end}
 use Rattle.tally.specs.declared.TalliedPiece as tallied
 use Rattle.tally.specs.Tally.{fed_on}
-use Rattle.command_lines.specs.declared.writer.Written.{Written}
+use Rattle.rules.specs.declared.Refusal.{Refusal}
 use Rattle.command_lines.specs.Writing.{written_for, buffer_of}
 use Rattle.book.proofs.Book.fresh.Met as fresh-met
 use Rattle.book.proofs.Book.fresh.Reads as fresh
@@ -93,7 +93,7 @@ use Rattle.day.proofs.night.take_turn.Statement as turn-statement
 use Rattle.day.proofs.night.finish.Met as finish-met
 use Rattle.day.proofs.night.finish.Reads as finish
 use Rattle.day.proofs.night.finish.Statement as finish-statement
-use Rattle.std.specs.Prelude.{Some, None}
+use Rattle.std.specs.Prelude.{Some, None, Result}
 
 -- ── The book by value ──
 
@@ -219,7 +219,7 @@ write_is_proved = write-met.met
 pub write_asks : (κs : _) (a : _) → write.Pre κs a ≡ Unit {0}
 write_asks κs a = refl
 
-pub write_says : (κs : _) (a : _) (r : Written) (s : _) → write.Post κs a r s
+pub write_says : (κs : _) (a : _) (r : Result ℕ Refusal) (s : _) → write.Post κs a r s
     ≡ ((r ≡ written_for a.0 (length a.1.0.now))
     × ((s.1.0.now ≡ buffer_of a.0 a.1.0.now) × (command_in (line_of a.0) ≡ Some a.0)))
 write_says κs a r s = refl

@@ -14,6 +14,7 @@ use command_lines::lines;
 use event_lines::reader;
 use kinds::{Number, Shares};
 use rules::{Event, NoEvent};
+use std::fmt;
 
 // What stops a tally: a line that is no event line, or a sum that four bytes would not hold.
 #[derive(Clone, Copy, Debug, PartialEq, Eq)]
@@ -31,6 +32,19 @@ impl From<NoEvent> for Stop {
 
     fn from(why: NoEvent) -> Stop {
         Stop::BadLine(why)
+    }
+}
+
+impl fmt::Display for Stop {
+    fn fmt<W: fmt::Write>(&self, f: &mut fmt::Formatter<W>) -> fmt::Result {
+        match self {
+            Stop::BadLine(NoEvent::UnknownKind) => write!(f, "unknown kind"),
+            Stop::BadLine(NoEvent::Short) => write!(f, "short"),
+            Stop::BadLine(NoEvent::TrailingBytes) => write!(f, "trailing bytes"),
+            Stop::BadLine(NoEvent::BadDigitOrEnding) => write!(f, "bad digit or ending"),
+            Stop::ExecutedPasses => write!(f, "the sum of executed shares passes {}", kinds::LARGEST),
+            Stop::CancelledPasses => write!(f, "the sum of cancelled shares passes {}", kinds::LARGEST),
+        }
     }
 }
 
