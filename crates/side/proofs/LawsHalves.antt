@@ -4,19 +4,18 @@ use Prim.Native.Nat.{ℕ, zero, suc, ◌+◌, ◌-◌, ◌*◌, ◌≤◌, ◌<�
 use mathlib.Core.Bool.{Bool, true, false, true≢false}
 use mathlib.Core.List.{List, [], ◌∷◌}
 use mathlib.Core.Logic.{⊎_elim}
-use mathlib.Core.Path.{◌≡◌, sym, ap, ◌∙◌}
+use mathlib.Core.Path.{◌≡◌, sym, ◌∙◌}
 use lib.Dec.{ltb}
 use lib.ListN.{length, get_or}
 use native.Mathlib.Omega.{arith}
 use borrow.Author.Tests.{lt-ltb, le-ltb}
 use Rattle.basics.specs.Lists.{first_where, All, none, also}
 use Rattle.basics.proofs.LawsChoice.{holds_or_not, lt_or_le}
+use Rattle.std.specs.Int.{from_bool}
 use Rattle.rules.specs.declared.Resting.{Resting}
 use Rattle.rules.specs.Book.{unused, ranks_before, in_rank_order}
 use Rattle.rules.proofs.LawsRank.{ranks_transitive, ranked_first, ranked_rest}
-use Rattle.side.specs.Table.{flag_of, level_of, level_in, ranked as ranks, side, Holds}
-use Rattle.side.proofs.rows.LawsIndex.{ranked_at}
-use Rattle.side.proofs.rows.LawsShown.{length_side, level_at_lem}
+use Rattle.side.specs.Table.{level_of}
 use Rattle.side.specs.Looking.{Newest}
 use Rattle.side.proofs.LawsPlaces.{first_within, first_before}
 use Rattle.side.proofs.LawsLevels.{place_by_level, rank_by_level, place_by_level_lem}
@@ -39,37 +38,31 @@ place_behind buy o (x ∷ s) r (suc i) l p =
     behind (also {x = y} q a) zero l t = ranks_transitive buy o x y t q
     behind (also q a) (suc i) l t = behind a i (omega arith) t
 
--- ── By the places of an index ──
+-- ── By levels ──
 
 -- how many orders of a side, from the worst on, an order of this level ranks before
-abbrev pub passed : ℕ → List ℕ → List (List ℕ) → Bool → ℕ → ℕ
-passed n x t buy level = n - place_by_level buy level (side n x t)
+abbrev pub passed : List Resting → Bool → ℕ → ℕ
+passed s buy level = length s - place_by_level buy level s
 
-module _ (n : ℕ) (x : List ℕ) (t : List (List ℕ)) (holds : Holds n x t) (buy : Bool) (o : Resting) (ranked : in_rank_order buy (side n x t) ≡ true)
-    (newest : Newest o (side n x t)) (level : ℕ) (mine : level ≡ level_of buy o) where
-  place_is : place_by_level buy level (side n x t) ≡ first_where (ranks_before buy o) (side n x t)
-  place_is = rw mine (place_by_level_lem buy o (side n x t) newest)
+module _ (s : List Resting) (buy : Bool) (o : Resting) (ranked : in_rank_order buy s ≡ true) (newest : Newest o s) (level : ℕ) (mine : level ≡ level_of buy o) where
+  place_is : place_by_level buy level s ≡ first_where (ranks_before buy o) s
+  place_is = rw mine (place_by_level_lem buy o s newest)
 
-  -- one look tells whether the order at that place is among them
-  pub looked : (i : ℕ) → i < n → ltb level (level_in buy (get_or t (get_or x i 0) [])) ≡ ltb i (passed n x t buy level)
-  looked i l =
-      let s = side n x t in
-      let k = n - 1 - i in
-      let in_side : k < length s = omega (arith, length_side n x t) in
-      let at : n - 1 - k ≡ i = omega arith in
-      let slot : get_or (ranks n x) k 0 ≡ get_or x i 0 = ranked_at n x k (omega arith) ∙ ap (λ (j : ℕ). get_or x j 0) at in
-      let its : level_in buy (get_or t (get_or x i 0) []) ≡ level_of buy (get_or s k unused) = rw slot at (level_at_lem n x t k (omega arith) holds buy) in
-      let test : ltb level (level_in buy (get_or t (get_or x i 0) [])) ≡ ranks_before buy o (get_or s k unused) =
-      rw (mine, its) (sym (rank_by_level buy o s newest k in_side)) in
+  -- one look tells whether the i-th order from the worst is among them
+  pub looked : (i : ℕ) → 1 ≤ i → i ≤ length s → ltb level (level_of buy (get_or s (length s - i) unused)) ≡ ltb (i - 1) (passed s buy level)
+  looked i some l =
+      let k = length s - i in
+      let in_side : k < length s = omega arith in
+      let test : ltb level (level_of buy (get_or s k unused)) ≡ ranks_before buy o (get_or s k unused) = rw mine (sym (rank_by_level buy o s newest k in_side)) in
       ⊎_elim
       (λ (b : ranks_before buy o (get_or s k unused) ≡ true).
-      test ∙ b ∙ sym (lt-ltb i (passed n x t buy level) (omega (arith, place_is, first_before (ranks_before buy o) unused s k in_side b))))
+      test ∙ b ∙ sym (lt-ltb (i - 1) (passed s buy level) (omega (arith, place_is, first_before (ranks_before buy o) unused s k in_side b))))
       (λ (b : ranks_before buy o (get_or s k unused) ≡ false).
-      test ∙ b ∙ sym (le-ltb i (passed n x t buy level) (omega (arith, place_is, place_behind buy o s ranked k in_side b))))
+      test ∙ b ∙ sym (le-ltb (i - 1) (passed s buy level) (omega (arith, place_is, place_behind buy o s ranked k in_side b))))
       (holds_or_not (ranks_before buy o (get_or s k unused)))
 
-  pub all_looked : n - passed n x t buy level ≡ first_where (ranks_before buy o) (side n x t)
-  all_looked = omega (arith, place_is, first_within (ranks_before buy o) (side n x t), length_side n x t)
+  pub all_looked : length s - passed s buy level ≡ first_where (ranks_before buy o) s
+  all_looked = omega (arith, place_is, first_within (ranks_before buy o) s)
 
 -- ── How far the looks narrow it ──
 
@@ -80,7 +73,7 @@ Within n m low range = (low ≤ m) × (m ≤ low + range) × (low + range ≤ n)
 module _ (n m low range : ℕ) (within : Within n m low range) where
   -- three looks together
   pub quartered : (q a b c : ℕ) → 1 ≤ q → 4 * q ≤ range + 1
-      → a ≡ flag_of (ltb (low + q - 1) m) → b ≡ flag_of (ltb (low + 2 * q - 1) m) → c ≡ flag_of (ltb (low + 3 * q - 1) m)
+      → a ≡ from_bool (ltb (low + q - 1) m) → b ≡ from_bool (ltb (low + 2 * q - 1) m) → c ≡ from_bool (ltb (low + 3 * q - 1) m)
       → (a + b + c ≤ 3) × Within n m (low + q * (a + b + c)) (range - 3 * q)
   quartered q a b c some l e f g =
       ⊎_elim
@@ -101,7 +94,7 @@ module _ (n m low range : ℕ) (within : Within n m low range) where
       (lt_or_le m (low + q))
 
   -- one look
-  pub halved : (a : ℕ) → 1 ≤ range → a ≡ flag_of (ltb low m) → Within n m (low + a) (range - 1)
+  pub halved : (a : ℕ) → 1 ≤ range → a ≡ from_bool (ltb low m) → Within n m (low + a) (range - 1)
   halved a some e =
       ⊎_elim
       (λ (u : low < m). rw (e, lt-ltb low m u) (omega arith))

@@ -1,5 +1,6 @@
--- A row in use that holds the order of a number stands at the rank of that number, which is on one order alone. Assumes nothing.
-use Prim.Native.Nat.{ℕ, zero, suc, ◌-◌, ◌<◌}
+-- The rank of the order of a number; and that a row in use which holds it stands at that rank, for the number is on one order alone. Assumes
+-- nothing.
+use Prim.Native.Nat.{ℕ, zero, suc, ◌-◌, ◌≤◌, ◌<◌}
 use mathlib.Core.Bool.{true, false, not, true≢false}
 use mathlib.Core.List.{List, [], ◌∷◌}
 use mathlib.Core.Logic.{⊎_elim}
@@ -7,16 +8,26 @@ use mathlib.Core.Path.{◌≡◌, sym, ap, ◌∙◌}
 use lib.Dec.{eqb}
 use lib.ListN.{length, get_or}
 use native.Mathlib.Omega.{arith}
-use borrow.Author.Tests.{eq-eqb, eqb-true, not-true}
+use borrow.Author.Tests.{eq-eqb, eqb-true, not-true, lt-ltb, le-ltb}
+use Rattle.std.specs.Prelude.{None, Some}
 use Rattle.basics.specs.Lists.{first_where, any, distinct}
 use Rattle.basics.proofs.LawsChoice.{holds_or_not, and_left, and_right, or_neither}
 use Rattle.kinds.specs.declared.Number.{Number}
 use Rattle.rules.specs.declared.Resting.{Resting}
 use Rattle.rules.specs.Book.{unused, numbers}
 use Rattle.rules.specs.Commands.{is_number}
-use Rattle.side.specs.Table.{order_of, ranked, side, Holds}
+use Rattle.side.specs.declared.rows.Row.{Row}
+use Rattle.side.specs.Table.{order_of, free, ranked, side, Holds}
+use Rattle.side.specs.Looking.{rank_of}
 use Rattle.side.proofs.rows.LawsIndex.{ranked_at}
 use Rattle.side.proofs.rows.LawsShown.{length_side, order_at}
+
+module _ (number : Number) (s : List Resting) where
+  pub rank_found : (i : ℕ) → i < length s → i ≡ first_where (is_number number) s → rank_of number s ≡ Some i
+  rank_found i l e = rw (← e, lt-ltb i (length s) l)
+
+  pub rank_nowhere : length s ≤ first_where (is_number number) s → rank_of number s ≡ None
+  rank_nowhere l = rw (le-ltb (first_where (is_number number) s) (length s) l)
 
 -- a number that is not among some stands on none of their orders
 not_among : (n : ℕ) (s : List Resting) → any (eqb n) (numbers s) ≡ false → (k : ℕ) → k < length s → eqb n (get_or s k unused).number.0 ≡ false
@@ -42,11 +53,11 @@ only_one number (h ∷ s) d (suc k) l e =
     (holds_or_not (is_number number h))
 
 -- a row in use, whose place in the index is i
-pub hint_leads : (n : ℕ) (x : List ℕ) (t : List (List ℕ)) → Holds n x t → (number : Number) → distinct (numbers (side n x t)) ≡ true
-    → (slot i : ℕ) → get_or x i 0 ≡ slot → i < n → is_number number (order_of (get_or t slot [])) ≡ true → n - 1 - i ≡ first_where (is_number number) (side n x t)
+pub hint_leads : (n : ℕ) (x : List ℕ) (t : List Row) → Holds n x t → (number : Number) → distinct (numbers (side n x t)) ≡ true
+    → (slot i : ℕ) → get_or x i 0 ≡ slot → i < n → is_number number (order_of (get_or t slot free)) ≡ true → n - 1 - i ≡ first_where (is_number number) (side n x t)
 hint_leads n x t holds number d slot i named l its =
     let k = n - 1 - i in
     let back : n - 1 - k ≡ i = omega arith in
     let at : get_or (ranked n x) k 0 ≡ slot = ranked_at n x k (omega arith) ∙ ap (λ (j : ℕ). get_or x j 0) back ∙ named in
-    let found : order_of (get_or t slot []) ≡ get_or (side n x t) k unused = rw at at (order_at n x t k (omega arith)) in
+    let found : order_of (get_or t slot free) ≡ get_or (side n x t) k unused = rw at at (order_at n x t k (omega arith)) in
     only_one number (side n x t) d k (omega (arith, length_side n x t)) (ap (is_number number) (sym found) ∙ its)

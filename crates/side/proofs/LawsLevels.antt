@@ -12,10 +12,11 @@ use borrow.Author.Tests.{eq-eqb, ne_eqb, eqb-true, eqb-false, ltb-true, lt-ltb, 
 use Rattle.std.specs.Prelude.{if◌then◌else◌}
 use Rattle.basics.specs.Lists.{first_where, All, none, also}
 use Rattle.basics.proofs.LawsChoice.{holds_or_not, lt_or_le}
+use Rattle.std.specs.Int.{from_bool}
 use Rattle.rules.specs.declared.Resting.{Resting}
 use Rattle.rules.specs.declared.Stamp.{Stamp}
 use Rattle.rules.specs.Book.{unused, earlier, ranks_before}
-use Rattle.side.specs.Table.{flag_of, level_of}
+use Rattle.side.specs.Table.{level_of}
 use Rattle.side.proofs.rows.LawsTable.{flag_small}
 use Rattle.side.specs.Looking.{price_bound, Older, Newest}
 
@@ -38,7 +39,7 @@ same_test a b c d f g = ⊎_elim (λ l. lt-ltb a b l ∙ sym (lt-ltb c d (f l)))
 
 -- the level of a price and a choice
 abbrev level_at : Bool → ℕ → Bool → ℕ
-level_at buy p d = if buy then 4294967295 - (p * 2 + flag_of d) else p * 2 + flag_of (not d)
+level_at buy p d = if buy then 4294967295 - (p * 2 + from_bool d) else p * 2 + from_bool (not d)
 
 -- the better price has the lower level, and at one price what is displayed
 by_level : (buy : Bool) (p q : ℕ) (d e : Bool) → p < price_bound → q < price_bound

@@ -9,6 +9,8 @@ use lib.ListN.{length, get_or}
 use native.Mathlib.Omega.{arith}
 use borrow.Author.Tests.{eqb-true, le-ltb}
 use Rattle.std.specs.Prelude.{if◌then◌else◌}
+use Rattle.std.specs.Ordering.{is_lt, nat_cmp}
+use Rattle.std.proofs.Common.{rules}
 use Rattle.basics.specs.Lists.{first_where}
 use Rattle.basics.proofs.LawsChoice.{holds_or_not}
 use Rattle.rules.specs.declared.Resting.{Resting}
@@ -40,6 +42,10 @@ module _ {A : Type 0} (test : A → Bool) where
       (holds_or_not (test x))
 
 -- ── Rank by values ──
+
+-- what the derived order of a kind says
+pub is_lt_nat_cmp : (a b : ℕ) → is_lt (nat_cmp a b) ≡ ltb a b
+is_lt_nat_cmp a b = search rules
 
 pub earlier_by_values : (s t : Stamp)
     → (ltb s.command.0 t.command.0 || eqb s.command.0 t.command.0 && ltb s.place t.place) ≡ earlier s t

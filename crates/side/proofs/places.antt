@@ -1,2 +1,1 @@
 pub mod LawsPlaced
-pub mod Determined

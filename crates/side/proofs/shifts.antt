@@ -1,3 +1,3 @@
 pub mod LawsRotated
 pub mod LawsShifts
-pub mod Determined
+pub mod LawsClosing

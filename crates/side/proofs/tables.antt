@@ -1,4 +1,3 @@
 pub mod LawsCopied
 pub mod LawsNumbered
 pub mod LawsAnswers
-pub mod Determined

@@ -10,7 +10,7 @@ use rules::Away;
 pub fn within(buying: bool, bound: HalfCents, price: HalfCents) -> bool
     ensures { result ≡ not (beyond buying bound price) }
 {
-    !((buying & (bound.0 < price.0)) | (!buying & (price.0 < bound.0)))
+    !((buying & (bound < price)) | (!buying & (price < bound)))
 }
 
 pub fn locking_price(buy: bool, away: Away) -> HalfCents

@@ -1,12 +1,13 @@
 // Orders moved in and out of one side, in place: the index is turned, and the rows stay where they are.
-ghost use Rattle.std.specs.Prelude.{◌&&◌, ◌≡◌, ◌+◌, ◌-◌, ◌≤◌, ◌<◌, min, ltb, leb, get_or, set, if◌then◌else◌};
-ghost use Rattle.basics.specs.Lists.{insert_at, remove_at};
-ghost use Rattle.side.specs.Table.{places_a_part, rotated, side, Holds, Shows};
+ghost use Rattle.std.specs.Prelude.{true, ◌&&◌, ◌≡◌, ◌+◌, ◌-◌, ◌≤◌, ◌<◌, min, ltb, leb, length, drop, get_or, set, if◌then◌else◌};
+ghost use Rattle.basics.specs.Lists.{every, insert_at, remove_at};
+ghost use Rattle.side.specs.Table.{index_size, places_a_part, rotated};
 ghost use Rattle.rules.specs.Book.{places_a_side, unused};
-ghost use Rattle.side.specs.Shifts.{less_by};
+ghost use Rattle.side.specs.Shifts.{keeps, keepers, less_by};
 
 use crate::rows;
-use crate::rows::{Index, PART, Rows};
+use crate::rows::{Index, PART};
+use crate::table::Table;
 use kinds::Shares;
 use rules::Resting;
 
@@ -16,11 +17,7 @@ use rules::Resting;
 fn within(place: usize, part: usize) -> u8
     ensures { result ≡ min (place - part) places_a_part }
 {
-    if place <= part {
-        return 0;
-    }
-    let far = place - part;
-    if far < PART { far as u8 } else { PART as u8 }
+    place.saturating_sub(part).min(PART) as u8
 }
 
 // What stands at place `j` once those from `lo` on, before `hi`, have each taken a neighbour's: the neighbour's, or its own.
@@ -35,12 +32,10 @@ fn raise(x: &mut Index, from: usize, to: usize)
     requires { (to ≤ from) × (from < places_a_side) }
     ensures { x.new ≡ rotated from to x.old }
 {
-    rows::whole_index(x);
     let v = x[from];
     let steps = rows::STEPS;
     let mut last: u8 = 0;
-    let mut part = 0;
-    while part <= from {
+    for part in (0..from + 1).step_by(PART) {
         let lo = within(to + 1, part);
         let hi = within(from + 1, part);
         for i in 0..PART {
@@ -49,7 +44,6 @@ fn raise(x: &mut Index, from: usize, to: usize)
             x[part + i] = turned(lo, hi, j, last, b);
             last = b;
         }
-        part += PART;
     }
     x[to] = v;
 }
@@ -59,12 +53,10 @@ fn lower(x: &mut Index, from: usize, to: usize)
     requires { (from ≤ to) × (to < places_a_side) }
     ensures { x.new ≡ rotated from to x.old }
 {
-    rows::whole_index(x);
     let v = x[from];
     let steps = rows::STEPS;
     let mut b = x[0];
-    let mut part = 0;
-    while part <= to {
+    for part in (0..to + 1).step_by(PART) {
         let lo = within(from, part);
         let hi = within(to, part);
         for i in 0..PART {
@@ -73,77 +65,86 @@ fn lower(x: &mut Index, from: usize, to: usize)
             x[part + i] = turned(lo, hi, j, next, b);
             b = next;
         }
-        part += PART;
     }
     x[to] = v;
 }
 
 // ── Orders ──
 
-// The side with one more order, at rank `at`: it takes the first free row.
-pub(crate) fn insert(x: &mut Index, t: &mut Rows, n: usize, at: usize, o: Resting)
-    requires { Holds n x.old t.old × (at ≤ n) × (n < places_a_side) }
-    ensures { Shows (insert_at at o (side n x.old t.old)) x.new t.new }
-{
-    rows::whole_index(x);
-    let slot = x[n];
-    raise(x, n, n - at);
-    let hint = rows::hint_of(o.number);
-    x[hint] = slot;
-    rows::put_row(t, rows::wide(slot), o);
-}
-
-// The side without the order at rank `at`: its row is free.
-pub fn remove(x: &mut Index, t: &Rows, n: usize, at: usize)
-    requires { Holds n x.old t.now × (at < n) }
-    ensures { Shows (remove_at at (side n x.old t.now)) x.new t.now }
-{
-    let last = n - 1;
-    lower(x, last - at, last);
-}
-
-// What is left of so many shares without others; nothing where these are more.
-fn without(all: u32, gone: u32) -> u32
-    ensures { result ≡ all - gone }
-{
-    if gone < all { all - gone } else { 0 }
-}
-
 // A minimum, or what is left of its order where that is less (02, W7): the shown part and the reserve, whose sum may be more than a word
 // holds.
 fn cut(minimum: u32, shown: u32, reserve: u32) -> u32
     ensures { result ≡ min minimum (shown + reserve) }
 {
-    if minimum <= shown {
-        return minimum;
-    }
-    if minimum - shown <= reserve {
-        return minimum;
-    }
-    shown + reserve
+    shown.saturating_add(reserve).min(minimum)
 }
 
-// The side with `part` shares fewer in the order at rank `at`: of its shown part first, and then of its reserve.
-pub fn reduce(x: &Index, t: &mut Rows, n: usize, at: usize, part: Shares)
-    requires { Holds n x.now t.old × (at < n) }
-    ensures { Shows (set (side n x.now t.old) at
-        (less_by part.0 (get_or (side n x.now t.old) at unused)))
-        x.now t.new }
+// Whether an order has something left, shown or in reserve.
+fn has_shares(o: Resting) -> bool
+    ensures { result ≡ keeps o }
 {
-    let slot = rows::slot_at(x, n, at);
-    let o = rows::row(t, slot);
-    let shown = without(o.shares.0, part.0);
-    let more = without(part.0, o.shares.0);
-    let reserve = without(o.reserve.0, more);
-    let minimum = cut(o.minimum.0, shown, reserve);
-    rows::put_row(
-        t,
-        slot,
-        Resting {
+    !((o.shares.0 == 0) & (o.reserve.0 == 0))
+}
+
+impl Table {
+    // The side with one more order, at rank `at`: it takes the first free row.
+    pub(crate) fn insert(&mut self, at: usize, o: Resting)
+        requires { (at ≤ length self.old) × (length self.old < places_a_side) }
+        ensures { self.new ≡ insert_at at o self.old }
+    {
+        let n = self.held;
+        let slot = self.index[n];
+        raise(&mut self.index, n, n - at);
+        let hint = rows::hint_of(o.number);
+        self.index[hint] = slot;
+        self.rows[usize::from(slot)] = rows::row_of(o);
+        self.held = n + 1;
+    }
+
+    // The side without the order at rank `at`: its row is free.
+    pub fn remove(&mut self, at: usize)
+        requires { at < length self.old }
+        ensures { self.new ≡ remove_at at self.old }
+    {
+        let last = self.held - 1;
+        lower(&mut self.index, last - at, last);
+        self.held = last;
+    }
+
+    // The side with `part` shares fewer in the order at rank `at`: of its shown part first, and then of its reserve.
+    pub fn reduce(&mut self, at: usize, part: Shares)
+        requires { at < length self.old }
+        ensures { self.new ≡ set self.old at (less_by part.0 (get_or self.old at unused)) }
+    {
+        let slot = rows::slot_at(&self.index, self.held, at);
+        let o = self.rows[slot].order;
+        let shown = o.shares.0.saturating_sub(part.0);
+        let more = part.0.saturating_sub(o.shares.0);
+        let reserve = o.reserve.0.saturating_sub(more);
+        let minimum = cut(o.minimum.0, shown, reserve);
+        self.rows[slot] = rows::row_of(Resting {
             shares: Shares(shown),
             reserve: Shares(reserve),
             minimum: Shares(minimum),
             ..o
-        },
-    );
+        });
+    }
+
+    // Of the first `reached` orders those leave that have nothing left. From the worst of them to the best, each changes places with the
+    // first that leaves, so that whoever leaves comes to stand behind; whether one counts is no branch.
+    pub fn close_up(&mut self, reached: usize)
+        requires within { reached ≤ length self.old }
+        requires others { every keeps (drop reached self.old) ≡ true }
+        ensures { self.new ≡ keepers self.old }
+    {
+        let mut to = self.held - reached;
+        for i in to..self.held {
+            let slot = self.index[i];
+            self.index[i] = self.index[to];
+            self.index[to] = slot;
+            let o = self.rows[usize::from(slot)].order;
+            to += usize::from(has_shares(o));
+        }
+        self.held = to;
+    }
 }

@@ -1,50 +1,33 @@
-// The book as a small header by value and two sides that are lent, each in an index and a table of rows: the form in which commands are
-// worked. The places of a side are loaded once, and saved once.
-ghost use Rattle.std.specs.Prelude.{[], map, ◌≡◌, ◌≤◌, ◌<◌};
-ghost use Rattle.side.specs.Table.{row_of, side, Holds, Shows};
+// The book as a small header by value and its two sides in place: the form in which commands are worked. The places of a side are loaded
+// once, and saved once.
+ghost use Rattle.std.specs.Prelude.{◌≡◌, ◌≤◌, ◌<◌, length, take};
 ghost use Rattle.rules.specs.Book.{places_a_side, places_of};
+ghost use Rattle.side.specs.Table.{index_size};
 ghost use Rattle.side.specs.Tables.{numbered_at, Numbered};
 
 use crate::rows;
-use crate::rows::{Index, PLACES, Rows};
+use crate::rows::{INDEX, Index, PLACES};
+use crate::table::Table;
 use rules::{Held, Resting};
+use std::marker::Model;
 
-// All of a book but its orders: of these, how many each side holds.
-#[derive(Clone, Copy)]
-pub struct Head {
+// A sound book in place.
+#[derive(Drop)]
+pub struct SoundBook {
     pub held: Held,
-    pub buys: usize,
-    pub sells: usize,
+    pub buys: Table,
+    pub sells: Table,
 }
 
-// What a command leaves: a refusal or 0, the header, and the length of the lines.
-#[derive(Clone, Copy)]
-pub struct Step {
-    pub refusal: u8,
-    pub head: Head,
-    pub length: usize,
-}
+impl Model for SoundBook {
+    ghost use Rattle.std.specs.Prelude.{◌≡◌, true};
+    ghost use Rattle.rules.specs.Book.{Book, sound};
 
-// A refusal leaves the header as it was, and no lines.
-pub fn refuse(h: Head, refusal: u8) -> Step
-    ensures { result ≡ record { refusal = refusal; head = h; length = 0 } }
-{
-    Step {
-        refusal: refusal,
-        head: h,
-        length: 0,
-    }
-}
+    ghost Value = { Book };
 
-// The places of a side as rows.
-pub fn load(t: &mut Rows, places: [Resting; PLACES])
-    ensures { t.new ≡ map row_of places }
-{
-    rows::whole(t);
-    for i in 0..PLACES {
-        let o = places[i];
-        rows::put_row(t, i, o);
-    }
+    ghost view = { λ a. record { held = a.held; buys = a.buys; sells = a.sells } };
+
+    ghost invariant = { λ a. sound (record { held = a.held; buys = a.buys; sells = a.sells }) ≡ true };
 }
 
 // The place at which a byte of a numbered index finds its row: the first `n` rows hold orders, the best in the first row.
@@ -56,35 +39,48 @@ fn numbered(n: usize, i: usize) -> usize
 }
 
 // An index of a side whose orders stand in the first `n` rows, in rank order.
-pub fn number(x: &mut Index, n: usize)
+fn number(x: &mut Index, n: usize)
     requires { n ≤ places_a_side }
     ensures { Numbered n x.new }
 {
-    rows::whole_index(x);
     for i in 0..PLACES {
         let slot = numbered(n, i);
         x[i] = slot as u8;
     }
 }
 
-// A side with no order: whatever the rows hold, none is in use, and each place names its own row.
-pub fn clear(x: &mut Index, t: &Rows)
-    ensures shows { Shows [] x.new t.now }
-    ensures numbered { Numbered 0 x.new }
+// The index of a side with no order: each place names its own row.
+pub(crate) fn own_rows() -> Index
+    ensures { Numbered 0 result }
 {
-    rows::whole(t);
-    number(x, 0);
+    let mut x: Index = [0; INDEX];
+    number(&mut x, 0);
+    x
 }
 
-// The orders of a side as its places.
-pub fn save(x: &Index, t: &Rows, n: usize) -> [Resting; PLACES]
-    requires { Holds n x.now t.now }
-    ensures { result ≡ (places_of (side n x.now t.now)).places }
-{
-    let mut places = [rows::UNUSED; PLACES];
-    for i in 0..n {
-        let o = rows::at(x, t, n, i);
-        places[i] = o;
+impl Table {
+    // The orders that stand in the first `used` places, in their order.
+    pub fn load(&mut self, places: &[Resting; PLACES], used: usize)
+        requires { used ≤ places_a_side }
+        ensures { self.new ≡ take used places.now }
+    {
+        for i in 0..used {
+            let o = places[i];
+            self.rows[i] = rows::row_of(o);
+        }
+        number(&mut self.index, used);
+        self.held = used;
     }
-    places
+
+    // The orders of the side as its places.
+    pub fn save(&self) -> [Resting; PLACES]
+        ensures { result ≡ (places_of self.now).places }
+    {
+        let mut places = [rows::UNUSED; PLACES];
+        for i in 0..self.len() {
+            let o = self.at(i);
+            places[i] = o;
+        }
+        places
+    }
 }

@@ -1,5 +1,5 @@
 -- `side::place_of` meets its contract: it looks at a place before it hands it on. Assumes nothing.
-use Prim.Native.Nat.{◌+◌, ◌<◌, max}
+use Prim.Native.Nat.{◌+◌, ◌<◌}
 use mathlib.Core.Bool.{true, false}
 use mathlib.Core.Logic.{⊎_elim}
 use mathlib.Core.Path.{◌≡◌}
@@ -26,11 +26,4 @@ loop-i-preserved c =
     (λ (t : eqb b a.slot ≡ true). omega (arith, rw t at it))
     (λ (t : eqb b a.slot ≡ false). omega (arith, rw t at it))
     (holds_or_not (eqb b a.slot)) in
-    let e : c.greater-found.result ≡ max c.here.result m.found = c.greater-found.ensures in
-    (omega arith, omega arith)
-
-pub returns-then-x-at : goal.returns-then-x-at
-returns-then-x-at c = λ l. c.if-x-at.true
-
-pub returns : goal.returns
-returns c = λ l. let z : ⊥ = omega (arith, l) in absurd z
+    (omega arith, omega (arith, below))

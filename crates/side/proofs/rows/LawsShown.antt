@@ -6,45 +6,47 @@ use mathlib.Core.List.{List, [], ◌∷◌, map}
 use mathlib.Core.Logic.{⊎_elim}
 use mathlib.Core.Path.{◌≡◌, refl, sym, ap, ◌∙◌}
 use lib.Dec.{eqb}
-use lib.ListN.{length, get_or, set, drop, length-append, length-take, length-drop, length-map, length-set}
+use lib.ListN.{length, get_or, set, drop, length-map, length-set}
 use lib.Seq.{get_or-set_same, get_or-set_other}
+use Rattle.std.proofs.lemmas.List.{get_or-map}
 use native.Mathlib.Omega.{arith}
 use borrow.Author.Tests.{eq-eqb, eqb-false}
 use Rattle.basics.specs.Lists.{times, insert_at, remove_at}
 use Rattle.basics.proofs.LawsChoice.{holds_or_not}
-use Rattle.basics.proofs.LawsLists.{map_drop, map_set, map_insert_at, map_remove_at, length_remove_at}
+use Rattle.basics.proofs.LawsLists.{map_drop, map_set, map_insert_at, map_remove_at}
 use Rattle.rules.specs.declared.Resting.{Resting}
 use Rattle.rules.specs.Book.{places_a_side, unused}
-use Rattle.side.specs.Table.{order_of, row_of, level_of, level_in, ranked, rows_at, side, Names, Holds, Shows}
+use Rattle.side.specs.declared.rows.Row.{Row}
+use Rattle.side.specs.declared.table.Table.TheInside.{Inside}
+use Rattle.side.specs.Table.{order_of, row_of, level_of, level_in, free, ranked, rows_at, side, Names, Holds}
 use Rattle.side.proofs.rows.LawsTable.{orders_rows}
 use Rattle.side.proofs.rows.LawsIndex.{length_ranked, ranked_at, ranked_drop, names_below, ranked_once, next_free, times_there}
 
 -- ── The orders of a side ──
 
-pub length_side : (n : ℕ) (x : List ℕ) (t : List (List ℕ)) → length (side n x t) ≡ n
-length_side n x t = length-map (rows_at t (ranked n x)) order_of ∙ length-map (ranked n x) (λ (j : ℕ). get_or t j []) ∙ length_ranked n x
+pub length_side : (n : ℕ) (x : List ℕ) (t : List Row) → length (side n x t) ≡ n
+length_side n x t = length-map (rows_at t (ranked n x)) order_of ∙ length-map (ranked n x) (λ (j : ℕ). get_or t j free) ∙ length_ranked n x
 
-pub get_d_map_in : {A B : Type 0} (g : A → B) (s : List A) (i : ℕ) (d : A) (e : B) → i < length s → get_or (map g s) i e ≡ g (get_or s i d)
-get_d_map_in g [] i d e p = let z : ⊥ = omega arith in absurd z
-get_d_map_in g (x ∷ s) zero d e p = refl
-get_d_map_in g (x ∷ s) (suc i) d e p = get_d_map_in g s i d e (omega arith)
+-- how many orders a table holds is the length of its side
+pub length_is : (t : Inside) {s : List Resting} → side t.held t.index t.rows ≡ s → t.held ≡ length s
+length_is t e = sym (length_side t.held t.index t.rows) ∙ ap length e
 
-module _ (n : ℕ) (x : List ℕ) (t : List (List ℕ)) (i : ℕ) (l : i < n) where
-  row_at : get_or (rows_at t (ranked n x)) i [] ≡ get_or t (get_or (ranked n x) i 0) []
-  row_at = get_d_map_in (λ (j : ℕ). get_or t j []) (ranked n x) i 0 [] (omega (arith, length_ranked n x))
+module _ (n : ℕ) (x : List ℕ) (t : List Row) (i : ℕ) (l : i < n) where
+  row_at : get_or (rows_at t (ranked n x)) i free ≡ get_or t (get_or (ranked n x) i 0) free
+  row_at = get_or-map (λ (j : ℕ). get_or t j free) (ranked n x) i 0 free (omega (arith, length_ranked n x))
 
   -- the order at a rank stands in the row that the index names there
-  pub order_at : order_of (get_or t (get_or (ranked n x) i 0) []) ≡ get_or (side n x t) i unused
+  pub order_at : order_of (get_or t (get_or (ranked n x) i 0) free) ≡ get_or (side n x t) i unused
   order_at =
-      let m : i < length (rows_at t (ranked n x)) = omega (arith, length-map (ranked n x) (λ (j : ℕ). get_or t j []), length_ranked n x) in
-      ap order_of (sym row_at) ∙ sym (get_d_map_in order_of (rows_at t (ranked n x)) i [] unused m)
+      let m : i < length (rows_at t (ranked n x)) = omega (arith, length-map (ranked n x) (λ (j : ℕ). get_or t j free), length_ranked n x) in
+      ap order_of (sym row_at) ∙ sym (get_or-map order_of (rows_at t (ranked n x)) i free unused m)
 
   -- that row is the order's row, so it has the order's level
-  pub level_at_lem : Holds n x t → (buy : Bool) → level_in buy (get_or t (get_or (ranked n x) i 0) []) ≡ level_of buy (get_or (side n x t) i unused)
+  pub level_at_lem : Holds n x t → (buy : Bool) → level_in buy (get_or t (get_or (ranked n x) i 0) free) ≡ level_of buy (get_or (side n x t) i unused)
   level_at_lem h buy =
       let m : i < length (side n x t) = omega (arith, length_side n x t) in
-      let r : get_or t (get_or (ranked n x) i 0) [] ≡ row_of (get_or (side n x t) i unused) =
-      sym row_at ∙ ap (λ (rs : List (List ℕ)). get_or rs i []) h.words ∙ get_d_map_in row_of (side n x t) i unused [] m in
+      let r : get_or t (get_or (ranked n x) i 0) free ≡ row_of (get_or (side n x t) i unused) =
+      sym row_at ∙ ap (λ (rs : List Row). get_or rs i free) h.words ∙ get_or-map row_of (side n x t) i unused free m in
       ap (level_in buy) r ∙ by_side buy (get_or (side n x t) i unused)
     where
       by_side : (b : Bool) (o : Resting) → level_in b (row_of o) ≡ level_of b o
@@ -53,37 +55,25 @@ module _ (n : ℕ) (x : List ℕ) (t : List (List ℕ)) (i : ℕ) (l : i < n) wh
 
 -- ── A side that is shown ──
 
-pub holds_shows : (n : ℕ) (x : List ℕ) (t : List (List ℕ)) → Holds n x t → Shows (side n x t) x t
-holds_shows n x t h = let e = length_side n x t in record {
-  holds = rw e h;
-  is = rw e refl;
-}
-
-module _ (s : List Resting) (x : List ℕ) (t : List (List ℕ)) (n : ℕ) (long : length s ≡ n) (shows : Shows s x t) where
-  pub shown_holds : Holds n x t
-  shown_holds = rw long at shows.holds
-
-  pub shown_side : side n x t ≡ s
-  shown_side = rw long at shows.is
-
--- what is shown is determined: the side, and not the rows in which it stands
-pub shown_same : {s : List Resting} {x x' : List ℕ} {t t' : List (List ℕ)} → Shows s x t → Shows s x' t' → side (length s) x t ≡ side (length s) x' t'
-shown_same p q = p.is ∙ sym q.is
+-- an index and a table hold n orders, and they are these
+pub record Shows (s : List Resting) (n : ℕ) (x : List ℕ) (t : List Row) : Type 0 where
+  pub holds : Holds n x t
+  pub is : side n x t ≡ s
 
 -- rows that are those of some orders show them
-pub shows_rows : (s : List Resting) (x : List ℕ) (t : List (List ℕ)) (n : ℕ) → length s ≡ n → n ≤ places_a_side → length t ≡ places_a_side → Names x
-    → rows_at t (ranked n x) ≡ map row_of s → Shows s x t
-shows_rows s x t n long fits all names rows =
+pub shows_rows : (s : List Resting) (x : List ℕ) (t : List Row) (n : ℕ) → n ≤ places_a_side → length t ≡ places_a_side → Names x
+    → rows_at t (ranked n x) ≡ map row_of s → Shows s n x t
+shows_rows s x t n fits all names rows =
     let is : side n x t ≡ s = ap (map order_of) rows ∙ orders_rows s in
     record {
-      holds = rw long (record { fits = fits; all = all; names = names; words = rows ∙ ap (map row_of) (sym is) });
-      is = rw long is;
+      holds = record { fits = fits; all = all; names = names; words = rows ∙ ap (map row_of) (sym is) };
+      is = is;
     }
 
 -- ── Rows that are put ──
 
 -- a row that is not named
-put_free : (v : ℕ) (r : List ℕ) (t : List (List ℕ)) (js : List ℕ) → times v js ≡ 0 → rows_at (set t v r) js ≡ rows_at t js
+put_free : (v : ℕ) (r : Row) (t : List Row) (js : List ℕ) → times v js ≡ 0 → rows_at (set t v r) js ≡ rows_at t js
 unfolding times
 put_free v r t [] z = refl
 put_free v r t (j ∷ js) z =
@@ -92,19 +82,19 @@ put_free v r t (j ∷ js) z =
     (λ (e : eqb j v ≡ false).
     let ne = eqb-false j v e in
     let h = put_free v r t js (omega (arith, rw e at z)) in
-    let g : get_or (set t v r) j [] ≡ get_or t j [] = get_or-set_other t v j r [] ne in
+    let g : get_or (set t v r) j free ≡ get_or t j free = get_or-set_other t v j r free ne in
     rw (g, h))
     (holds_or_not (eqb j v))
 
 -- a row that is named once
-put_named : (r : List ℕ) (t : List (List ℕ)) (js : List ℕ) (i : ℕ) → i < length js → get_or js i 0 < length t → times (get_or js i 0) js ≤ 1
+put_named : (r : Row) (t : List Row) (js : List ℕ) (i : ℕ) → i < length js → get_or js i 0 < length t → times (get_or js i 0) js ≤ 1
     → rows_at (set t (get_or js i 0) r) js ≡ set (rows_at t js) i r
 unfolding times
 put_named r t [] i l b o = let z : ⊥ = omega arith in absurd z
 put_named r t (j ∷ js) zero l b o =
     let e = eq-eqb j j refl in
     let h = put_free j r t js (omega (arith, rw e at o)) in
-    let g : get_or (set t j r) j [] ≡ r = get_or-set_same t j r [] b in
+    let g : get_or (set t j r) j free ≡ r = get_or-set_same t j r free b in
     rw (g, h)
 put_named r t (j ∷ js) (suc i) l b o =
     let v = get_or js i 0 in
@@ -113,50 +103,50 @@ put_named r t (j ∷ js) (suc i) l b o =
     (λ (e : eqb j v ≡ false).
     let ne = eqb-false j v e in
     let h = put_named r t js i (omega arith) b (omega (arith, rw e at o)) in
-    let g : get_or (set t v r) j [] ≡ get_or t j [] = get_or-set_other t v j r [] ne in
+    let g : get_or (set t v r) j free ≡ get_or t j free = get_or-set_other t v j r free ne in
     rw (g, h))
     (holds_or_not (eqb j v))
 
 -- ── What becomes of a side ──
 
-module _ (n : ℕ) (x : List ℕ) (t : List (List ℕ)) (h : Holds n x t) where
+module _ (n : ℕ) (x : List ℕ) (t : List Row) (h : Holds n x t) where
   -- one more order, in the row of the next place, at rank `at`
-  pub side_inserted : (x' : List ℕ) (at : ℕ) (o : Resting) → at ≤ n → n < places_a_side → Names x' → ranked (n + 1) x' ≡ insert_at at (get_or x n 0) (ranked n x)
-      → Shows (insert_at at o (side n x t)) x' (set t (get_or x n 0) (row_of o))
-  side_inserted x' at o l p names e =
+  pub side_inserted : (x' : List ℕ) (at : ℕ) (o : Resting) → n < places_a_side → Names x' → ranked (n + 1) x' ≡ insert_at at (get_or x n 0) (ranked n x)
+      → Shows (insert_at at o (side n x t)) (n + 1) x' (set t (get_or x n 0) (row_of o))
+  side_inserted x' at o p names e =
       let v = get_or x n 0 in
       let t' = set t v (row_of o) in
       let b : v < length t = omega (arith, h.all, names_below x h.names n p) in
-      let new : get_or t' v [] ≡ row_of o = get_or-set_same t v (row_of o) [] b in
+      let new : get_or t' v free ≡ row_of o = get_or-set_same t v (row_of o) free b in
       let old : rows_at t' (ranked n x) ≡ map row_of (side n x t) = put_free v (row_of o) t (ranked n x) (next_free x h.names n p) ∙ h.words in
-      let long : length (insert_at at o (side n x t)) ≡ n + 1 = simp (length-append, length-take, length-drop) (omega (arith, length_side n x t)) in
-      shows_rows (insert_at at o (side n x t)) x' t' (n + 1) long (omega arith) (length-set t v (row_of o) ∙ h.all) names
-      (ap (rows_at t') e ∙ map_insert_at (λ (j : ℕ). get_or t' j []) at v (ranked n x) ∙ rw (new, old) (sym (map_insert_at row_of at o (side n x t))))
+      shows_rows (insert_at at o (side n x t)) x' t' (n + 1) (omega arith) (length-set t v (row_of o) ∙ h.all) names
+      (ap (rows_at t') e ∙ map_insert_at (λ (j : ℕ). get_or t' j free) at v (ranked n x) ∙ rw (new, old) (sym (map_insert_at row_of at o (side n x t))))
 
   -- one order fewer
-  pub side_removed : (x' : List ℕ) (at : ℕ) → at < n → Names x' → ranked (n - 1) x' ≡ remove_at at (ranked n x) → Shows (remove_at at (side n x t)) x' t
-  side_removed x' at l names e =
-      let m : at < length (side n x t) = omega (arith, length_side n x t) in
-      let long : length (remove_at at (side n x t)) ≡ n - 1 = length_remove_at at (side n x t) m ∙ rw (length_side n x t) in
+  pub side_removed : (x' : List ℕ) (at : ℕ) → Names x' → ranked (n - 1) x' ≡ remove_at at (ranked n x) → Shows (remove_at at (side n x t)) (n - 1) x' t
+  side_removed x' at names e =
       let f = h.fits in
-      shows_rows (remove_at at (side n x t)) x' t (n - 1) long (omega arith) h.all names
-      (ap (rows_at t) e ∙ map_remove_at (λ (j : ℕ). get_or t j []) at (ranked n x) ∙ (ap (λ (rs : List (List ℕ)). remove_at at rs) h.words ∙ sym (map_remove_at row_of at (side n x t))))
+      shows_rows (remove_at at (side n x t)) x' t (n - 1) (omega arith) h.all names
+      (ap (rows_at t) e ∙ map_remove_at (λ (j : ℕ). get_or t j free) at (ranked n x) ∙ (ap (λ (rs : List Row). remove_at at rs) h.words ∙ sym (map_remove_at row_of at (side n x t))))
 
   -- another order in the place of one
-  pub side_put : (at : ℕ) (o : Resting) → at < n → Shows (set (side n x t) at o) x (set t (get_or (ranked n x) at 0) (row_of o))
+  pub side_put : (at : ℕ) (o : Resting) → at < n → Shows (set (side n x t) at o) n x (set t (get_or (ranked n x) at 0) (row_of o))
   side_put at o l =
       let v = get_or (ranked n x) at 0 in
       let f = h.fits in
       let m : at < length (ranked n x) = omega (arith, length_ranked n x) in
       let b : v < length t = rw (ranked_at n x at l) (omega (arith, h.all, names_below x h.names (n - 1 - at) (omega arith))) in
-      let long : length (set (side n x t) at o) ≡ n = length-set (side n x t) at o ∙ length_side n x t in
-      shows_rows (set (side n x t) at o) x (set t v (row_of o)) n long f (length-set t v (row_of o) ∙ h.all) h.names
-      (put_named (row_of o) t (ranked n x) at m b (ranked_once x h.names n f v) ∙ (ap (λ (rs : List (List ℕ)). set rs at (row_of o)) h.words ∙ sym (map_set row_of (side n x t) at o)))
+      shows_rows (set (side n x t) at o) x (set t v (row_of o)) n f (length-set t v (row_of o) ∙ h.all) h.names
+      (put_named (row_of o) t (ranked n x) at m b (ranked_once x h.names n f v) ∙ (ap (λ (rs : List Row). set rs at (row_of o)) h.words ∙ sym (map_set row_of (side n x t) at o)))
 
   -- the best k left out: nothing moves
-  pub side_dropped : (k : ℕ) → k ≤ n → Shows (drop k (side n x t)) x t
+  pub side_dropped : (k : ℕ) → k ≤ n → Shows (drop k (side n x t)) (n - k) x t
   side_dropped k l =
       let f = h.fits in
-      let long : length (drop k (side n x t)) ≡ n - k = length-drop k (side n x t) ∙ rw (length_side n x t) in
-      shows_rows (drop k (side n x t)) x t (n - k) long (omega arith) h.all h.names
-      (ap (rows_at t) (sym (ranked_drop n x k l)) ∙ map_drop (λ (j : ℕ). get_or t j []) k (ranked n x) ∙ (ap (drop k) h.words ∙ sym (map_drop row_of k (side n x t))))
+      shows_rows (drop k (side n x t)) x t (n - k) (omega arith) h.all h.names
+      (ap (rows_at t) (sym (ranked_drop n x k l)) ∙ map_drop (λ (j : ℕ). get_or t j free) k (ranked n x) ∙ (ap (drop k) h.words ∙ sym (map_drop row_of k (side n x t))))
+
+  -- no order
+  pub side_cleared : Shows [] 0 x t
+  unfolding ranked
+  side_cleared = shows_rows [] x t 0 (omega arith) h.all h.names refl

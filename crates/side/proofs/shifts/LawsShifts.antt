@@ -12,9 +12,10 @@ use Rattle.basics.specs.Lists.{times, insert_at, remove_at}
 use Rattle.basics.proofs.LawsLists.{length_remove_at}
 use Rattle.rules.specs.declared.Resting.{Resting}
 use Rattle.rules.specs.Book.{places_a_side}
-use Rattle.side.specs.Table.{row_of, ranked, rotated, side, Names, Holds, Shows}
+use Rattle.side.specs.declared.rows.Row.{Row}
+use Rattle.side.specs.Table.{row_of, ranked, rotated, side, Names, Holds}
 use Rattle.side.proofs.rows.LawsIndex.{length_ranked, ranked_alike, times_insert_at, names_same}
-use Rattle.side.proofs.rows.LawsShown.{side_inserted, side_removed}
+use Rattle.side.proofs.rows.LawsShown.{Shows, side_inserted, side_removed}
 use Rattle.side.proofs.shifts.LawsRotated.{inserted_before, inserted_there, inserted_behind, removed_before, insert_at_remove_at, remove_at_insert_at, length_rotated}
 
 -- ── The rows in rank order ──
@@ -83,22 +84,22 @@ module _ (x : List ℕ) (names : Names x) where
 
 -- ── The side that it shows ──
 
-module _ (n : ℕ) (x : List ℕ) (t : List (List ℕ)) (h : Holds n x t) where
+module _ (n : ℕ) (x : List ℕ) (t : List Row) (h : Holds n x t) where
   pub shows_inserted : (at hint : ℕ) (o : Resting) → at ≤ n → n < places_a_side → places_a_side ≤ hint
-      → Shows (insert_at at o (side n x t)) (set (rotated n (n - at) x) hint (get_or x n 0)) (set t (get_or x n 0) (row_of o))
+      → Shows (insert_at at o (side n x t)) (n + 1) (set (rotated n (n - at) x) hint (get_or x n 0)) (set t (get_or x n 0) (row_of o))
   shows_inserted at hint o l p far =
       let x₁ = rotated n (n - at) x in
       let v = get_or x n 0 in
       let all = h.names.long in
       let e : n - (n - at) ≡ at = omega arith in
-      side_inserted n x t h (set x₁ hint v) at o l p (names_hinted x₁ (names_rotated x h.names n (n - at) p (omega arith)) hint v far)
+      side_inserted n x t h (set x₁ hint v) at o p (names_hinted x₁ (names_rotated x h.names n (n - at) p (omega arith)) hint v far)
       (ranked_hinted x₁ (n + 1) hint v (omega arith) ∙ rw e at (ranked_raised x n (n - at) (omega arith) (omega arith)))
 
-  pub shows_removed : (at : ℕ) → at < n → Shows (remove_at at (side n x t)) (rotated (n - 1 - at) (n - 1) x) t
+  pub shows_removed : (at : ℕ) → at < n → Shows (remove_at at (side n x t)) (n - 1) (rotated (n - 1 - at) (n - 1) x) t
   shows_removed at l =
       let all = h.names.long in
       let fits = h.fits in
       let e : n - 1 - (n - 1 - at) ≡ at = omega arith in
       let m : suc (n - 1) ≡ n = omega arith in
-      side_removed n x t h (rotated (n - 1 - at) (n - 1) x) at l (names_rotated x h.names (n - 1 - at) (n - 1) (omega arith) (omega arith))
+      side_removed n x t h (rotated (n - 1 - at) (n - 1) x) at (names_rotated x h.names (n - 1 - at) (n - 1) (omega arith) (omega arith))
       (rw (e, m) at (ranked_lowered x (n - 1 - at) (n - 1) (omega arith) (omega arith) (omega arith)))

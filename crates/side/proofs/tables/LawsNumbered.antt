@@ -13,12 +13,13 @@ use borrow.Author.Tests.{eqb-true, lt-ltb, le-ltb}
 use Rattle.std.specs.Prelude.{if◌then◌else◌}
 use Rattle.basics.specs.Lists.{times}
 use Rattle.basics.proofs.LawsChoice.{holds_or_not, lt_or_le}
-use Rattle.basics.proofs.LawsLists.{map_take}
 use Rattle.rules.specs.declared.Resting.{Resting}
 use Rattle.rules.specs.Book.{places_a_side}
-use Rattle.side.specs.Table.{row_of, ranked, rows_at, Names, Shows}
+use Rattle.side.specs.declared.rows.Row.{Row}
+use Rattle.side.specs.Table.{row_of, free, ranked, rows_at, Names}
 use Rattle.side.proofs.rows.LawsIndex.{length_ranked, ranked_at}
-use Rattle.side.proofs.rows.LawsShown.{get_d_map_in, shows_rows}
+use Rattle.std.proofs.lemmas.List.{get_or-map}
+use Rattle.side.proofs.rows.LawsShown.{Shows, shows_rows}
 use Rattle.side.specs.Tables.{numbered_at, Numbered}
 
 -- who stands at a place stands there by turning round the first n places, and turning them again leads back
@@ -77,28 +78,24 @@ module _ (n : ℕ) (x : List ℕ) (fits : n ≤ places_a_side) (numbered : Numbe
           (lt_or_le k m)
 
   -- the rows in rank order are the first n rows
-  rows_first : (t : List (List ℕ)) → length t ≡ places_a_side → rows_at t (ranked n x) ≡ take n t
+  rows_first : (t : List Row) → length t ≡ places_a_side → rows_at t (ranked n x) ≡ take n t
   rows_first t all =
-      ext_get_or [] (rows_at t (ranked n x)) (take n t)
-      (length-map (ranked n x) (λ (j : ℕ). get_or t j []) ∙ length_ranked n x ∙ sym (length-take-le n t (omega arith)))
-      (λ i l. each i (omega (arith, l, length-map (ranked n x) (λ (j : ℕ). get_or t j []), length_ranked n x)))
+      ext_get_or free (rows_at t (ranked n x)) (take n t)
+      (length-map (ranked n x) (λ (j : ℕ). get_or t j free) ∙ length_ranked n x ∙ sym (length-take-le n t (omega arith)))
+      (λ i l. each i (omega (arith, l, length-map (ranked n x) (λ (j : ℕ). get_or t j free), length_ranked n x)))
     where
-      each : (i : ℕ) → i < n → get_or (rows_at t (ranked n x)) i [] ≡ get_or (take n t) i []
+      each : (i : ℕ) → i < n → get_or (rows_at t (ranked n x)) i free ≡ get_or (take n t) i free
       each i l =
           let back : n - 1 - i < n = omega arith in
           let is : get_or (ranked n x) i 0 ≡ i =
           ranked_at n x i l ∙ (numbered.each (n - 1 - i) (omega arith) ∙ rw (lt-ltb (n - 1 - i) n back) (omega arith)) in
-          get_d_map_in (λ (j : ℕ). get_or t j []) (ranked n x) i 0 [] (omega (arith, length_ranked n x))
-          ∙ (ap (λ (j : ℕ). get_or t j []) is ∙ sym (get_or-take n t i [] l))
+          get_or-map (λ (j : ℕ). get_or t j free) (ranked n x) i 0 free (omega (arith, length_ranked n x))
+          ∙ (ap (λ (j : ℕ). get_or t j free) is ∙ sym (get_or-take n t i free l))
 
   -- what was loaded is shown
-  pub numbered_shows : (places : List Resting) → length places ≡ places_a_side → Shows (take n places) x (map row_of places)
-  numbered_shows places all =
-      let long = length-map places row_of ∙ all in
-      shows_rows (take n places) x (map row_of places) n (length-take-le n places (omega arith)) fits long numbered_names
-      (rows_first (map row_of places) long ∙ sym (map_take row_of n places))
+  pub numbered_shows : (s : List Resting) (t : List Row) → length t ≡ places_a_side → take n t ≡ map row_of s → Shows s n x t
+  numbered_shows s t all e = shows_rows s x t n fits all numbered_names (rows_first t all ∙ e)
 
--- and of no orders any table will do
-pub numbered_none : (x : List ℕ) (t : List (List ℕ)) → Numbered 0 x → length t ≡ places_a_side → Shows [] x t
-unfolding ranked
-numbered_none x t numbered all = shows_rows [] x t 0 refl (omega arith) all (numbered_names 0 x (omega arith) numbered) refl
+-- a side with no order, whatever the rows
+pub numbered_none : (x : List ℕ) (t : List Row) → Numbered 0 x → length t ≡ places_a_side → Shows [] 0 x t
+numbered_none x t numbered all = numbered_shows 0 x (omega arith) numbered [] t all refl

@@ -11,6 +11,7 @@ use Rattle.side.specs.Table.{index_size, places_a_part}
 use Rattle.side.proofs.rows.LawsSteps.{counted, steps, step_at}
 use Rattle.side.proofs.shifts.LawsRotated.{lowering_step, filled_end, within_le, within_lt}
 use Rattle.side.proofs.shifts.lower.Goals as goal
+use Rattle.side.proofs.shifts.lower.Goals.{else-loop-part-test, then-loop-part-test+else-loop-i-test+else-part-end-part-gt64}
 
 pub loop-i-init : goal.loop-i-init
 loop-i-init c =
@@ -51,7 +52,7 @@ loop-part-preserved c =
     let l = c.loop-part in
     let m = c.loop-i in
     let x₀ = c.args.x.now in
-    let long : length x₀ ≡ index_size = c.whole_index.ensures in
+    let long : length x₀ ≡ index_size = c.told-x in
     let all : l.part + m.i ≡ l.part + places_a_part = omega arith in
     (omega arith, rw all at (m.invariant.2 x₀ long l.invariant.1))
 
@@ -60,5 +61,10 @@ returns c =
     let l = c.loop-part in
     let a = c.args in
     let x₀ = a.x.now in
-    let long : length x₀ ≡ index_size = c.whole_index.ensures in
-    filled_end a.from a.to x₀ l.part l.x l.invariant.1.0 (omega arith) (omega arith) (omega arith) (omega arith)
+    let long : length x₀ ≡ index_size = c.told-x in
+    elim c.loop-part-test.branch [
+      | else-loop-part-test w ↦ rw w.x-is (filled_end a.from a.to x₀ l.part l.x l.invariant.1.0 (omega arith) (omega arith) (omega arith) (omega arith))
+      | then-loop-part-test+else-loop-i-test+else-part-end-part-gt64 w ↦
+          rw w.x-is
+          (filled_end a.from a.to x₀ (l.part + w.loop-i.i) w.loop-i.x (w.loop-i.invariant.2 x₀ long l.invariant.1).0 (omega arith) (omega arith) (omega arith) (omega arith))
+    ]

@@ -22,7 +22,7 @@ one_more_lem n i v x l e before k m =
     (lt_or_le k i)
 
 pub loop-i-init : goal.loop-i-init
-loop-i-init c = (omega arith, c.whole_index.ensures, λ k l. let z : ⊥ = omega (arith, l) in absurd z)
+loop-i-init c = (omega arith, c.told-x, λ k l. let z : ⊥ = omega (arith, l) in absurd z)
 
 pub overflow_cast-x : goal.overflow_cast-x
 overflow_cast-x c = omega (arith, c.numbered-slot.ensures.1)

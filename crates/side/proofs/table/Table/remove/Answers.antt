@@ -1,0 +1,32 @@
+-- `side::table::Table::remove` meets its contract: the row is named behind those in use. Assumes nothing.
+use mathlib.Core.List.{List}
+use mathlib.Core.Path.{ap, ◌∙◌}
+use native.Mathlib.Omega.{arith}
+use Rattle.basics.specs.Lists.{remove_at}
+use Rattle.rules.specs.declared.Resting.{Resting}
+use Rattle.side.proofs.rows.LawsShown.{length_is}
+use Rattle.side.proofs.shifts.LawsShifts.{shows_removed}
+use Rattle.side.proofs.table.Table.remove.Goals as goal
+
+pub overflow_sub-last : goal.overflow_sub-last
+overflow_sub-last c = omega (arith, c.requires, length_is c.self.inside c.self.view_is)
+
+pub overflow_sub-last-2 : goal.overflow_sub-last-2
+overflow_sub-last-2 c = omega (arith, c.requires, length_is c.self.inside c.self.view_is)
+
+pub lower-requires : goal.lower-requires
+lower-requires c = (omega arith, omega (arith, c.self.invariant.fits, c.requires, length_is c.self.inside c.self.view_is))
+
+pub invariant_of-self : goal.invariant_of-self
+invariant_of-self c =
+    let t = c.self.inside in
+    rw c.lower.ensures (shows_removed t.held t.index t.rows c.self.invariant c.args.at (omega (arith, c.requires, length_is c.self.inside c.self.view_is))).holds
+
+pub returns : goal.returns
+returns c =
+    let t = c.self.inside in
+    let at = c.args.at in
+    rw c.lower.ensures (
+    (shows_removed t.held t.index t.rows c.self.invariant at (omega (arith, c.requires, length_is c.self.inside c.self.view_is))).is
+    ∙ ap (λ (s : List Resting). remove_at at s) c.self.view_is
+    )
