@@ -1,6 +1,6 @@
 -- The invariant of a loop that settles a side one order after the other, whatever the fate of each: what is still to be done, with what was
 -- done, is what settles the whole side. Assumes nothing.
-use Prim.Native.Nat.{ℕ, zero, suc, ◌+◌, ◌-◌, ◌≤◌, ◌<◌}
+use Prim.Native.Nat.{ℕ, zero, suc, ◌+◌, ◌≤◌, ◌<◌}
 use mathlib.Core.Bool.{Bool, true}
 use mathlib.Core.List.{List, [], ◌∷◌, ◌++◌, append-nil, append_assoc}
 use mathlib.Core.Path.{◌≡◌, refl, sym, ap, ◌∙◌}
@@ -11,10 +11,8 @@ use native.Mathlib.Omega.{arith}
 use Rattle.basics.specs.Bytes.{onto, onto_from}
 use Rattle.basics.specs.Lists.{remove_at, gathered, All, none, also}
 use Rattle.basics.proofs.LawsBytes.{onto_none, onto_next}
-use Rattle.basics.proofs.LawsLists.{all_alike, length_remove_at}
+use Rattle.basics.proofs.LawsLists.{all_alike}
 use Rattle.kinds.specs.declared.Number.{Number}
-use Rattle.side.specs.Table.{side, Holds, Shows}
-use Rattle.side.proofs.rows.LawsShown.{length_side, holds_shows}
 use Rattle.rules.specs.declared.Event.{Event}
 use Rattle.rules.specs.declared.Fate.{Fate}
 use Rattle.rules.specs.declared.Fate.TheVariants.{Stays, IsCancelled, IsSet}
@@ -24,10 +22,10 @@ use Rattle.rules.specs.EventLines.{event_lines}
 use Rattle.rules.specs.Settling.{stamped_as, set_by, told_by, set_anew, told, settled_side}
 use Rattle.rules.proofs.LawsCommands.{IfSet}
 use Rattle.rules.proofs.LawsEvents.{event_lines_append, none_long}
-use Rattle.soundness.proofs.LawsInsert.{Added, here, later, added_insert, added_length, added_all, ranked_insert}
+use Rattle.soundness.proofs.LawsInsert.{Added, here, later, added_insert, added_all, ranked_insert}
 use Rattle.rules.proofs.LawsRank.{earlier_place, earlier_transitive, ranked_first, ranked_rest, ranked_more}
 use Rattle.soundness.proofs.LawsSettled.{next_place}
-use Rattle.settling.specs.declared.Settled.{Settled}
+use Rattle.settling.specs.declared.Settling.{Settling}
 use Rattle.side.specs.Looking.{Older}
 use Rattle.settling.specs.OneByOne.{settled_at, after_one, set_below, settled_in}
 use Rattle.settling.proofs.LawsOneByOne.{Stay, SetStays, added_others, told_one, anew_one, settled_one, told_none, anew_none, settled_none}
@@ -55,23 +53,35 @@ all_front (suc i) p (later d) (also q a) = also q (all_front i p d a)
 
 -- ── The invariant ──
 
--- a side s is left of s₀, with `len` bytes of lines written onto out₀, and the next move is the k-th
-pub record Settling (fate : Resting → Fate) (n : Number) (buy : Bool) (first : ℕ) (s₀ : List Resting) (out₀ : List ℕ)
-    (s : List Resting) (k len : ℕ) (out : List ℕ) : Type 0 where
-  pub ends : settled_side n k buy fate s ≡ settled_side n first buy fate s₀
-  pub counts : k + length (set_anew fate s) ≡ first + length (set_anew fate s₀)
+-- a side s is left of s₀, the command has come from `first` to m with it, and the lines are written onto out₀
+pub record IsSettling (fate : Resting → Fate) (first : Settling) (s₀ : List Resting) (out₀ : List ℕ)
+    (s : List Resting) (m : Settling) (out : List ℕ) : Type 0 where
+  pub number : m.number ≡ first.number
+  pub buying : m.buying ≡ first.buying
+  pub ends : settled_side m.number m.next m.buying fate s ≡ settled_side m.number first.next m.buying fate s₀
+  pub counts : m.next + length (set_anew fate s) ≡ first.next + length (set_anew fate s₀)
   pub done : List Event
   pub lines : done ++ told fate s ≡ told fate s₀
-  pub long : len ≡ length (event_lines done)
+  pub long : m.length ≡ length (event_lines done)
   pub written : out ≡ onto (event_lines done) out₀
-  pub ranked : in_rank_order buy s ≡ true
-  pub older : All (Older (stamp n k)) s
+  pub ranked : in_rank_order m.buying s ≡ true
+  pub older : All (Older (stamp m.number m.next)) s
 
-pub settling_start : (fate : Resting → Fate) (n : Number) (buy : Bool) (first : ℕ) (s : List Resting) (out : List ℕ) → in_rank_order buy s ≡ true
-    → All (Older (stamp n first)) s → Settling fate n buy first s out s first 0 out
+pub settling_start : (fate : Resting → Fate) (first : Settling) (s : List Resting) (out : List ℕ) → first.length ≡ 0
+    → in_rank_order first.buying s ≡ true → All (Older (stamp first.number first.next)) s → IsSettling fate first s out s first out
 unfolding event_lines
-settling_start fate n buy first s out r o =
-    record { ends = refl; counts = refl; done = []; lines = refl; long = refl; written = onto_none out; ranked = r; older = o }
+settling_start fate first s out z r o = record {
+  number = refl;
+  buying = refl;
+  ends = refl;
+  counts = refl;
+  done = [];
+  lines = refl;
+  long = z;
+  written = onto_none out;
+  ranked = r;
+  older = o;
+}
 
 pub anew_fit : (fate : Resting → Fate) (s : List Resting) → length (set_anew fate s) ≤ length s
 unfolding set_anew gathered
@@ -83,21 +93,30 @@ anew_fit fate (h ∷ s) = by_fate (fate h) (anew_fit fate s)
     by_fate (IsCancelled reason) l = omega arith
     by_fate (IsSet new) l = omega arith
 
-module _ {fate : Resting → Fate} {n : Number} {buy : Bool} {first : ℕ} {s₀ : List Resting} {out₀ : List ℕ} {s : List Resting} {k len : ℕ} {out : List ℕ}
-    (m : Settling fate n buy first s₀ out₀ s k len out) where
+module _ {fate : Resting → Fate} {first : Settling} {s₀ : List Resting} {out₀ : List ℕ} {s : List Resting} {m : Settling} {out : List ℕ}
+    (i : IsSettling fate first s₀ out₀ s m out) where
+  abbrev n : Number
+  n = m.number
+
+  abbrev buy : Bool
+  buy = m.buying
+
+  abbrev k : ℕ
+  k = m.next
+
   -- the places among the command's moves do not run out
-  pub next_fits : k ≤ first + length s₀
-  next_fits = omega (arith, m.counts, anew_fit fate s₀)
+  pub next_fits : m.next ≤ first.next + length s₀
+  next_fits = omega (arith, i.counts, anew_fit fate s₀)
 
   module _ {at : ℕ} (l : at < length s) (h : Resting) (is : h ≡ get_or s at unused) where
     parted : s ≡ take at s ++ (h ∷ drop (at + 1) s)
     parted = rw (is, add-one at) (sym (take-append-drop at s) ∙ ap (λ (r : List Resting). take at s ++ r) (drop-cons s at unused l))
 
     pub ranked_others : in_rank_order buy (remove_at at s) ≡ true
-    ranked_others = ranked_but buy (added_others at s h parted) m.ranked
+    ranked_others = ranked_but buy (added_others at s h parted) i.ranked
 
     pub older_others : All (Older (stamp n k)) (remove_at at s)
-    older_others = all_but (added_others at s h parted) m.older
+    older_others = all_but (added_others at s h parted) i.older
 
     -- those before the order at a rank stay, and it meets its fate
     module _ (passed : Stay fate (take at s)) (stays : SetStays fate (stamp n k) (fate h)) where
@@ -107,35 +126,40 @@ module _ {fate : Resting → Fate} {n : Number} {buy : Bool} {first : ℕ} {s₀
       abbrev line : List ℕ
       line = event_lines (told_by (fate h) h)
 
-      told_now : (m.done ++ told_by (fate h) h) ++ told fate left ≡ told fate s₀
+      told_now : (i.done ++ told_by (fate h) h) ++ told fate left ≡ told fate s₀
       told_now =
-          append_assoc m.done (told_by (fate h) h) (told fate left)
-          ∙ ap (λ (es : List Event). m.done ++ es) (sym (told_one fate n k buy at s h parted passed stays)) ∙ m.lines
+          append_assoc i.done (told_by (fate h) h) (told fate left)
+          ∙ ap (λ (es : List Event). i.done ++ es) (sym (told_one fate n k buy at s h parted passed stays)) ∙ i.lines
 
-      long_now : len + length line ≡ length (event_lines (m.done ++ told_by (fate h) h))
-      long_now = rw (event_lines_append m.done (told_by (fate h) h), length-append, m.long)
+      long_now : m.length + length line ≡ length (event_lines (i.done ++ told_by (fate h) h))
+      long_now = rw (event_lines_append i.done (told_by (fate h) h), length-append, i.long)
 
       -- there is room for its line
-      pub room_now : len + length line ≤ length (event_lines (told fate s₀))
-      room_now = rw (← told_now, event_lines_append (m.done ++ told_by (fate h) h), length-append) (omega (arith, long_now))
+      pub room_now : m.length + length line ≤ length (event_lines (told fate s₀))
+      room_now = rw (← told_now, event_lines_append (i.done ++ told_by (fate h) h), length-append) (omega (arith, long_now))
 
       pub fewer_lines : length (told fate s) ≡ length (told_by (fate h) h) + length (told fate left)
       fewer_lines = rw (told_one fate n k buy at s h parted passed stays, length-append)
 
-      pub settling_one : set_below (fate h)
-          → Settling fate n buy first s₀ out₀ left (next_place (fate h) k) (len + length line) (onto_from len line out) × Stay fate (take at left)
+      -- how far the command has come then
+      abbrev after : Settling
+      after = record { number = n; buying = buy; next = next_place (fate h) k; length = m.length + length line }
+
+      pub settling_one : set_below (fate h) → IsSettling fate first s₀ out₀ left after (onto_from m.length line out) × Stay fate (take at left)
       settling_one below =
           let counted = ap length (anew_one fate n k buy at s h parted passed stays) in
           let stand = standing (fate h) stays below in (
             record {
-              ends = sym (settled_one fate n k buy at s h parted passed stays ranked_others) ∙ m.ends;
-              counts = omega (arith, m.counts, counted, length-append (set_by (fate h)) (set_anew fate left), next_is (fate h));
-              done = m.done ++ told_by (fate h) h;
+              number = i.number;
+              buying = i.buying;
+              ends = sym (settled_one fate n k buy at s h parted passed stays ranked_others) ∙ i.ends;
+              counts = omega (arith, i.counts, counted, length-append (set_by (fate h)) (set_anew fate left), next_is (fate h));
+              done = i.done ++ told_by (fate h) h;
               lines = told_now;
               long = long_now;
               written =
-                  ap (onto_from len line) m.written ∙ onto_next (event_lines m.done) line out₀ len (sym m.long)
-                  ∙ ap (λ (x : List ℕ). onto x out₀) (sym (event_lines_append m.done (told_by (fate h) h)));
+                  ap (onto_from m.length line) i.written ∙ onto_next (event_lines i.done) line out₀ m.length (sym i.long)
+                  ∙ ap (λ (x : List ℕ). onto x out₀) (sym (event_lines_append i.done (told_by (fate h) h)));
               ranked = stand.1;
               older = stand.2;
             },
@@ -152,7 +176,7 @@ module _ {fate : Resting → Fate} {n : Number} {buy : Bool} {first : ℕ} {s₀
 
           standing : (f : Fate) → SetStays fate (stamp n k) f → set_below f → let s' = settled_at n k buy f at s in
               Stay fate (take at s') × (in_rank_order buy s' ≡ true) × All (Older (stamp n (next_place f k))) s'
-          standing Stays p b = (passed, m.ranked, m.older)
+          standing Stays p b = (passed, i.ranked, i.older)
           standing (IsCancelled reason) p b = (front, ranked_others, older_others)
           standing (IsSet new) p b =
               let x = stamped_as (stamp n k) new in
@@ -190,58 +214,42 @@ settled_at_all n k buy Stays p at a = a
 settled_at_all n k buy (IsCancelled reason) p at a = removed_all at a
 settled_at_all n k buy (IsSet new) p at {s = s} a = added_all p (added_insert buy (stamped_as (stamp n k) new) (remove_at at s)) (removed_all at a)
 
--- ── In an index and a table of rows ──
+-- ── What the code leaves ──
 
-same_numbers : {a b : Settled} → a.held ≡ b.held → a.next ≡ b.next → a.length ≡ b.length → a ≡ b
-same_numbers p q r = λ i. record { held = p i; next = q i; length = r i }
+after_is : (m : Settling) (f : Fate) (h : Resting)
+    → after_one m f h ≡ record { number = m.number; buying = m.buying; next = next_place f m.next; length = m.length + length (event_lines (told_by f h)) }
+after_is m Stays h =
+    let z : m.length ≡ m.length + length (event_lines []) = omega (arith, none_long) in
+    λ i. record { number = m.number; buying = m.buying; next = m.next; length = z i }
+after_is m (IsCancelled reason) h = refl
+after_is m (IsSet new) h = rw (add-one m.next)
 
 -- a side is settled, and its lines are written
-abbrev pub IsSettled : (Resting → Fate) → Number → Bool → ℕ → List Resting → List ℕ → Settled → List ℕ → List (List ℕ) → List ℕ → Type 0
-IsSettled fate n buy first s₀ out₀ m x t out =
-    (m ≡ settled_in n first buy fate s₀) × (Shows (settled_side n first buy fate s₀) x t × (out ≡ onto (event_lines (told fate s₀)) out₀))
+abbrev pub IsSettled : (Resting → Fate) → Settling → List Resting → List ℕ → List Resting → Settling → List ℕ → Type 0
+IsSettled fate first s₀ out₀ s m out =
+    (m ≡ settled_in first.number first.next first.buying fate s₀)
+    × (s ≡ settled_side first.number first.next first.buying fate s₀)
+    × (out ≡ onto (event_lines (told fate s₀)) out₀)
 
-module _ {fate : Resting → Fate} {n : Number} {buy : Bool} {first : ℕ} {s₀ : List Resting} {out₀ : List ℕ} {out : List ℕ}
-    (m : Settled) (x : List ℕ) (t : List (List ℕ)) (holds : Holds m.held x t)
-    (settling : Settling fate n buy first s₀ out₀ (side m.held x t) m.next m.length out) where
-  abbrev now : List Resting
-  now = side m.held x t
-
-  whole : length now ≡ m.held
-  whole = length_side m.held x t
-
+module _ {fate : Resting → Fate} {first : Settling} {s₀ : List Resting} {out₀ : List ℕ} {s : List Resting} {m : Settling} {out : List ℕ}
+    (i : IsSettling fate first s₀ out₀ s m out) where
   -- what `settle` leaves
-  module _ {at : ℕ} (passed : Stay fate (take at now)) (l : at < m.held) (h : Resting) (is : h ≡ get_or now at unused) where
-    fewer : length (remove_at at now) ≡ m.held - 1
-    fewer = length_remove_at at now (omega (arith, whole)) ∙ rw whole
-
-    after_is : (f : Fate) → after_one m f h ≡ record {
-      held = length (settled_at n m.next buy f at now);
-      next = next_place f m.next;
-      length = m.length + length (event_lines (told_by f h));
-    }
-    after_is Stays = same_numbers (sym whole) refl (omega (arith, none_long))
-    after_is (IsCancelled reason) = same_numbers (sym fewer) refl refl
-    after_is (IsSet new) =
-        let more = added_length (added_insert buy (stamped_as (stamp n m.next) new) (remove_at at now)) in
-        same_numbers (omega (arith, more, fewer)) (omega arith) refl
-
-    pub settle_leaves : (f : Fate) → f ≡ fate h → SetStays fate (stamp n m.next) (fate h) → set_below (fate h)
-        → (m' : Settled) (x' : List ℕ) (t' : List (List ℕ)) (out' : List ℕ) → m' ≡ after_one m f h → Shows (settled_at n m.next buy f at now) x' t'
-        → out' ≡ onto_from m.length (event_lines (told_by f h)) out → let s' = side m'.held x' t' in
-        Holds m'.held x' t' × Settling fate n buy first s₀ out₀ s' m'.next m'.length out' × Stay fate (take at s')
-        × (length (told fate now) ≡ length (told_by f h) + length (told fate s')) × (s' ≡ settled_at n m.next buy f at now)
-    settle_leaves f e stays below m' x' t' out' p q r =
-        let l' : at < length now = omega (arith, whole) in
-        let one = settling_one settling l' h is passed stays below in
-        rw (p ∙ after_is f, r, q.is) (q.holds, rw e one.0, rw e one.1, rw e (fewer_lines settling l' h is passed stays), refl)
+  pub settle_leaves : {at : ℕ} → Stay fate (take at s) → at < length s → (h : Resting) → h ≡ get_or s at unused → (f : Fate) → f ≡ fate h
+      → SetStays fate (stamp m.number m.next) (fate h) → set_below (fate h) → (m' : Settling) (s' : List Resting) (out' : List ℕ) → m' ≡ after_one m f h
+      → s' ≡ settled_at m.number m.next m.buying f at s → out' ≡ onto_from m.length (event_lines (told_by f h)) out
+      → IsSettling fate first s₀ out₀ s' m' out' × Stay fate (take at s') × (length (told fate s) ≡ length (told_by f h) + length (told fate s'))
+  settle_leaves {at = at} passed l h is f e stays below m' s' out' p q r =
+      let one = settling_one i l h is passed stays below in
+      rw (p ∙ after_is m f h, r, q) (rw e one.0, rw e one.1, rw e (fewer_lines i l h is passed stays))
 
   -- where all that are left stay, the side is settled
-  pub settled_all : Stay fate now → IsSettled fate n buy first s₀ out₀ m x t out
+  pub settled_all : Stay fate s → IsSettled fate first s₀ out₀ s m out
   settled_all all =
-      let is : now ≡ settled_side n first buy fate s₀ = sym (settled_none fate all n m.next buy) ∙ settling.ends in
-      let told_all : settling.done ≡ told fate s₀ =
-      sym (append-nil settling.done) ∙ ap (λ (es : List Event). settling.done ++ es) (sym (told_none fate all)) ∙ settling.lines in (
-        same_numbers (sym whole ∙ ap length is) (omega (arith, settling.counts, ap length (anew_none fate all)))
-            (settling.long ∙ ap (λ (es : List Event). length (event_lines es)) told_all),
-        (rw (← is) (holds_shows m.held x t holds), settling.written ∙ ap (λ (es : List Event). onto (event_lines es) out₀) told_all),
+      let told_all : i.done ≡ told fate s₀ =
+      sym (append-nil i.done) ∙ ap (λ (es : List Event). i.done ++ es) (sym (told_none fate all)) ∙ i.lines in
+      let next : m.next ≡ first.next + length (set_anew fate s₀) = omega (arith, i.counts, ap length (anew_none fate all)) in
+      let long : m.length ≡ length (event_lines (told fate s₀)) = i.long ∙ ap (λ (es : List Event). length (event_lines es)) told_all in (
+        λ j. record { number = i.number j; buying = i.buying j; next = next j; length = long j },
+        sym (settled_none fate all m.number m.next m.buying) ∙ i.ends ∙ rw (i.number, i.buying),
+        i.written ∙ ap (λ (es : List Event). onto (event_lines es) out₀) told_all,
       )

@@ -104,7 +104,8 @@ impl Table {
     // The side without the order at rank `at`: its row is free.
     pub fn remove(&mut self, at: usize)
         requires { at < length self.old }
-        ensures { self.new ≡ remove_at at self.old }
+        ensures value { self.new ≡ remove_at at self.old }
+        ensures room { length self.new < places_a_side }
     {
         let last = self.held - 1;
         lower(&mut self.index, last - at, last);

@@ -64,7 +64,7 @@ pub rest_determined : (κs : _) (a : _) (r r' : _) (s s' : _) → its_rest.Post 
 rest_determined κs a r r' s s' p q = p ∙ sym q
 
 pub remove_determined : (κs : _) (a : _) (r r' : _) (s s' : _) → its_remove.Post κs a r s → its_remove.Post κs a r' s' → s.0.now ≡ s'.0.now
-remove_determined κs a r r' s s' p q = p ∙ sym q
+remove_determined κs a r r' s s' p q = p.0 ∙ sym q.0
 
 pub reduce_determined : (κs : _) (a : _) (r r' : _) (s s' : _) → its_reduce.Post κs a r s → its_reduce.Post κs a r' s' → s.0.now ≡ s'.0.now
 reduce_determined κs a r r' s s' p q = p ∙ sym q
