@@ -3,32 +3,26 @@
 ghost use Rattle.std.specs.Prelude.{◌≡◌, ◌-◌, ◌≤◌, ◌<◌};
 ghost use Rattle.kinds.specs.Kinds.{largest};
 ghost use Rattle.rules.specs.Working.{buying, limit_of, locking_price, half_a_cent_the_incoming_way, one_cent_less_aggressive, adjusted, seeks};
-ghost use Rattle.side.specs.Table.{side, Holds};
 ghost use Rattle.orders.specs.Bound.{farthest, bound_of, bound_under};
 ghost use Rattle.orders.specs.Locks.{locked_price, executes_at};
 
 use judge::instructions;
 use kinds::HalfCents;
 use rules::{Away, Ending, Order};
-use side::rows::{Index, Rows};
-use side::{prices, rows};
+use side::prices;
+use side::table::Table;
 
 // ── Step 1: how far the walk goes, and at which price ──
 
 // The price at which hidden orders of the opposite side are locked, if any rest there: since nothing crosses, it can only be the best price
 // of the order's own side, and its best order is displayed if any at that price is. 0 where none is displayed there.
-pub(crate) fn locked_price(x: &Index, t: &Rows, n: usize) -> HalfCents
-    requires { Holds n x.now t.now }
-    ensures { result ≡ locked_price (side n x.now t.now) }
+pub(crate) fn locked_price(t: &Table) -> HalfCents
+    ensures { result ≡ locked_price t.now }
 {
-    if n == 0 {
-        return HalfCents(0);
+    match t.get(0) {
+        Some(best) if best.displayed => best.price,
+        _ => HalfCents(0),
     }
-    let best = rows::at(x, t, n, 0);
-    if best.displayed {
-        return best.price;
-    }
-    HalfCents(0)
 }
 
 fn half_a_cent(buy: bool, p: HalfCents) -> HalfCents

@@ -1,23 +1,35 @@
--- `orders::work::ending_of` meets its contract: the tests come in the definition's order, and an arm for each thing sought. Assumes nothing.
+-- `orders::work::ending_of` meets its contract: the tests come in the definition's order. Assumes nothing.
 use mathlib.Core.Bool.{true, false}
-use mathlib.Core.Path.{◌≡◌, sym, ◌∙◌}
+use mathlib.Core.List.{List}
+use mathlib.Core.Path.{◌≡◌, refl, sym, ◌∙◌}
+use lib.ListN.{drop}
 use borrow.Author.Tests.{eq-eqb, ne_eqb}
-use Rattle.rules.specs.Instructions.{ioc, fok, has}
+use Rattle.kinds.specs.declared.HalfCents.{HalfCents}
+use Rattle.rules.specs.declared.Ending.{Ending}
 use Rattle.rules.specs.declared.Ending.TheVariants.{Filled, Rests, Cancels}
+use Rattle.rules.specs.declared.Order.{Order}
+use Rattle.rules.specs.declared.Resting.{Resting}
+use Rattle.rules.specs.Instructions.{ioc, fok, has}
 use Rattle.rules.specs.Working.{seeks}
-use Rattle.orders.specs.Walking.{ending_by_best}
+use Rattle.orders.specs.Walking.{unless_best_meets, ending_by_best}
 use Rattle.orders.proofs.work.ending_of.Goals as goal
-use Rattle.orders.proofs.work.ending_of.Goals.{Else-has, Else-has-2}
+use Rattle.orders.proofs.work.ending_of.Goals.{Else-has-2}
 
--- shares are left of an order that is no Fill-or-Kill
-module _ (c : Else-has) where
-  not_fok : has c.args.o.word fok ≡ false
-  not_fok = sym c.has.ensures ∙ c.if-has.false
+-- shares are left of an order that is neither Fill-or-Kill nor Immediate-or-Cancel
+by_what_is_sought : (c : Else-has-2) → (let a = c.args in
+    ending_by_best a.left.0 a.o a.away a.locked (drop a.kept a.t.now) ≡ unless_best_meets a.o a.locked (drop a.kept a.t.now) (seeks a.o a.away))
+unfolding ending_by_best
+by_what_is_sought c =
+    let not_fok : has c.args.o.word fok ≡ false = sym c.has.ensures ∙ c.if-has.false in
+    let not_ioc : has c.args.o.word ioc ≡ false = sym c.has-2.ensures ∙ c.if-has-2.false in
+    rw (ne_eqb _ _ c.if-left-eq0.false, not_fok, not_ioc)
 
--- nor is it Immediate-or-Cancel
-module _ (c : Else-has-2) where
-  not_ioc : has c.args.o.word ioc ≡ false
-  not_ioc = sym c.has-2.ensures ∙ c.if-has-2.false
+-- what does not rest stays as it is
+same_else : (o : Order) (locked : HalfCents) (left : List Resting) (e : Ending) → ((price : HalfCents) → e ≡ Rests price → ⊥)
+    → e ≡ unless_best_meets o locked left e
+same_else o locked left Filled n = refl
+same_else o locked left (Rests price) n = absurd (n price refl)
+same_else o locked left (Cancels reason) n = refl
 
 pub returns-then-left-eq0 : goal.returns-then-left-eq0
 unfolding ending_by_best
@@ -32,38 +44,15 @@ returns-then-has c =
 pub returns-then-has-2 : goal.returns-then-has-2
 unfolding ending_by_best
 returns-then-has-2 c =
+    let not_fok : has c.args.o.word fok ≡ false = sym c.has.ensures ∙ c.if-has.false in
     let now_or_never : has c.args.o.word ioc ≡ true = sym c.has-2.ensures ∙ c.if-has-2.true in
-    rw (ne_eqb _ _ c.if-left-eq0.false, not_fok (goal.at.returns-then-has-2 c).Else-has, now_or_never)
+    rw (ne_eqb _ _ c.if-left-eq0.false, not_fok, now_or_never)
 
-pub seek-requires : goal.seek-requires
-seek-requires c = c.requires.2
-
-pub rest_unless_meets-requires : goal.rest_unless_meets-requires
-rest_unless_meets-requires c = let p = c.requires in (p.0, p.1)
-
-pub returns-in-Filled : goal.returns-in-Filled
-unfolding ending_by_best
-returns-in-Filled c =
+pub returns-in_default : goal.returns-in_default
+returns-in_default c =
     let a = c.args in
-    let sought : seeks a.o a.away ≡ Filled = sym c.seek.ensures ∙ c.in-Filled.is in
-    rw (ne_eqb _ _ c.if-left-eq0.false, not_fok (goal.at.returns-in-Filled c).Else-has, not_ioc (goal.at.returns-in-Filled c).Else-has-2, sought)
+    rw (by_what_is_sought (goal.at.returns-in_default c).Else-has-2, ← c.seek-sought.ensures)
+    (same_else a.o a.locked (drop a.kept a.t.now) c.seek-sought.result c.in_default.not-Rests)
 
-pub returns-in-Cancels : goal.returns-in-Cancels
-unfolding ending_by_best
-returns-in-Cancels c =
-    let a = c.args in
-    let sought : seeks a.o a.away ≡ Cancels c.in-Cancels.reason = sym c.seek.ensures ∙ c.in-Cancels.is in
-    rw (ne_eqb _ _ c.if-left-eq0.false, not_fok (goal.at.returns-in-Cancels c).Else-has, not_ioc (goal.at.returns-in-Cancels c).Else-has-2, sought)
-
-pub returns-in-Rests : goal.returns-in-Rests
-unfolding ending_by_best
-returns-in-Rests c =
-    let a = c.args in
-    let sought : seeks a.o a.away ≡ Rests c.in-Rests.price =
-    sym c.seek.ensures ∙ c.in-Rests.is in
-    rw (
-      ne_eqb _ _ c.if-left-eq0.false,
-      not_fok (goal.at.returns-in-Rests c).Else-has,
-      not_ioc (goal.at.returns-in-Rests c).Else-has-2,
-      sought,
-    ) c.rest_unless_meets.ensures
+pub returns : goal.returns
+returns c = rw (by_what_is_sought (goal.at.returns c).Else-has-2, ← c.seek-sought.ensures, c.in-Rests.is) c.rest_unless_meets.ensures

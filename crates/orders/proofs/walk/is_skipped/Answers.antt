@@ -1,8 +1,8 @@
--- `orders::walk::is_passed` meets its contract. Assumes nothing.
+-- `orders::walk::is_skipped` meets its contract. Assumes nothing.
 use mathlib.Core.Path.{ap}
 use lib.Dec.{ltb}
 use Rattle.kinds.specs.declared.Shares.{Shares}
-use Rattle.orders.proofs.walk.is_passed.Goals as goal
+use Rattle.orders.proofs.walk.is_skipped.Goals as goal
 
 pub returns : goal.returns
 returns c =
