@@ -67,8 +67,7 @@ impl Table {
         requires { rank < length self.now }
         ensures { result ≡ get_or self.now rank unused }
     {
-        let slot = rows::slot_at(&self.index, self.held, rank);
-        self.rows[slot].order
+        self.rows[rows::slot_at(&self.index, self.held, rank)].order
     }
 
     // The order at a rank, if the side has so many.
@@ -87,8 +86,7 @@ impl Table {
         requires { rank < length self.now }
         ensures { result ≡ level_of buying (get_or self.now rank unused) }
     {
-        let slot = rows::slot_at(&self.index, self.held, rank);
-        let row = self.rows[slot];
+        let row = self.rows[rows::slot_at(&self.index, self.held, rank)];
         if buying {
             row.buy_level
         } else {
