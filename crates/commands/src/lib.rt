@@ -5,13 +5,18 @@
 
 mod cancels;
 
-ghost use Rattle.std.specs.Prelude.{◌≤◌, length};
+ghost use Rattle.std.specs.Prelude.{true, ◌≡◌, ◌≤◌, ◌<◌, length};
+ghost use Rattle.basics.specs.Bytes.{onto};
+ghost use Rattle.rules.specs.Book.{sound};
+ghost use Rattle.rules.specs.Commands.{with_accepted};
+ghost use Rattle.rules.specs.EventLines.{event_lines};
 ghost use Rattle.rules.specs.Refusals.{least_room};
-ghost use Rattle.side.specs.Answers.{answer_of, Answers};
-ghost use Rattle.commands.specs.Sides.{AreSound, Closes};
+ghost use Rattle.rules.specs.Refusing.{or_refused};
+ghost use Rattle.side.specs.Answers.{answer_of, body_answer, Left};
+ghost use Rattle.commands.specs.Sides.{AreSound, Closes, held_after};
 
 use orders::reports;
-use orders::walk::Takings;
+use orders::takings::Takings;
 use rules::{Body, Command, Held, Refusal};
 use side::table::Table;
 use side::tables::SoundBook;
@@ -33,7 +38,49 @@ fn close(buys: &mut Table, sells: &mut Table, out: &mut [u8]) -> usize
 
 // ── A command ──
 
-// An accepted command leaves its number and its time.
+// What the body of a command leaves of the two sides, and the length of its lines.
+fn carry_out(
+    held: &Held,
+    c: Command,
+    buys: &mut Table,
+    sells: &mut Table,
+    took: &mut Takings,
+    out: &mut [u8],
+) -> Result<usize, Refusal>
+    requires is_sound { sound (record { held = held.now; buys = buys.old; sells = sells.old }) ≡ true }
+    requires room { least_room ≤ length out.old }
+    requires next { held.now.last.0 < c.number.0 }
+    ensures { Left result buys.new sells.new out.new out.old
+        (body_answer c.number held.now.time c.body (record { held = held.now; buys = buys.old; sells = sells.old })) }
+{
+    match c.body {
+        Body::Order(o) => orders::enter(held, c.number, o, buys, sells, took, out),
+        Body::Cancel(of) => cancels::cancel(buys, sells, of, out),
+        Body::Quote(away) => quotes::quote(held, c.number, away, buys, sells, out),
+        Body::Close => Ok(close(buys, sells, out)),
+    }
+}
+
+// What an accepted command leaves of the header: its number and its time, and what its body changes.
+fn held_after(held: Held, c: Command) -> Held
+    ensures { result ≡ held_after c.body (with_accepted c.number c.time held) }
+{
+    let accepted = Held {
+        last: c.number,
+        time: c.time,
+        ..held
+    };
+    match c.body {
+        Body::Order(_) => accepted,
+        Body::Cancel(_) => accepted,
+        Body::Quote(away) => Held { away, ..accepted },
+        Body::Close => Held {
+            closed: true,
+            ..accepted
+        },
+    }
+}
+
 pub fn apply(
     book: &mut SoundBook,
     c: Command,
@@ -41,38 +88,13 @@ pub fn apply(
     out: &mut [u8],
 ) -> Result<usize, Refusal>
     requires { least_room ≤ length out.old }
-    ensures { Answers result book.new out.new out.old (answer_of c book.old) }
+    ensures value { result ≡ or_refused (length (event_lines (answer_of c book.old).events)) (answer_of c book.old).refusal }
+    ensures book_after { book.new ≡ (answer_of c book.old).book }
+    ensures out_after { out.new ≡ onto (event_lines (answer_of c book.old).events) out.old }
 {
     let held = book.held;
     judge::header(held, c)?;
-    let accepted = Held {
-        last: c.number,
-        time: c.time,
-        ..held
-    };
-    match c.body {
-        Body::Order(o) => {
-            let length = orders::enter(&held, c.number, o, &mut book.buys, &mut book.sells, took, out)?;
-            book.held = accepted;
-            Ok(length)
-        }
-        Body::Cancel(of) => {
-            let length = cancels::cancel(&mut book.buys, &mut book.sells, of, out)?;
-            book.held = accepted;
-            Ok(length)
-        }
-        Body::Quote(away) => {
-            let length = quotes::quote(&held, c.number, away, &mut book.buys, &mut book.sells, out)?;
-            book.held = Held { away, ..accepted };
-            Ok(length)
-        }
-        Body::Close => {
-            let length = close(&mut book.buys, &mut book.sells, out);
-            book.held = Held {
-                closed: true,
-                ..accepted
-            };
-            Ok(length)
-        }
-    }
+    let length = carry_out(&held, c, &mut book.buys, &mut book.sells, took, out)?;
+    book.held = held_after(held, c);
+    Ok(length)
 }

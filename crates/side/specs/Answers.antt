@@ -28,10 +28,3 @@ Left r buys sells out' out a =
     × (buys ≡ a.book.buys)
     × (sells ≡ a.book.sells)
     × (out' ≡ onto (event_lines a.events) out)
-
--- what a command leaves of a book in place, and of the output
-abbrev pub Answers : Result ℕ Refusal → Book → List ℕ → List ℕ → Answer → Type 0
-Answers r book out' out a =
-    (r ≡ or_refused (length (event_lines a.events)) a.refusal)
-    × (book ≡ a.book)
-    × (out' ≡ onto (event_lines a.events) out)
