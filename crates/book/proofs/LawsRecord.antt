@@ -1,5 +1,5 @@
 -- A sound record has sound places, and holds a sound book. Assumes nothing.
-use Prim.Native.Nat.{ℕ, ◌≤◌}
+use Prim.Native.Nat.{◌≤◌}
 use mathlib.Core.Bool.{true, ◌&&◌}
 use mathlib.Core.Path.{◌≡◌}
 use lib.Dec.{eqb, leb}

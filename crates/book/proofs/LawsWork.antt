@@ -3,7 +3,7 @@ use Prim.Native.Nat.{ℕ, ◌≤◌}
 use mathlib.Core.Bool.{true, false}
 use mathlib.Core.List.{List}
 use mathlib.Core.Logic.{⊎_elim}
-use mathlib.Core.Path.{◌≡◌, refl, sym, ap, ◌∙◌}
+use mathlib.Core.Path.{◌≡◌, refl, ap, ◌∙◌}
 use lib.Dec.{eqb}
 use lib.ListN.{length}
 use Rattle.basics.specs.Bytes.{onto}
@@ -13,7 +13,7 @@ use Rattle.rules.specs.declared.Command.{Command}
 use Rattle.rules.specs.Book.{Book, BookRecord, book_in, record_of, record_sound}
 use Rattle.rules.specs.EventLines.{event_lines}
 use Rattle.rules.specs.Refusals.{least_room}
-use Rattle.rules.specs.Step.{Returned, answer, step_on}
+use Rattle.rules.specs.Step.{answer, step_on}
 use Rattle.soundness.proofs.LawsRecords.{record_whole}
 use Rattle.side.specs.Answers.{answer_of}
 use Rattle.book.proofs.LawsStep.{step_answer}

@@ -16,7 +16,6 @@ use orders::takings::Takings;
 use rules::{Away, Body, Command, Held, Order, Refusal};
 use side::table::Table;
 use side::tables::SoundBook;
-
 pub use side::tables::{NO_ORDERS, Side};
 
 #[derive(Clone, Copy, PartialEq, Eq)]
