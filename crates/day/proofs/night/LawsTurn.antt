@@ -1,4 +1,4 @@
--- One turn of a day and its end, from what `day::replay::feed` worked and so many bytes of what is left as `command_lines::lines::carry` may keep. Assumes nothing.
+-- One turn of a day, from what `day::replay::feed` worked and so many bytes of what is left as `command_lines::lines::carry` may keep. Assumes nothing.
 use Prim.Native.Nat.{ℕ, ◌-◌, ◌≤◌}
 use mathlib.Core.Bool.{Bool, true, false, not}
 use mathlib.Core.List.{List, [], ◌∷◌}
@@ -35,16 +35,10 @@ module _ (room : ℕ) (b : Book) (input : List ℕ) (have : ℕ) (fed : Fed) (fe
   pub turn_is : (left : ℕ) (input' : List ℕ)
       → left ≡ length (carried input fed.at have most)
       → input' ≡ onto (carried input fed.at have most) input
-      → (record { head = fed.head; have = left; length = fed.length; reads = not (ltb (room - fed.length) least_room) }
+      → (record { have = left; length = fed.length; reads = not (ltb (room - fed.length) least_room) }
       ≡ turn_of (turned room b (take have input)))
       × (input' ≡ onto (turned room b (take have input)).waits input)
       × (left ≤ have)
   unfolding turned
   turn_is left input' e d =
       (rw (e, waits_are, fed_is), d ∙ ap (λ (waits : List ℕ). onto waits input) waits_are, rw e (simp (length-take, length-drop) (omega arith)))
-
--- what is printed at the end has room wherever a refusal has
-pub end_fits : (part : List ℕ) → length (printed_at_end part) ≤ 5
-unfolding printed_at_end
-end_fits [] = omega arith
-end_fits (b ∷ part) = omega (arith, refusal_length 3)
