@@ -7,14 +7,14 @@ use mathlib.Core.Logic.{⊎_elim}
 use mathlib.Core.Path.{◌≡◌, refl, ap, subst, ◌∙◌}
 use native.Mathlib.Omega.{arith}
 use Rattle.basics.specs.Bytes.{onto}
-use Rattle.std.specs.Prelude.{if◌then◌else◌}
+use Rattle.std.specs.Prelude.{if◌then◌else◌, Result}
 use Rattle.basics.proofs.LawsChoice.{holds_or_not}
 use Rattle.kinds.specs.declared.Number.{Number}
-use Rattle.orders.specs.declared.matching.Matched.{Matched}
-use Rattle.orders.specs.Matching.{Match, is_full, match_of, matched, Matches}
-use Rattle.side.specs.Table.{Shows}
+use Rattle.orders.specs.Matching.{Match, is_full, match_of, Matches}
 use Rattle.rules.specs.declared.Body.TheVariants as body
 use Rattle.rules.specs.declared.Order.{Order}
+use Rattle.rules.specs.declared.Refusal.{Refusal}
+use Rattle.rules.specs.declared.Resting.{Resting}
 use Rattle.rules.specs.Book.{Book}
 use Rattle.rules.specs.EventLines.{event_lines}
 use Rattle.rules.specs.Refusals.{first_of, body_refusals, order_lawful, order_in_range, rests_on_full_side}
@@ -23,12 +23,8 @@ use Rattle.rules.specs.Commands.{with_accepted, carried_out, does}
 use Rattle.rules.specs.Settling.{own_side, opposite_side}
 use Rattle.rules.proofs.LawsCommands.{order_does}
 use Rattle.rules.specs.Working.{buying, ending, accept}
-use Rattle.side.specs.declared.tables.Head.{Head}
-use Rattle.side.specs.declared.tables.Step.{Step}
-use Rattle.side.specs.Answers.{Left, body_answer, Stands}
-use Rattle.side.specs.Tables.{book_on}
-use Rattle.side.proofs.tables.LawsAnswers.{refused_with, done_with, body_refused, body_done, left_refused}
-use Rattle.orders.specs.Orders.{step_after}
+use Rattle.side.specs.Answers.{Left, body_answer}
+use Rattle.side.proofs.tables.LawsAnswers.{refused_with, done_with, body_refused, body_done}
 use Rattle.orders.proofs.LawsReady.{met_on}
 
 module _ (n : Number) (time : ℕ) (o : Order) (b : Book) where
@@ -67,54 +63,37 @@ module _ (n : Number) (time : ℕ) (o : Order) (b : Book) where
         let d = order_does n time b o in
         (body_done n time (body.Order o) b (rw (is_lawful, in_range, q, f)) ∙ rw (d.0, d.1, q, f), rw f)
 
--- ── In a header and two sides that are lent ──
+-- ── What it leaves ──
 
-module _ (h : Head) (x : List ℕ) (t : List (List ℕ)) (y : List ℕ) (u : List (List ℕ)) (stands : Stands h x t y u) (n : Number) (time : ℕ) (out : List ℕ) where
-  abbrev book : Book
-  book = book_on h x t y u
+module _ (n : Number) (time : ℕ) (o : Order) (b : Book) (is_lawful : order_lawful o ≡ true) (in_range : order_in_range o ≡ true) where
+  -- what a match leaves is what 01 does to the book, by the side of the market that the order is of
+  pub left_entered : (buy : Bool) → buying o ≡ buy → (r : Result ℕ Refusal) (own opposite : List Resting) (out' out : List ℕ)
+      → Matches r own opposite out' out (matches n time o b buy)
+      → Left r (if buy then own else opposite) (if buy then opposite else own) out' out (body_answer n time (body.Order o) b)
+  left_entered buy q r own opposite out' out left =
+      ⊎_elim
+      (λ (f : is_full (ending o (met_on buy b)) (own_side buy b) ≡ true).
+      let k = full n time o b is_lawful in_range buy q f in
+      rw k.0 (left_full buy (rw k.1 at left)))
+      (λ (f : is_full (ending o (met_on buy b)) (own_side buy b) ≡ false).
+      let k = room n time o b is_lawful in_range buy q f in
+      rw k.0 (left_room buy (matches n time o b buy) left k.1))
+      (holds_or_not (is_full (ending o (met_on buy b)) (own_side buy b)))
+    where
+      left_full : (buy : Bool) → Matches r own opposite out' out (record { refusal = 11; events = []; own = own_side buy b; opposite = opposite_side buy b })
+          → Left r (if buy then own else opposite) (if buy then opposite else own) out' out (refused_with 11 b)
+      left_full true left = left
+      left_full false left = (left.0, left.2, left.1, left.3)
 
-  -- what a match leaves, by the side of the market that the order is of: x' and t' hold its own side, y' and u' the opposite one
-  module _ (x' : List ℕ) (t' : List (List ℕ)) (y' : List ℕ) (u' : List (List ℕ)) (out' : List ℕ) where
-    abbrev pub LeftBy : Bool → Step → Answer → Type 0
-    LeftBy buy s a = Left s (if buy then x' else y') (if buy then t' else u') (if buy then y' else x') (if buy then u' else t') out' out a
-
-    left_full : (buy : Bool) (m : Match) → Shows m.own x' t' → Shows m.opposite y' u' → out' ≡ onto (event_lines m.events) out → (a : Answer)
-        → a ≡ refused_with 11 book → m ≡ record { refusal = 11; events = []; own = own_side buy book; opposite = opposite_side buy book }
-        → LeftBy buy (step_after h n time buy (matched m)) a
-    left_full buy m own opposite wrote a e q =
-        rw (e, q) (by_side buy (subst (λ (k : Match). Shows k.own x' t') q own) (subst (λ (k : Match). Shows k.opposite y' u') q opposite)
-        (wrote ∙ ap (λ (k : Match). onto (event_lines k.events) out) q))
-      where
-        by_side : (b : Bool) → Shows (own_side b book) x' t' → Shows (opposite_side b book) y' u' → out' ≡ onto (event_lines []) out
-            → LeftBy b (step_after h n time b (matched (record { refusal = 11; events = []; own = own_side b book; opposite = opposite_side b book }))) (refused_with 11 book)
-        by_side true own' opposite' none = ((left_refused h x t y u stands 11 out (refused_with 11 book) refl).0, (own', (opposite', none)))
-        by_side false own' opposite' none = ((left_refused h x t y u stands 11 out (refused_with 11 book) refl).0, (opposite', (own', none)))
-
-    left_room : (buy : Bool) (m : Match) → Shows m.own x' t' → Shows m.opposite y' u' → out' ≡ onto (event_lines m.events) out → (a : Answer)
-        → a ≡ done_with (record {
-          book = record {
-            held = with_accepted n time h.held;
-            buys = if buy then m.own else m.opposite;
-            sells = if buy then m.opposite else m.own;
-          };
-          events = m.events;
-          moves = 0;
-        })
-        → m.refusal ≡ 0 → LeftBy buy (step_after h n time buy (matched m)) a
-    left_room true m own opposite wrote a e z = rw (e, z) (refl, (own, (opposite, wrote)))
-    left_room false m own opposite wrote a e z = rw (e, z) (refl, (opposite, (own, wrote)))
-
-    pub left_entered : (o : Order) → order_lawful o ≡ true → order_in_range o ≡ true → (buy : Bool) → buying o ≡ buy → (r : Matched)
-        → Matches r x' t' y' u' out' out (matches n time o book buy) → LeftBy buy (step_after h n time buy r) (body_answer n time (body.Order o) book)
-    left_entered o is_lawful in_range buy q r left =
-        let a = body_answer n time (body.Order o) book in
-        let m = matches n time o book buy in
-        rw left.0
-        (⊎_elim
-        (λ (f : is_full (ending o (met_on buy book)) (own_side buy book) ≡ true).
-        let k = full n time o book is_lawful in_range buy q f in
-        left_full buy m left.1.0 left.1.1.0 left.1.1.1 a k.0 k.1)
-        (λ (f : is_full (ending o (met_on buy book)) (own_side buy book) ≡ false).
-        let k = room n time o book is_lawful in_range buy q f in
-        left_room buy m left.1.0 left.1.1.0 left.1.1.1 a k.0 k.1)
-        (holds_or_not (is_full (ending o (met_on buy book)) (own_side buy book))))
+      left_room : (buy : Bool) (m : Match) → Matches r own opposite out' out m → m.refusal ≡ 0
+          → Left r (if buy then own else opposite) (if buy then opposite else own) out' out (done_with (record {
+            book = record {
+              held = with_accepted n time b.held;
+              buys = if buy then m.own else m.opposite;
+              sells = if buy then m.opposite else m.own;
+            };
+            events = m.events;
+            moves = 0;
+          }))
+      left_room true m left z = (rw z at left.0, left.1, left.2, left.3)
+      left_room false m left z = (rw z at left.0, left.2, left.1, left.3)

@@ -73,7 +73,7 @@ walkable o last buy b facts sides is_lawful in_range q = record {
         priced = omega (arith, resting_lowest h.price r.priced);
         below = omega (arith, resting_highest h.price r.priced);
         countable = omega (arith, r.at_most);
-        least = least_within h r.least;
+        remains = least_within h r.least;
         alone = least_alone h r.least r.floored;
       })
       sides.opposite_in_range;

@@ -1,3 +1,2 @@
 pub mod LawsTakenOff
-pub mod LawsClosing
 pub mod Determined

@@ -1,7 +1,7 @@
 -- A cursor over the parts of a side's orders, as a walk reaches them (02, W4): "the shown part at its rank, the reserve behind every other
 -- order at that price, reserves among themselves in the rank of their shown parts". A reserve that is empty is no part. `LawsParts` shows
 -- that these are 01's and 02's holdings.
-use Rattle.std.specs.Prelude.{ℕ, ◌+◌, ◌≤◌, ◌<◌, max, not, ◌&&◌, List, [], ◌∷◌, ◌++◌, ◌≡◌, eqb, length, get_or, take, drop, if◌then◌else◌}
+use Rattle.std.specs.Prelude.{ℕ, ◌+◌, ◌≤◌, ◌<◌, max, not, ◌&&◌, List, [], ◌∷◌, ◌++◌, ◌≡◌, eqb, length, get_or, take, drop, if◌then◌else◌, Option, None, Some}
 use Rattle.kinds.specs.declared.HalfCents.{HalfCents}
 use Rattle.kinds.specs.Kinds.{half_cents, shares}
 use Rattle.rules.specs.declared.Resting.{Resting}
@@ -9,8 +9,6 @@ use Rattle.rules.specs.Book.{unused}
 use Rattle.rules.specs.Holdings.{Holding, shown_part, reserve_part, size}
 use Rattle.orders.specs.declared.cursor.Part.{Part}
 use Rattle.orders.specs.declared.cursor.Cursor.{Cursor}
-use Rattle.orders.specs.declared.cursor.Following.{Following}
-use Rattle.orders.specs.declared.cursor.Following.TheVariants.{Is, End}
 
 -- ── The parts ──
 
@@ -104,6 +102,7 @@ pub record Gives (s : List Resting) (c : Cursor) (p : Part) (next : Cursor) : Ty
   pub at : next.at ≡ max c.at (p.place + 1)
   pub stands : IsAt s next
 
-abbrev pub Follows : List Resting → Cursor → Following → Type 0
-Follows s c (Is p next) = Gives s c p next
-Follows s c End = ahead s c ≡ []
+-- what is found ahead of a cursor: that, or nothing
+abbrev pub Follows : List Resting → Cursor → Option (Part × Cursor) → Type 0
+Follows s c (Some found) = Gives s c found.0 found.1
+Follows s c None = ahead s c ≡ []

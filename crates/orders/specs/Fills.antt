@@ -1,9 +1,9 @@
 -- A side after a walk: every order without what was taken from it, and without the orders that have nothing left.
-use Rattle.std.specs.Prelude.{ℕ, ◌+◌, ◌≤◌, Bool, not, ◌&&◌, List, [], ◌∷◌, eqb, if◌then◌else◌}
+use Rattle.std.specs.Prelude.{ℕ, ◌+◌, ◌≤◌, List, [], ◌∷◌, eqb, if◌then◌else◌}
 use Rattle.rules.specs.declared.Resting.{Resting}
 use Rattle.rules.specs.Book.{shares_left}
-use Rattle.side.specs.Shifts.{less_by}
-use Rattle.orders.specs.declared.walk.Taking.{Taking}
+use Rattle.side.specs.Shifts.{less_by, keepers}
+use Rattle.orders.specs.declared.takings.Taking.{Taking}
 
 -- all that was taken from the order at rank i
 unfoldable pub taken_at : ℕ → List Taking → ℕ
@@ -16,17 +16,8 @@ lessened i ks [] = []
 lessened i ks (h ∷ s) = less_by (taken_at i ks) h ∷ lessened (i + 1) ks s
 
 -- the minimum of an order is no more than what is left of it, so that nothing taken leaves it as it is (02, W7)
-abbrev pub Least : Resting → Type 0
-Least h = h.minimum.0 ≤ shares_left h
-
--- an order has something left, shown or in reserve
-abbrev pub keeps : Resting → Bool
-keeps h = not (eqb h.shares.0 0 && eqb h.reserve.0 0)
-
--- whoever keeps none leaves the book
-unfoldable pub keepers : List Resting → List Resting
-keepers [] = []
-keepers (h ∷ s) = if keeps h then h ∷ keepers s else keepers s
+abbrev pub MinimumRemains : Resting → Type 0
+MinimumRemains h = h.minimum.0 ≤ shares_left h
 
 abbrev pub after_takings : List Taking → List Resting → List Resting
 after_takings ks s = keepers (lessened 0 ks s)

@@ -1,3 +1,4 @@
+pub mod Room
 pub mod Walk
 pub mod Locks
 pub mod Bound
@@ -5,6 +6,5 @@ pub mod Reports
 pub mod Fills
 pub mod Walking
 pub mod Matching
-pub mod Orders
 pub mod Cursor
 pub mod Refills

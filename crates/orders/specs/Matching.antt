@@ -1,25 +1,23 @@
 -- What an order does to its own side and to the opposite one (01, How an order is worked), with the refusal for a full side.
-use Rattle.std.specs.Prelude.{ℕ, ◌<◌, Bool, true, not, ◌&&◌, List, [], ◌++◌, ◌≡◌, leb, length, if◌then◌else◌}
+use Rattle.std.specs.Prelude.{ℕ, ◌<◌, Bool, true, not, ◌&&◌, List, [], ◌++◌, ◌≡◌, leb, length, if◌then◌else◌, Result}
 use Rattle.basics.specs.Bytes.{onto}
 use Rattle.basics.specs.Lists.{All}
 use Rattle.kinds.specs.declared.Number.{Number}
-use Rattle.kinds.specs.declared.Shares.{Shares}
 use Rattle.rules.specs.declared.Ending.{Ending}
 use Rattle.rules.specs.declared.Ending.TheVariants.{Filled, Rests, Cancels}
 use Rattle.rules.specs.declared.Event.{Event}
 use Rattle.rules.specs.declared.Order.{Order}
+use Rattle.rules.specs.declared.Refusal.{Refusal}
 use Rattle.rules.specs.declared.Resting.{Resting}
-use Rattle.side.specs.Table.{Shows}
 use Rattle.rules.specs.Book.{places_a_side, stamp, in_rank_order}
 use Rattle.rules.specs.EventLines.{event_lines}
 use Rattle.rules.specs.Refusals.{is_rest}
+use Rattle.rules.specs.Refusing.{or_refused}
 use Rattle.rules.specs.Holdings.{holdings, executions, after}
 use Rattle.rules.specs.Settling.{first_move, told, settled_side}
 use Rattle.rules.specs.Working.{buying, Met, execution_price, takings, remainder, ending, last_line, with_remainder, refill_fate}
 use Rattle.side.specs.Looking.{price_bound, Older}
 use Rattle.orders.specs.Walking.{Walkable}
-use Rattle.orders.specs.declared.matching.Finished.{Finished}
-use Rattle.orders.specs.declared.matching.Matched.{Matched}
 
 pub record Match : Type 0 where
   pub refusal : ℕ
@@ -45,27 +43,14 @@ match_of o number met =
       opposite = settled_side number first_move (not (buying o)) refill_fate (after met.opposite (takings o met));
     }
 
--- the same in numbers
-abbrev pub matched : Match → Matched
-matched m = record {
-  refusal = m.refusal;
-  own = length m.own;
-  opposite = length m.opposite;
-  length = length (event_lines m.events);
-}
-
--- what a match leaves of two sides that are lent, and of the output: `x` and `t` hold the order's own side afterwards, `y` and
--- `u` the opposite
-abbrev pub Matches : Matched → List ℕ → List (List ℕ) → List ℕ → List (List ℕ) → List ℕ → List ℕ → Match → Type 0
-Matches r x t y u out' out m =
-    (r ≡ matched m) × (Shows m.own x t × (Shows m.opposite y u × (out' ≡ onto (event_lines m.events) out)))
-
--- what the end of an order's work leaves, in numbers
-abbrev pub finished : Number → Shares → Ending → Bool → List Resting → Finished
-finished n left end buy s = record {
-  opposite = length (settled_side n first_move buy refill_fate s);
-  length = length (event_lines (last_line n left.0 end ++ told refill_fate s));
-}
+-- what a match returns and leaves of two sides and an output that are lent: `own` and `opposite` are what then rests, and `out'` is what is
+-- then in the output, where `out` was
+abbrev pub Matches : Result ℕ Refusal → List Resting → List Resting → List ℕ → List ℕ → Match → Type 0
+Matches r own opposite out' out m =
+    (r ≡ or_refused (length (event_lines m.events)) m.refusal)
+    × (own ≡ m.own)
+    × (opposite ≡ m.opposite)
+    × (out' ≡ onto (event_lines m.events) out)
 
 -- a price at which an order would rest is below the bound of levels
 abbrev pub rests_below : Ending → Type 0

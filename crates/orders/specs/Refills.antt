@@ -3,7 +3,7 @@ use Rattle.std.specs.Prelude.{ℕ, ◌≤◌, Bool, true, List, ◌≡◌, lengt
 use Rattle.basics.specs.Lists.{All}
 use Rattle.kinds.specs.declared.Number.{Number}
 use Rattle.rules.specs.declared.Resting.{Resting}
-use Rattle.rules.specs.Book.{stamp, in_rank_order, shares_left}
+use Rattle.rules.specs.Book.{places_a_side, stamp, in_rank_order, shares_left}
 use Rattle.rules.specs.Settling.{first_move}
 use Rattle.side.specs.Looking.{Older}
 use Rattle.side.specs.Shifts.{Countable}
@@ -15,6 +15,7 @@ pub record Refillable (h : Resting) : Type 0 where
 
 -- the orders from rank `reached` on, which the walk did not reach, show something
 pub record MayRefill (buy : Bool) (n : Number) (reached : ℕ) (s : List Resting) : Type 0 where
+  pub fits : length s ≤ places_a_side
   pub within : reached ≤ length s
   pub ranked : in_rank_order buy s ≡ true
   pub older : All (Older (stamp n first_move)) s

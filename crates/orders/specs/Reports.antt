@@ -7,7 +7,7 @@ use Rattle.rules.specs.declared.Event.{Event}
 use Rattle.rules.specs.declared.Event.TheVariants.{Executed, Cancelled}
 use Rattle.rules.specs.declared.Resting.{Resting}
 use Rattle.rules.specs.Book.{unused, shares_left}
-use Rattle.orders.specs.declared.walk.Taking.{Taking}
+use Rattle.orders.specs.declared.takings.Taking.{Taking}
 
 -- an execution against the order at the taking's rank, at what the taking's price becomes
 abbrev pub execution_of : Number → (HalfCents → HalfCents) → List Resting → Taking → Event

@@ -1,30 +1,27 @@
 -- What a walk takes, as a list (01, Some places and their forms: "a loop over ranked resting orders, left by break with
 -- remaining shares and the place where it stopped"). The walk itself is `walk` of rules, part by part; a taking is what one
 -- part gives of it.
-use Rattle.std.specs.Prelude.{ℕ, ◌+◌, ◌*◌, ◌-◌, ◌<◌, min, max, Bool, not, ◌||◌, List, [], ◌∷◌, ◌++◌, map, eqb, ltb, length, get_or, take, drop, if◌then◌else◌}
+use Rattle.std.specs.Prelude.{ℕ, ◌+◌, ◌-◌, ◌<◌, min, max, Bool, not, ◌||◌, List, [], ◌∷◌, ◌++◌, eqb, ltb, if◌then◌else◌}
 use Rattle.basics.specs.Lists.{total}
 use Rattle.kinds.specs.declared.HalfCents.{HalfCents}
-use Rattle.kinds.specs.Kinds.{half_cents, shares}
+use Rattle.kinds.specs.Kinds.{shares}
 use Rattle.rules.specs.Book.{places_a_side}
 use Rattle.rules.specs.Holdings.{walk}
 use Rattle.rules.specs.Working.{beyond}
 use Rattle.orders.specs.declared.cursor.Part.{Part}
-use Rattle.orders.specs.declared.walk.Taking.{Taking}
+use Rattle.orders.specs.declared.takings.Taking.{Taking}
 use Rattle.orders.specs.declared.walk.Walked.{Walked}
-
-abbrev pub most_takings : ℕ
-most_takings = 2 * places_a_side
 
 -- the price of a part is not beyond a bound
 abbrev pub is_within : Bool → HalfCents → Part → Bool
 is_within buy bound p = not (beyond buy bound p.price)
 
 -- "with less left than the smaller of its minimum and its holding, it is skipped" (02, W7); else "for the smaller of the two sizes"
-abbrev pub is_passed : ℕ → Part → Bool
-is_passed left p = ltb left (min p.minimum.0 p.shares.0)
+abbrev pub part_is_skipped : ℕ → Part → Bool
+part_is_skipped left p = ltb left (min p.minimum.0 p.shares.0)
 
 abbrev pub part_gives : ℕ → Part → ℕ
-part_gives left p = if is_passed left p then 0 else min left p.shares.0
+part_gives left p = if part_is_skipped left p then 0 else min left p.shares.0
 
 -- ── Takings ──
 
@@ -54,35 +51,15 @@ unfoldable pub first_skipped : (Part → Bool) → ℕ → ℕ → List Part →
 first_skipped may kept left [] = kept
 first_skipped may kept left (p ∷ s) =
     if eqb left 0 || not (may p) then kept
-    else first_skipped may (if is_passed left p then min kept p.place else kept) (left - part_gives left p) s
+    else first_skipped may (if part_is_skipped left p then min kept p.place else kept) (left - part_gives left p) s
 
 -- a walk for some shares over parts: its takings, and how it ends
 abbrev pub takings_of : (Part → Bool) → ℕ → List Part → List Taking
 takings_of may want s = takings_from s (walk may part_gives want s)
 
-abbrev pub walked_with : List Taking → ℕ → ℕ → ℕ → Walked
-walked_with ks left at skipped = record { count = length ks; left = shares left; at = at; skipped = skipped }
-
 abbrev pub walked_of : (Part → Bool) → ℕ → List Part → Walked
-walked_of may want s =
-    walked_with (takings_of may want s) (want - total (walk may part_gives want s)) (reached may 0 want s)
-    (first_skipped may places_a_side want s)
-
--- ── Takings in a table ──
-
-abbrev pub taking_row : Taking → List ℕ
-taking_row k = k.place ∷ k.price.0 ∷ k.shares.0 ∷ []
-
-abbrev pub taking_in : List ℕ → Taking
-taking_in r = record { place = get_or r 0 0; price = half_cents (get_or r 1 0); shares = shares (get_or r 2 0) }
-
--- the takings that the first rows hold
-abbrev pub takings_in : ℕ → List (List ℕ) → List Taking
-takings_in count took = map taking_in (take count took)
-
--- rows at the front of a table, and from a place on: what stands before them and past them stays
-abbrev pub laid : List (List ℕ) → List (List ℕ) → List (List ℕ)
-laid rows took = rows ++ drop (length rows) took
-
-abbrev pub laid_at : ℕ → List (List ℕ) → List (List ℕ) → List (List ℕ)
-laid_at k rows took = take k took ++ laid rows (drop k took)
+walked_of may want s = record {
+  left = shares (want - total (walk may part_gives want s));
+  at = reached may 0 want s;
+  skipped = first_skipped may places_a_side want s;
+}

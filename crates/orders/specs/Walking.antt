@@ -4,7 +4,7 @@ use Rattle.basics.specs.Lists.{All, any}
 use Rattle.kinds.specs.declared.HalfCents.{HalfCents}
 use Rattle.kinds.specs.Kinds.{largest}
 use Rattle.orders.specs.Bound.{bound_of, bound_under}
-use Rattle.orders.specs.Fills.{Least}
+use Rattle.orders.specs.Fills.{MinimumRemains}
 use Rattle.orders.specs.Locks.{locked_price, ToldByPrice}
 use Rattle.orders.specs.Cursor.{parts, part_of, placed_from}
 use Rattle.rules.specs.declared.Order.{Order}
@@ -18,9 +18,9 @@ use Rattle.rules.specs.Book.{in_rank_order}
 use Rattle.rules.specs.EventLines.{ioc_remainder, fok_killed, post_only_meets, would_still_meet}
 use Rattle.rules.specs.Instructions.{ioc, fok, post_only, has}
 use Rattle.rules.specs.Working.{buying, limit_of, locking_price, reaches, is_displayed_at, meets_or_passes, least_of, Met, takings, remainder, seeks}
-use Rattle.orders.specs.declared.walk.Taking.{Taking}
+use Rattle.orders.specs.declared.takings.Taking.{Taking}
 use Rattle.orders.specs.declared.walk.Walked.{Walked}
-use Rattle.orders.specs.Walk.{most_takings, is_below, is_within, takings_from, takings_in, takings_of, walked_of}
+use Rattle.orders.specs.Walk.{is_below, is_within, takings_from, takings_of, walked_of}
 
 -- what working an order needs of the orders on the opposite side, and a sound book gives
 pub record Workable (h : Resting) : Type 0 where
@@ -28,7 +28,7 @@ pub record Workable (h : Resting) : Type 0 where
   pub priced : 1 ≤ h.price.0
   pub below : h.price.0 < largest
   pub countable : Countable h
-  pub least : Least h
+  pub remains : MinimumRemains h
   -- no minimum beside a reserve
   pub alone : 0 < h.minimum.0 → h.reserve.0 ≡ 0
 
@@ -52,7 +52,7 @@ pub record Walkable (o : Order) (met : Met) : Type 0 where
 
 -- an order that takes nothing ends its walk at the start
 abbrev pub untouched : Order → Walked
-untouched o = record { count = 0; left = o.shares; at = 0; skipped = 0 }
+untouched o = record { left = o.shares; at = 0; skipped = 0 }
 
 -- ── A walk up to a bound ──
 
@@ -78,15 +78,12 @@ walk_bound o met = bound_under (buying o) (locked_price met.own) (bound_of o met
 abbrev pub takings_by : Order → Met → List Taking
 takings_by o met = takings_from (map part_of (placed_from 0 met.opposite)) (takings o met)
 
--- how a walk ended and the table of its takings: these are the order's takings, the shares left its remainder, and no taking is from
--- place `at` on
-pub record Walks (o : Order) (met : Met) (w : Walked) (took : List (List ℕ)) : Type 0 where
-  pub takes : takings_in w.count took ≡ takings_by o met
-  pub counts : w.count ≡ length (takings_by o met)
-  pub fits : w.count ≤ most_takings
+-- how a walk ended and its takings: these are the order's takings, the shares left its remainder, and no taking is from place `at` on
+pub record Walks (o : Order) (met : Met) (w : Walked) (took : List Taking) : Type 0 where
+  pub takes : took ≡ takings_by o met
   pub leaves : w.left.0 ≡ remainder o met
   pub reaches : w.at ≤ length met.opposite
-  pub before : All (is_below w.at) (takings_by o met)
+  pub before : All (is_below w.at) took
 
 -- ── What becomes of the order ──
 

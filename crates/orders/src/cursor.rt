@@ -1,14 +1,12 @@
 // The parts of a side's orders, which are 02's holdings without empty reserves, in the order in which a walk reaches them (W4): each shown
 // part at its rank, each reserve behind every other order at its price. A cursor goes from one part to the next and passes the orders
 // once; only where a price has a reserve does it pass that price's orders again, and look behind them once more for each reserve.
-ghost use Rattle.std.specs.Prelude.{◌≡◌, ◌≤◌, ◌<◌};
+ghost use Rattle.std.specs.Prelude.{◌≡◌, ◌≤◌, ◌<◌, length};
 ghost use Rattle.rules.specs.Book.{places_a_side};
-ghost use Rattle.side.specs.Table.{side, Holds};
-ghost use Rattle.orders.specs.Cursor.{IsAt, Skips, LevelEnds, first_waiting, Follows};
+ghost use Rattle.orders.specs.Cursor.{IsAt, Skips, LevelEnds, Gives, first_waiting, Follows};
 
 use kinds::{HalfCents, Shares};
-use side::rows;
-use side::rows::{Index, Rows};
+use side::table::Table;
 
 // What one order can give at one point of a walk: its shown part, or its reserve. The order stands at rank `place`, and has a minimum or 0.
 #[derive(Clone, Copy)]
@@ -28,53 +26,40 @@ pub struct Cursor {
     pub level: HalfCents,
 }
 
-#[derive(Clone, Copy)]
-pub enum Following {
-    Is(Part, Cursor),
-    End,
-}
-
 // The first order from `from` on, before `to`, that has a reserve; `to` where none has.
-fn skip(x: &Index, t: &Rows, n: usize, from: usize, to: usize) -> usize
-    requires { Holds n x.now t.now × (from ≤ to) × (to ≤ n) }
-    ensures { Skips (side n x.now t.now) from to result }
+fn skip(t: &Table, from: usize, to: usize) -> usize
+    requires after { from ≤ to }
+    requires within { to ≤ length t.now }
+    ensures { Skips t.now from to result }
 {
-    let mut i = from;
-    while i < to {
-        let o = rows::at(x, t, n, i);
+    for rank in from..to {
+        let o = t.at(rank);
         if o.reserve.0 != 0 {
-            break;
+            return rank;
         }
-        i += 1;
     }
-    i
+    to
 }
 
 // The first of the reserves that wait, where no other order at their price is ahead.
-fn next_reserve(x: &Index, t: &Rows, n: usize, c: Cursor) -> Following
-    requires { Holds n x.now t.now × IsAt (side n x.now t.now) c × (c.waits < c.at) × LevelEnds (side n x.now t.now) c }
-    ensures { Follows (side n x.now t.now) c result }
+fn next_reserve(t: &Table, c: Cursor) -> (Part, Cursor)
+    requires stands { IsAt t.now c }
+    requires waits { c.waits < c.at }
+    requires ends { LevelEnds t.now c }
+    ensures { Gives t.now c result.0 result.1 }
 {
-    let at = c.at;
-    let waits = c.waits;
-    let level = c.level;
-    let o = rows::at(x, t, n, waits);
-    let price = o.price;
-    let reserve = o.reserve;
-    let minimum = o.minimum;
-    let more = skip(x, t, n, waits + 1, at);
+    let o = t.at(c.waits);
     let part = Part {
-        place: waits,
-        price: price,
-        shares: reserve,
-        minimum: minimum,
+        place: c.waits,
+        price: o.price,
+        shares: o.reserve,
+        minimum: o.minimum,
     };
     let next = Cursor {
-        at: at,
-        waits: more,
-        level: level,
+        waits: skip(t, c.waits + 1, c.at),
+        ..c
     };
-    Following::Is(part, next)
+    (part, next)
 }
 
 // The first order whose reserve waits, once the one at `at` has been reached.
@@ -88,38 +73,33 @@ fn first_waiting(at: usize, waits: usize, reserve: Shares) -> usize
     waits
 }
 
-// The part ahead of a cursor, and the cursor behind it.
-pub(crate) fn next(x: &Index, t: &Rows, n: usize, c: Cursor) -> Following
-    requires { Holds n x.now t.now × IsAt (side n x.now t.now) c }
-    ensures { Follows (side n x.now t.now) c result }
+// The part ahead of a cursor, if there is one, and the cursor behind it.
+pub(crate) fn next(t: &Table, c: Cursor) -> Option<(Part, Cursor)>
+    requires { IsAt t.now c }
+    ensures value { Follows t.now c result }
+    ensures fits { length t.now ≤ places_a_side }
 {
-    let at = c.at;
-    let waits = c.waits;
-    let level = c.level;
-    if n <= at {
-        if waits < at {
-            return next_reserve(x, t, n, c);
+    if t.len() <= c.at {
+        if c.waits < c.at {
+            return Some(next_reserve(t, c));
         }
-        return Following::End;
+        return None;
     }
-    let o = rows::at(x, t, n, at);
-    let price = o.price;
-    let shares = o.shares;
-    let minimum = o.minimum;
-    if (waits < at) & (price.0 != level.0) {
-        return next_reserve(x, t, n, c);
+    let o = t.at(c.at);
+    let price_ends = (c.waits < c.at) & (o.price != c.level);
+    if price_ends {
+        return Some(next_reserve(t, c));
     }
-    let first = first_waiting(at, waits, o.reserve);
     let part = Part {
-        place: at,
-        price: price,
-        shares: shares,
-        minimum: minimum,
+        place: c.at,
+        price: o.price,
+        shares: o.shares,
+        minimum: o.minimum,
     };
     let next = Cursor {
-        at: at + 1,
-        waits: first,
-        level: price,
+        at: c.at + 1,
+        waits: first_waiting(c.at, c.waits, o.reserve),
+        level: o.price,
     };
-    Following::Is(part, next)
+    Some((part, next))
 }

@@ -1,5 +1,5 @@
-// An order on a sound book that stands in a header and two sides that are lent (01, How an order is worked): it is judged by its own fields
-// and then matched, on whichever side of the market it is of.
+// An order on a sound book in place (01, How an order is worked): it is judged by its own fields and then matched, on whichever side of the
+// market it is of.
 
 #![tactic(auto)]
 
@@ -9,91 +9,46 @@ mod matching;
 pub mod pricing;
 mod refills;
 pub mod reports;
+pub mod takings;
 pub mod walk;
 mod work;
 
-ghost use Rattle.std.specs.Prelude.{◌≡◌, ◌≤◌, ◌<◌, length};
+ghost use Rattle.std.specs.Prelude.{true, ◌≡◌, ◌≤◌, ◌<◌, length};
+ghost use Rattle.rules.specs.Book.{sound};
 ghost use Rattle.rules.specs.Refusals.{least_room};
 ghost use Rattle.rules.specs.declared.Body.TheVariants as body;
-ghost use Rattle.side.specs.Answers.{body_answer, Left, Stands};
-ghost use Rattle.side.specs.Tables.{book_on};
-ghost use Rattle.orders.specs.Orders.{step_after};
+ghost use Rattle.side.specs.Answers.{body_answer, Left};
 
-use crate::matching::Matched;
-use crate::walk::Takings;
+use crate::takings::Takings;
 use kinds::Number;
-use rules::{Held, Order};
-use side::rows::{Index, Rows};
-use side::tables;
-use side::tables::{Head, Step};
+use rules::{Held, Order, Refusal};
+use side::table::Table;
 
-// The header after a match of an order of one side of the market.
-fn step_after(h: Head, number: Number, time: u32, buying: bool, r: Matched) -> Step
-    ensures { result ≡ step_after h number time buying r }
-{
-    if r.refusal != 0 {
-        return tables::refuse(h, r.refusal);
-    }
-    let held = h.held;
-    let accepted = Held {
-        last: number,
-        time: time,
-        ..held
-    };
-    if buying {
-        let head = Head {
-            held: accepted,
-            buys: r.own,
-            sells: r.opposite,
-        };
-        return Step {
-            refusal: 0,
-            head: head,
-            length: r.length,
-        };
-    }
-    let head = Head {
-        held: accepted,
-        buys: r.opposite,
-        sells: r.own,
-    };
-    Step {
-        refusal: 0,
-        head: head,
-        length: r.length,
-    }
-}
-
+// The header is read alone: whoever carries the command out writes it.
 pub fn enter(
-    h: Head,
+    held: &Held,
     number: Number,
-    time: u32,
     o: Order,
-    x: &mut Index,
-    buys: &mut Rows,
-    y: &mut Index,
-    sells: &mut Rows,
+    buys: &mut Table,
+    sells: &mut Table,
     took: &mut Takings,
     out: &mut [u8],
-) -> Step
-    requires { Stands h x.old buys.old y.old sells.old × (least_room ≤ length out.old) × (h.held.last.0 < number.0) }
-    ensures { Left result x.new buys.new y.new sells.new out.new out.old
-        (body_answer number time (body.Order o) (book_on h x.old buys.old y.old sells.old)) }
+) -> Result<usize, Refusal>
+    requires is_sound { sound (record { held = held.now; buys = buys.old; sells = sells.old }) ≡ true }
+    requires room { least_room ≤ length out.old }
+    requires next { held.now.last.0 < number.0 }
+    ensures { Left result buys.new sells.new out.new out.old
+        (body_answer number held.now.time (body.Order o) (record { held = held.now; buys = buys.old; sells = sells.old })) }
 {
     if !judge::order_lawful(o) {
-        return tables::refuse(h, 8);
+        return Err(Refusal::UnlawfulWord);
     }
     if !judge::order_in_range(o) {
-        return tables::refuse(h, 9);
+        return Err(Refusal::OutOfRange);
     }
-    let held = h.held;
-    let away = held.away;
-    let n = h.buys;
-    let m = h.sells;
     if o.side == 0 {
-        let r = matching::match_order(o, number, away, x, buys, n, y, sells, m, took, out);
-        return step_after(h, number, time, true, r);
+        matching::match_order(o, number, held.away, buys, sells, took, out)
+    } else {
+        matching::match_order(o, number, held.away, sells, buys, took, out)
     }
-    let r = matching::match_order(o, number, away, y, sells, m, x, buys, n, took, out);
-    step_after(h, number, time, false, r)
 }

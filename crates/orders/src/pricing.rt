@@ -3,32 +3,26 @@
 ghost use Rattle.std.specs.Prelude.{◌≡◌, ◌-◌, ◌≤◌, ◌<◌};
 ghost use Rattle.kinds.specs.Kinds.{largest};
 ghost use Rattle.rules.specs.Working.{buying, limit_of, locking_price, half_a_cent_the_incoming_way, one_cent_less_aggressive, adjusted, seeks};
-ghost use Rattle.side.specs.Table.{side, Holds};
 ghost use Rattle.orders.specs.Bound.{farthest, bound_of, bound_under};
 ghost use Rattle.orders.specs.Locks.{locked_price, executes_at};
 
 use judge::instructions;
 use kinds::HalfCents;
 use rules::{Away, Ending, Order};
-use side::rows::{Index, Rows};
-use side::{prices, rows};
+use side::prices;
+use side::table::Table;
 
 // ── Step 1: how far the walk goes, and at which price ──
 
 // The price at which hidden orders of the opposite side are locked, if any rest there: since nothing crosses, it can only be the best price
 // of the order's own side, and its best order is displayed if any at that price is. 0 where none is displayed there.
-pub(crate) fn locked_price(x: &Index, t: &Rows, n: usize) -> HalfCents
-    requires { Holds n x.now t.now }
-    ensures { result ≡ locked_price (side n x.now t.now) }
+pub(crate) fn locked_price(t: &Table) -> HalfCents
+    ensures { result ≡ locked_price t.now }
 {
-    if n == 0 {
-        return HalfCents(0);
+    match t.get(0) {
+        Some(best) if best.displayed => best.price,
+        _ => HalfCents(0),
     }
-    let best = rows::at(x, t, n, 0);
-    if best.displayed {
-        return best.price;
-    }
-    HalfCents(0)
 }
 
 fn half_a_cent(buy: bool, p: HalfCents) -> HalfCents
@@ -46,13 +40,14 @@ pub(crate) fn execution_price(buy: bool, locked: HalfCents, price: HalfCents) ->
     requires { locked.0 < largest }
     ensures { result ≡ executes_at buy locked price }
 {
-    if price.0 == locked.0 {
+    if price == locked {
         return half_a_cent(buy, price);
     }
     price
 }
 
 // The limit, or for a market order the farthest price that there is.
+#[tactic(auto, unfolding(crate::specs::Bound::farthest))]
 fn limit_of(o: Order) -> HalfCents
     requires { (limit_of o).0 ≤ largest }
     ensures { result ≡ farthest o }
@@ -68,6 +63,7 @@ fn limit_of(o: Order) -> HalfCents
 }
 
 // The limit, or the away price where that comes first and restricts the order.
+#[tactic(auto, unfolding(crate::specs::Bound::bound_of))]
 fn bound_of(o: Order, away: Away) -> HalfCents
     requires { ((limit_of o).0 ≤ largest) × ((locking_price (buying o) away).0 ≤ largest) }
     ensures { result ≡ bound_of o away }
@@ -90,7 +86,7 @@ pub(crate) fn bound_under(o: Order, away: Away, locked: HalfCents) -> HalfCents
     ensures { result ≡ bound_under (buying o) locked (bound_of o away) }
 {
     let bound = bound_of(o, away);
-    if bound.0 == locked.0 {
+    if bound == locked {
         return half_a_cent(o.side != 0, bound);
     }
     bound
@@ -121,6 +117,7 @@ fn adjust(o: Order, price: HalfCents) -> Ending
     Ending::Cancels(5)
 }
 
+#[tactic(auto, unfolding(rules::specs::Working::seeks))]
 pub(crate) fn seek(o: Order, away: Away) -> Ending
     requires { ((limit_of o).0 ≤ largest) × ((locking_price (buying o) away).0 < largest - 1) }
     ensures { result ≡ seeks o away }
@@ -133,7 +130,7 @@ pub(crate) fn seek(o: Order, away: Away) -> Ending
     }
     let crosses = !prices::within(buy, locking, price);
     let displayed = instructions::has(o.word, rules::DISPLAYED);
-    if displayed & ((price.0 == locking.0) | crosses) {
+    if displayed & ((price == locking) | crosses) {
         return adjust(o, less_aggressive(buy, locking));
     }
     if !displayed & crosses {

@@ -6,16 +6,14 @@ ghost use Rattle.kinds.specs.Kinds.{shares};
 ghost use Rattle.rules.specs.EventLines.{event_lines};
 ghost use Rattle.rules.specs.Settling.{shown_of, refilled, first_move, told, settled_side};
 ghost use Rattle.rules.specs.Working.{refill_fate};
-ghost use Rattle.settling.specs.OneByOne.{settled_in};
 ghost use Rattle.side.specs.Shifts.{Countable};
-ghost use Rattle.side.specs.Table.{side, Holds, Shows};
 ghost use Rattle.orders.specs.Refills.{MayRefill};
 
 use kinds::{Number, Shares};
 use rules::{Fate, Resting};
-use settling::Settled;
+use settling::Settling;
 use side::rows;
-use side::rows::{Index, Rows};
+use side::table::Table;
 
 // The shares that an order shows of those left: its Max Floor, or what is left if that is less; all of them where it has none.
 pub(crate) fn shown_of(floor: Shares, left: Shares) -> Shares
@@ -34,56 +32,44 @@ fn refill_order(o: Resting) -> Resting
 {
     let left = rows::shares_left(o);
     let shown = shown_of(o.floor, left);
-    let reserve = left.0 - shown.0;
     Resting {
         shares: shown,
-        reserve: Shares(reserve),
+        reserve: Shares(left.0 - shown.0),
         ..o
     }
 }
 
-// The refills that are due on a side: of its first `reached` orders, which a walk reached, those that show nothing, in rank order. One
-// that is refilled takes its place behind all displayed at its price, which may be before others that are due: so the loop passes it
-// there.
+// The refills that are due on a side: of its first `reached` orders, which a walk reached, those that show nothing, in rank order; the
+// length of the lines. One that is refilled takes its place behind all displayed at its price, which may be before others that are due: so
+// the loop passes it there.
 pub(crate) fn refill(
-    x: &mut Index,
-    t: &mut Rows,
-    n: usize,
+    t: &mut Table,
     reached: usize,
     buying: bool,
     number: Number,
     out: &mut [u8],
-) -> Settled
-    requires { Holds n x.old t.old × MayRefill buying number reached (side n x.old t.old)
-        × (length (event_lines (told refill_fate (side n x.old t.old))) ≤ length out.old) }
-    ensures value { result ≡ settled_in number first_move buying refill_fate (side n x.old t.old) }
-    ensures shows { Shows (settled_side number first_move buying refill_fate (side n x.old t.old))
-        x.new t.new }
-    ensures out_after { out.new ≡ onto (event_lines (told refill_fate (side n x.old t.old))) out.old }
+) -> usize
+    requires may { MayRefill buying number reached t.old }
+    requires room { length (event_lines (told refill_fate t.old)) ≤ length out.old }
+    ensures value { result ≡ length (event_lines (told refill_fate t.old)) }
+    ensures settles { t.new ≡ settled_side number first_move buying refill_fate t.old }
+    ensures out_after { out.new ≡ onto (event_lines (told refill_fate t.old)) out.old }
 {
-    let mut m = Settled {
-        held: n,
+    let mut m = Settling {
+        number,
+        buying,
         next: settling::FIRST_MOVE,
         length: 0,
     };
     let mut at = 0;
     while at < reached {
-        let o = rows::at(x, t, m.held, at);
-        if o.shares.0 != 0 {
+        let o = t.at(at);
+        let is_shown = o.shares.0 != 0;
+        if is_shown {
             at += 1;
         } else {
-            m = settling::settle(
-                x,
-                t,
-                m,
-                at,
-                o,
-                Fate::IsSet(refill_order(o)),
-                buying,
-                number,
-                out,
-            );
+            m = m.settle(t, at, o, Fate::IsSet(refill_order(o)), out);
         }
     }
-    m
+    m.length
 }

@@ -2,27 +2,25 @@
 // order (2 to 6): filled, at rest at a price, or cancelled for a reason.
 ghost use Rattle.std.specs.Prelude.{◌≡◌, ◌-◌, ◌≤◌, ◌<◌, drop};
 ghost use Rattle.kinds.specs.Kinds.{shares, largest};
-ghost use Rattle.side.specs.Table.{side, Holds};
 ghost use Rattle.rules.specs.Working.{buying, limit_of, locking_price, meets_or_passes, minimum_of, least_of};
-ghost use Rattle.orders.specs.Walk.{takings_in};
 ghost use Rattle.orders.specs.Walking.{walk_for, takings_for, rests_unless_best_meets, ending_by_best};
 
-use crate::walk::{Takings, Walked};
+use crate::takings::Takings;
+use crate::walk::Walked;
 use crate::{pricing, walk};
 use judge::instructions;
 use kinds::{HalfCents, Shares};
 use rules::{Away, Carried, Ending, Order, Resting};
-use side::rows::{Index, Rows};
-use side::{prices, rows};
+use side::prices;
+use side::table::Table;
 
 // The minimum of an order, 0 for none (02, W7).
 pub(crate) fn minimum_of(carried: Carried) -> Shares
     ensures { result ≡ shares (minimum_of carried) }
 {
     match carried {
-        Carried::Nothing => Shares(0),
-        Carried::MaxFloor(floor) => Shares(0),
         Carried::Minimum(least) => least,
+        Carried::Nothing | Carried::MaxFloor(_) => Shares(0),
     }
 }
 
@@ -33,37 +31,29 @@ fn least_of(o: Order) -> Shares
     if instructions::has(o.word, rules::FOK) {
         return o.shares;
     }
-    let carried = o.carried;
-    minimum_of(carried)
+    minimum_of(o.carried)
 }
 
 // The walk of an order up to a bound, with its takings: Post Only takes nothing, nor does an order whose walk gives less than the least
 // that it must.
-pub(crate) fn walk_of(
-    o: Order,
-    bound: HalfCents,
-    x: &Index,
-    t: &Rows,
-    n: usize,
-    took: &mut Takings,
-) -> Walked
-    requires { Holds n x.now t.now }
-    ensures value { result ≡ walk_for o bound (side n x.now t.now) }
-    ensures took_after { takings_in result.count took.new ≡ takings_for o bound (side n x.now t.now) }
+#[tactic(auto, unfolding(crate::specs::Walking::walk_for, crate::specs::Walking::takings_for))]
+pub(crate) fn walk_of(o: Order, bound: HalfCents, t: &Table, took: &mut Takings) -> Walked
+    ensures value { result ≡ walk_for o bound t.now }
+    ensures took_after { took.new ≡ takings_for o bound t.now }
 {
-    let shares = o.shares;
     let nothing = Walked {
-        count: 0,
-        left: shares,
+        left: o.shares,
         at: 0,
         skipped: 0,
     };
     if instructions::has(o.word, rules::POST_ONLY) {
+        took.clear();
         return nothing;
     }
-    let least = least_of(o);
-    let w = walk::walk(x, t, n, o.side == 0, bound, shares, took);
-    if shares.0 - w.left.0 < least.0 {
+    let w = walk::walk(t, o.side == 0, bound, o.shares, took);
+    let too_few = o.shares.0 - w.left.0 < least_of(o).0;
+    if too_few {
+        took.clear();
         return nothing;
     }
     w
@@ -74,9 +64,10 @@ fn meets(buy: bool, price: HalfCents, best: Resting) -> bool
     ensures { result ≡ meets_or_passes buy price best }
 {
     if best.displayed {
-        return prices::within(buy, price, best.price);
+        prices::within(buy, price, best.price)
+    } else {
+        !prices::within(buy, best.price, price)
     }
-    !prices::within(buy, best.price, price)
 }
 
 // Steps 5 and 6, of an order that seeks to rest at a price: Post Only is cancelled where it meets or passes the best opposite order that is
@@ -85,45 +76,42 @@ fn meets(buy: bool, price: HalfCents, best: Resting) -> bool
 fn rest_unless_meets(
     o: Order,
     locked: HalfCents,
-    x: &Index,
-    t: &Rows,
-    n: usize,
+    t: &Table,
     kept: usize,
     price: HalfCents,
 ) -> Ending
-    requires { Holds n x.now t.now × (kept ≤ n) }
-    ensures { result ≡ rests_unless_best_meets o locked (drop kept (side n x.now t.now)) price }
+    ensures { result ≡ rests_unless_best_meets o locked (drop kept t.now) price }
 {
-    if n <= kept {
+    let Some(best) = t.get(kept) else {
         return Ending::Rests(price);
-    }
+    };
     let buy = o.side == 0;
-    let best = rows::at(x, t, n, kept);
     if instructions::has(o.word, rules::POST_ONLY) {
         if meets(buy, price, best) {
             return Ending::Cancels(6);
         }
         return Ending::Rests(price);
     }
-    if prices::within(buy, price, best.price) & (price.0 != locked.0) {
+    let still_meets = prices::within(buy, price, best.price) & (price != locked);
+    if still_meets {
         return Ending::Cancels(8);
     }
     Ending::Rests(price)
 }
 
 // What becomes of an order of which `left` shares are left after the walk.
+#[tactic(auto, unfolding(crate::specs::Walking::ending_by_best))]
 pub(crate) fn ending_of(
     o: Order,
     away: Away,
     locked: HalfCents,
-    x: &Index,
-    t: &Rows,
-    n: usize,
+    t: &Table,
     kept: usize,
     left: Shares,
 ) -> Ending
-    requires { Holds n x.now t.now × (kept ≤ n) × (((limit_of o).0 ≤ largest) × ((locking_price (buying o) away).0 < largest - 1)) }
-    ensures { result ≡ ending_by_best left.0 o away locked (drop kept (side n x.now t.now)) }
+    requires limited { (limit_of o).0 ≤ largest }
+    requires locking_priced { (locking_price (buying o) away).0 < largest - 1 }
+    ensures { result ≡ ending_by_best left.0 o away locked (drop kept t.now) }
 {
     if left.0 == 0 {
         return Ending::Filled;
@@ -134,9 +122,9 @@ pub(crate) fn ending_of(
     if instructions::has(o.word, rules::IOC) {
         return Ending::Cancels(2);
     }
-    match pricing::seek(o, away) {
-        Ending::Filled => Ending::Filled,
-        Ending::Cancels(reason) => Ending::Cancels(reason),
-        Ending::Rests(price) => rest_unless_meets(o, locked, x, t, n, kept, price),
-    }
+    let sought = pricing::seek(o, away);
+    let Ending::Rests(price) = sought else {
+        return sought;
+    };
+    rest_unless_meets(o, locked, t, kept, price)
 }

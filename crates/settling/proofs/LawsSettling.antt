@@ -11,7 +11,7 @@ use native.Mathlib.Omega.{arith}
 use Rattle.basics.specs.Bytes.{onto, onto_from}
 use Rattle.basics.specs.Lists.{remove_at, gathered, All, none, also}
 use Rattle.basics.proofs.LawsBytes.{onto_none, onto_next}
-use Rattle.basics.proofs.LawsLists.{all_alike}
+use Rattle.basics.proofs.LawsLists.{all_alike, length_remove_at}
 use Rattle.kinds.specs.declared.Number.{Number}
 use Rattle.rules.specs.declared.Event.{Event}
 use Rattle.rules.specs.declared.Fate.{Fate}
@@ -22,7 +22,7 @@ use Rattle.rules.specs.EventLines.{event_lines}
 use Rattle.rules.specs.Settling.{stamped_as, set_by, told_by, set_anew, told, settled_side}
 use Rattle.rules.proofs.LawsCommands.{IfSet}
 use Rattle.rules.proofs.LawsEvents.{event_lines_append, none_long}
-use Rattle.soundness.proofs.LawsInsert.{Added, here, later, added_insert, added_all, ranked_insert}
+use Rattle.soundness.proofs.LawsInsert.{Added, here, later, added_insert, added_length, added_all, ranked_insert}
 use Rattle.rules.proofs.LawsRank.{earlier_place, earlier_transitive, ranked_first, ranked_rest, ranked_more}
 use Rattle.soundness.proofs.LawsSettled.{next_place}
 use Rattle.settling.specs.declared.Settling.{Settling}
@@ -51,6 +51,44 @@ all_front zero p d a = none
 all_front (suc i) p (here {s = s}) a = also p (all_fewer i s a)
 all_front (suc i) p (later d) (also q a) = also q (all_front i p d a)
 
+-- ── Those that are left ──
+
+-- an order that is set anew stands there as before
+pub length_set : (n : Number) (k : ℕ) (buy : Bool) (new : Resting) (at : ℕ) (s : List Resting) → at < length s
+    → length (settled_at n k buy (IsSet new) at s) ≡ length s
+length_set n k buy new at s l =
+    omega (arith, added_length (added_insert buy (stamped_as (stamp n k) new) (remove_at at s)), length_remove_at at s l)
+
+length_settled : (n : Number) (k : ℕ) (buy : Bool) (f : Fate) (at : ℕ) (s : List Resting) → at < length s
+    → length (settled_at n k buy f at s) ≤ length s
+length_settled n k buy Stays at s l = omega arith
+length_settled n k buy (IsCancelled reason) at s l = omega (arith, length_remove_at at s l)
+length_settled n k buy (IsSet new) at s l = omega (arith, length_set n k buy new at s l)
+
+-- what holds of all, and of whoever is set anew, holds of those that are left
+removed_all : {P : Resting → Type 0} (at : ℕ) {s : List Resting} → All P s → All P (remove_at at s)
+removed_all at a = all_joined (front at a) (behind (at + 1) a)
+  where
+    front : {P : Resting → Type 0} (k : ℕ) {s : List Resting} → All P s → All P (take k s)
+    front zero a = none
+    front (suc k) none = none
+    front (suc k) (also p a) = also p (front k a)
+
+    behind : {P : Resting → Type 0} (k : ℕ) {s : List Resting} → All P s → All P (drop k s)
+    behind zero a = a
+    behind (suc k) none = none
+    behind (suc k) (also p a) = behind k a
+
+    all_joined : {P : Resting → Type 0} {s u : List Resting} → All P s → All P u → All P (s ++ u)
+    all_joined none b = b
+    all_joined (also p a) b = also p (all_joined a b)
+
+pub settled_at_all : {P : Resting → Type 0} (n : Number) (k : ℕ) (buy : Bool) (f : Fate) → IfSet (λ (new : Resting). P (stamped_as (stamp n k) new)) f
+    → (at : ℕ) {s : List Resting} → All P s → All P (settled_at n k buy f at s)
+settled_at_all n k buy Stays p at a = a
+settled_at_all n k buy (IsCancelled reason) p at a = removed_all at a
+settled_at_all n k buy (IsSet new) p at {s = s} a = added_all p (added_insert buy (stamped_as (stamp n k) new) (remove_at at s)) (removed_all at a)
+
 -- ── The invariant ──
 
 -- a side s is left of s₀, the command has come from `first` to m with it, and the lines are written onto out₀
@@ -66,6 +104,7 @@ pub record IsSettling (fate : Resting → Fate) (first : Settling) (s₀ : List 
   pub written : out ≡ onto (event_lines done) out₀
   pub ranked : in_rank_order m.buying s ≡ true
   pub older : All (Older (stamp m.number m.next)) s
+  pub fits : length s ≤ length s₀
 
 pub settling_start : (fate : Resting → Fate) (first : Settling) (s : List Resting) (out : List ℕ) → first.length ≡ 0
     → in_rank_order first.buying s ≡ true → All (Older (stamp first.number first.next)) s → IsSettling fate first s out s first out
@@ -81,6 +120,7 @@ settling_start fate first s out z r o = record {
   written = onto_none out;
   ranked = r;
   older = o;
+  fits = omega arith;
 }
 
 pub anew_fit : (fate : Resting → Fate) (s : List Resting) → length (set_anew fate s) ≤ length s
@@ -162,6 +202,7 @@ module _ {fate : Resting → Fate} {first : Settling} {s₀ : List Resting} {out
                   ∙ ap (λ (x : List ℕ). onto x out₀) (sym (event_lines_append i.done (told_by (fate h) h)));
               ranked = stand.1;
               older = stand.2;
+              fits = omega (arith, i.fits, length_settled n k buy (fate h) at s l);
             },
             stand.0,
           )
@@ -189,30 +230,6 @@ module _ {fate : Resting → Fate} {first : Settling} {s₀ : List Resting} {out
                 ranked_insert buy x (remove_at at s) (all_alike (λ y o. o.stamped) older_others) ranked_others,
                 added_all (record { priced = b; stamped = before }) added others,
               )
-
--- what holds of all, and of whoever is set anew, holds of those that are left
-removed_all : {P : Resting → Type 0} (at : ℕ) {s : List Resting} → All P s → All P (remove_at at s)
-removed_all at a = all_joined (front at a) (behind (at + 1) a)
-  where
-    front : {P : Resting → Type 0} (k : ℕ) {s : List Resting} → All P s → All P (take k s)
-    front zero a = none
-    front (suc k) none = none
-    front (suc k) (also p a) = also p (front k a)
-
-    behind : {P : Resting → Type 0} (k : ℕ) {s : List Resting} → All P s → All P (drop k s)
-    behind zero a = a
-    behind (suc k) none = none
-    behind (suc k) (also p a) = behind k a
-
-    all_joined : {P : Resting → Type 0} {s u : List Resting} → All P s → All P u → All P (s ++ u)
-    all_joined none b = b
-    all_joined (also p a) b = also p (all_joined a b)
-
-pub settled_at_all : {P : Resting → Type 0} (n : Number) (k : ℕ) (buy : Bool) (f : Fate) → IfSet (λ (new : Resting). P (stamped_as (stamp n k) new)) f
-    → (at : ℕ) {s : List Resting} → All P s → All P (settled_at n k buy f at s)
-settled_at_all n k buy Stays p at a = a
-settled_at_all n k buy (IsCancelled reason) p at a = removed_all at a
-settled_at_all n k buy (IsSet new) p at {s = s} a = added_all p (added_insert buy (stamped_as (stamp n k) new) (remove_at at s)) (removed_all at a)
 
 -- ── What the code leaves ──
 

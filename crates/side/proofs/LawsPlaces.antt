@@ -14,7 +14,6 @@ use Rattle.std.proofs.Common.{rules}
 use Rattle.basics.specs.Lists.{first_where}
 use Rattle.basics.proofs.LawsChoice.{holds_or_not}
 use Rattle.rules.specs.declared.Resting.{Resting}
-use Rattle.rules.specs.declared.Stamp.{Stamp}
 use Rattle.rules.specs.Book.{earlier, ranks_before}
 
 -- ── The first that passes a test ──
@@ -46,20 +45,6 @@ module _ {A : Type 0} (test : A → Bool) where
 -- what the derived order of a kind says
 pub is_lt_nat_cmp : (a b : ℕ) → is_lt (nat_cmp a b) ≡ ltb a b
 is_lt_nat_cmp a b = search rules
-
-pub earlier_by_values : (s t : Stamp)
-    → (ltb s.command.0 t.command.0 || eqb s.command.0 t.command.0 && ltb s.place t.place) ≡ earlier s t
-earlier_by_values s t =
-    ⊎_elim
-    (λ (e : eqb s.command.0 t.command.0 ≡ true).
-    let same : s.command.0 ≡ t.command.0 = eqb-true s.command.0 t.command.0 e in
-    rw (e, le-ltb s.command.0 t.command.0 (omega arith)))
-    (λ (e : eqb s.command.0 t.command.0 ≡ false). rw e (or_none (ltb s.command.0 t.command.0)))
-    (holds_or_not (eqb s.command.0 t.command.0))
-  where
-    or_none : (b : Bool) → (b || false) ≡ b
-    or_none true = refl
-    or_none false = refl
 
 pub ranks_by_values : (buy : Bool) (x y : Resting)
     → (buy && ltb y.price.0 x.price.0 || not buy && ltb x.price.0 y.price.0

@@ -1,3 +1,4 @@
 pub mod LawsCopied
 pub mod LawsNumbered
 pub mod LawsAnswers
+pub mod Determined

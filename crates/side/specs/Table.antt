@@ -75,4 +75,4 @@ pub record Holds (n : ℕ) (x : List ℕ) (t : List Row) : Type 0 where
   pub fits : n ≤ places_a_side
   pub all : length t ≡ places_a_side
   pub names : Names x
-  pub words : rows_at t (ranked n x) ≡ map row_of (side n x t)
+  pub rows : rows_at t (ranked n x) ≡ map row_of (side n x t)

@@ -10,10 +10,10 @@ pub mod shifts;
 pub mod table;
 pub mod tables;
 
-ghost use Rattle.std.specs.Prelude.{true, ◌≡◌, ◌≤◌, ◌<◌, ◌-◌, max, eqb, ltb, length, get_or, if◌then◌else◌};
+ghost use Rattle.std.specs.Prelude.{true, ◌≡◌, ◌≤◌, ◌<◌, eqb, ltb, length, get_or, if◌then◌else◌};
 ghost use Rattle.std.specs.Int.{from_bool};
 ghost use Rattle.basics.specs.Lists.{first_where, distinct};
-ghost use Rattle.side.specs.Table.{index_size, level_of};
+ghost use Rattle.side.specs.Table.{level_of};
 ghost use Rattle.rules.specs.Book.{places_a_side, unused, numbers, earlier as earlierStamp, ranks_before, in_rank_order};
 ghost use Rattle.side.specs.Looking.{Newest, rank_of, Hinted, Named};
 

@@ -1,7 +1,7 @@
 // Orders moved in and out of one side, in place: the index is turned, and the rows stay where they are.
 ghost use Rattle.std.specs.Prelude.{true, ◌&&◌, ◌≡◌, ◌+◌, ◌-◌, ◌≤◌, ◌<◌, min, ltb, leb, length, drop, get_or, set, if◌then◌else◌};
 ghost use Rattle.basics.specs.Lists.{every, insert_at, remove_at};
-ghost use Rattle.side.specs.Table.{index_size, places_a_part, rotated};
+ghost use Rattle.side.specs.Table.{places_a_part, rotated};
 ghost use Rattle.rules.specs.Book.{places_a_side, unused};
 ghost use Rattle.side.specs.Shifts.{keeps, keepers, less_by};
 
@@ -88,6 +88,7 @@ fn has_shares(o: Resting) -> bool
 
 impl Table {
     // The side with one more order, at rank `at`: it takes the first free row.
+    #[tactic(auto, using(crate::proofs::rows::LawsShown::length_is))]
     pub(crate) fn insert(&mut self, at: usize, o: Resting)
         requires { (at ≤ length self.old) × (length self.old < places_a_side) }
         ensures { self.new ≡ insert_at at o self.old }
@@ -102,6 +103,7 @@ impl Table {
     }
 
     // The side without the order at rank `at`: its row is free.
+    #[tactic(auto, using(crate::proofs::rows::LawsShown::length_is))]
     pub fn remove(&mut self, at: usize)
         requires { at < length self.old }
         ensures value { self.new ≡ remove_at at self.old }
@@ -113,6 +115,7 @@ impl Table {
     }
 
     // The side with `part` shares fewer in the order at rank `at`: of its shown part first, and then of its reserve.
+    #[tactic(auto, using(crate::proofs::rows::LawsShown::length_is))]
     pub fn reduce(&mut self, at: usize, part: Shares)
         requires { at < length self.old }
         ensures { self.new ≡ set self.old at (less_by part.0 (get_or self.old at unused)) }
@@ -133,6 +136,7 @@ impl Table {
 
     // Of the first `reached` orders those leave that have nothing left. From the worst of them to the best, each changes places with the
     // first that leaves, so that whoever leaves comes to stand behind; whether one counts is no branch.
+    #[tactic(auto, using(crate::proofs::rows::LawsShown::length_is))]
     pub fn close_up(&mut self, reached: usize)
         requires within { reached ≤ length self.old }
         requires others { every keeps (drop reached self.old) ≡ true }

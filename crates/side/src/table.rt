@@ -2,7 +2,6 @@
 ghost use Rattle.std.specs.Prelude.{◌≡◌, ◌≤◌, ◌<◌, [], length, get_or, leb, slice_get};
 ghost use Rattle.rules.specs.Book.{places_a_side, unused};
 ghost use Rattle.side.specs.Table.{level_of};
-ghost use Rattle.side.specs.Tables.{Numbered};
 
 use crate::rows;
 use crate::rows::{Index, PLACES, Rows};
@@ -49,6 +48,7 @@ impl Table {
         self.held = 0;
     }
 
+    #[tactic(auto, using(crate::proofs::rows::LawsShown::length_is))]
     pub fn len(&self) -> usize
         ensures value { result ≡ length self.now }
         ensures fits { length self.now ≤ places_a_side }
@@ -56,6 +56,7 @@ impl Table {
         self.held
     }
 
+    #[tactic(auto, using(crate::proofs::rows::LawsShown::length_is))]
     pub fn is_full(&self) -> bool
         ensures { result ≡ leb places_a_side (length self.now) }
     {
@@ -63,15 +64,16 @@ impl Table {
     }
 
     // The order at a rank of the side.
+    #[tactic(auto, using(crate::proofs::rows::LawsShown::length_is))]
     pub fn at(&self, rank: usize) -> Resting
         requires { rank < length self.now }
         ensures { result ≡ get_or self.now rank unused }
     {
-        let slot = rows::slot_at(&self.index, self.held, rank);
-        self.rows[slot].order
+        self.rows[rows::slot_at(&self.index, self.held, rank)].order
     }
 
     // The order at a rank, if the side has so many.
+    #[tactic(auto, using(crate::proofs::rows::LawsShown::length_is))]
     pub fn get(&self, rank: usize) -> Option<Resting>
         ensures { result ≡ slice_get self.now rank }
     {
@@ -83,12 +85,12 @@ impl Table {
     }
 
     // The level of the order at a rank.
+    #[tactic(auto, using(crate::proofs::rows::LawsShown::length_is))]
     pub(crate) fn level_at(&self, rank: usize, buying: bool) -> u32
         requires { rank < length self.now }
         ensures { result ≡ level_of buying (get_or self.now rank unused) }
     {
-        let slot = rows::slot_at(&self.index, self.held, rank);
-        let row = self.rows[slot];
+        let row = self.rows[rows::slot_at(&self.index, self.held, rank)];
         if buying {
             row.buy_level
         } else {

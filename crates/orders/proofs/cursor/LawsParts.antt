@@ -20,9 +20,9 @@ use Rattle.rules.specs.Working.{beyond}
 use Rattle.rules.proofs.LawsBest.{HoldingsBest}
 use Rattle.rules.proofs.LawsTakings.{nothing_total}
 use Rattle.orders.specs.declared.cursor.Part.{Part}
-use Rattle.orders.specs.declared.walk.Taking.{Taking}
+use Rattle.orders.specs.declared.takings.Taking.{Taking}
 use Rattle.orders.specs.Cursor.{shown_at, reserves, parts_from, parts, Placed, placed_at, part_of, behind_placed, placed_from}
-use Rattle.orders.specs.Walk.{is_within, is_passed, part_gives, taking, takings_from, takings_of}
+use Rattle.orders.specs.Walk.{is_within, part_is_skipped, part_gives, taking, takings_from, takings_of}
 use Rattle.orders.proofs.walk.LawsTaken.{taking_none, takings_nothing}
 
 -- ── Holdings at their places ──
@@ -234,7 +234,7 @@ module _ (may : Part → Bool) where
           let z : p.holding.of.reserve.0 ≡ 0 = eqb-true _ 0 (and_right p.holding.is_reserve (eqb p.holding.of.reserve.0 0) e) in
           let size_none : size p.holding ≡ 0 = rw (is, z) refl in
           let g : part_gives left (part_of p) ≡ 0 =
-          by_choice (λ (k : ℕ). k ≡ 0) (is_passed left (part_of p)) (λ u. refl) (λ u. omega (arith, size_none)) in
+          by_choice (λ (k : ℕ). k ≡ 0) (part_is_skipped left (part_of p)) (λ u. refl) (λ u. omega (arith, size_none)) in
           let l : left - 0 ≡ left = omega arith in
           record {
             same = rw (t, g, l, e, taking_none (part_of p)) idle.same;

@@ -2,12 +2,12 @@
 use mathlib.Core.Bool.{true, false, not, ◌&&◌, beq}
 use mathlib.Core.Path.{◌≡◌, sym, ◌∙◌}
 use borrow.Author.Tests.{eq-eqb, ne_eqb}
-use Rattle.rules.specs.Book.{Book}
 use Rattle.basics.proofs.LawsChoice.{and_left}
+use Rattle.rules.specs.declared.Refusal.TheVariants.{UnlawfulWord, OutOfRange}
+use Rattle.rules.specs.Book.{Book}
 use Rattle.rules.specs.Instructions.{displayed, reserve, has, needs as needs_of, lawful}
 use Rattle.rules.specs.Refusals.{carries_floor, carries_minimum, order_lawful, order_in_range}
 use Rattle.rules.specs.Working.{buying}
-use Rattle.side.specs.Tables.{book_on}
 use Rattle.side.proofs.tables.LawsAnswers.{left_refused}
 use Rattle.orders.proofs.LawsEntered.{unlawful, out_of_range, left_entered}
 use Rattle.orders.proofs.LawsReady.{ready}
@@ -15,7 +15,7 @@ use Rattle.orders.proofs.enter.Goals as goal
 use Rattle.orders.proofs.enter.Goals.{Else-not-order_in_range, Else-not-order_lawful, Start}
 
 abbrev book : Start → Book
-book s = let a = s.args in book_on a.h a.x.now a.buys.now a.y.now a.sells.now
+book s = record { held = s.args.held.now; buys = s.args.buys.now; sells = s.args.sells.now }
 
 -- the order is lawful
 is_lawful : (c : Else-not-order_lawful) → order_lawful c.args.o ≡ true
@@ -35,58 +35,45 @@ in_range c = sym c.order_in_range.ensures ∙ c.if-not-order_in_range.false
 pub returns-then-not-order_lawful : goal.returns-then-not-order_lawful
 returns-then-not-order_lawful c =
     let a = c.args in
-    let e : order_lawful a.o ≡ false = sym c.order_lawful.ensures ∙ c.if-not-order_lawful.true in
-    let left =
-    left_refused a.h a.x.now a.buys.now a.y.now a.sells.now c.requires.0 8 a.out.now _ (unlawful a.number a.time a.o (book (goal.at.returns-then-not-order_lawful c).Start) e) in
-    (c.refuse.ensures ∙ left.0, left.1)
+    let b = book (goal.at.returns-then-not-order_lawful c).Start in
+    left_refused UnlawfulWord b a.out.now _ (unlawful a.number a.held.now.time a.o b (sym c.order_lawful.ensures ∙ c.if-not-order_lawful.true))
 
 pub returns-then-not-order_in_range : goal.returns-then-not-order_in_range
 returns-then-not-order_in_range c =
     let a = c.args in
-    let f : order_in_range a.o ≡ false = sym c.order_in_range.ensures ∙ c.if-not-order_in_range.true in
-    let left =
-    left_refused a.h a.x.now a.buys.now a.y.now a.sells.now c.requires.0 9 a.out.now _
-    (out_of_range a.number a.time a.o (book (goal.at.returns-then-not-order_in_range c).Start) (is_lawful (goal.at.returns-then-not-order_in_range c).Else-not-order_lawful) f) in
-    (c.refuse-then-not-order_in_range.ensures ∙ left.0, left.1)
+    let b = book (goal.at.returns-then-not-order_in_range c).Start in
+    let lawful_too = is_lawful (goal.at.returns-then-not-order_in_range c).Else-not-order_lawful in
+    left_refused OutOfRange b a.out.now _
+    (out_of_range a.number a.held.now.time a.o b lawful_too (sym c.order_in_range.ensures ∙ c.if-not-order_in_range.true))
 
-pub match_order-r-requires : goal.match_order-r-requires
-match_order-r-requires c =
-    let a = c.args in
+-- a buy
+
+pub match_order-requires-clause-ready : goal.match_order-requires-clause-ready
+match_order-requires-clause-ready c =
     let p = c.requires in
-    let q : buying a.o ≡ true = eq-eqb _ _ c.if-o-eq0.true in (
-      p.0.buys,
-      p.0.sells,
-      ready a.o a.number true (book (goal.at.match_order-r-requires c).Start) p.0.is_sound p.2 (word_lawful (goal.at.match_order-r-requires c).Else-not-order_lawful) (in_range (goal.at.match_order-r-requires c).Else-not-order_in_range) q,
-      p.1,
-    )
+    ready c.args.o c.args.number true (book (goal.at.match_order-requires-clause-ready c).Start) p.is_sound p.next
+    (word_lawful (goal.at.match_order-requires-clause-ready c).Else-not-order_lawful)
+    (in_range (goal.at.match_order-requires-clause-ready c).Else-not-order_in_range) (eq-eqb _ _ c.if-o-eq0.true)
 
 pub returns-then-o-eq0 : goal.returns-then-o-eq0
 returns-then-o-eq0 c =
     let a = c.args in
-    let m = c.match_order-r in
-    let q : buying a.o ≡ true = eq-eqb _ _ c.if-o-eq0.true in
-    let left =
-    left_entered a.h a.x.now a.buys.now a.y.now a.sells.now c.requires.0 a.number a.time a.out.now _ _ _ _ _
-    a.o (is_lawful (goal.at.returns-then-o-eq0 c).Else-not-order_lawful) (in_range (goal.at.returns-then-o-eq0 c).Else-not-order_in_range) true q m.result m.ensures in
-    (c.step_after.ensures ∙ left.0, left.1)
+    left_entered a.number a.held.now.time a.o (book (goal.at.returns-then-o-eq0 c).Start)
+    (is_lawful (goal.at.returns-then-o-eq0 c).Else-not-order_lawful) (in_range (goal.at.returns-then-o-eq0 c).Else-not-order_in_range)
+    true (eq-eqb _ _ c.if-o-eq0.true) _ _ _ _ _ c.match_order.ensures
 
-pub match_order-r-requires-2 : goal.match_order-r-requires-2
-match_order-r-requires-2 c =
-    let a = c.args in
+-- a sell
+
+pub match_order-requires-else-o-eq0-clause-ready : goal.match_order-requires-else-o-eq0-clause-ready
+match_order-requires-else-o-eq0-clause-ready c =
     let p = c.requires in
-    let q : buying a.o ≡ false = ne_eqb _ _ c.if-o-eq0.false in (
-      p.0.sells,
-      p.0.buys,
-      ready a.o a.number false (book (goal.at.match_order-r-requires-2 c).Start) p.0.is_sound p.2 (word_lawful (goal.at.match_order-r-requires-2 c).Else-not-order_lawful) (in_range (goal.at.match_order-r-requires-2 c).Else-not-order_in_range) q,
-      p.1,
-    )
+    ready c.args.o c.args.number false (book (goal.at.match_order-requires-else-o-eq0-clause-ready c).Start) p.is_sound p.next
+    (word_lawful (goal.at.match_order-requires-else-o-eq0-clause-ready c).Else-not-order_lawful)
+    (in_range (goal.at.match_order-requires-else-o-eq0-clause-ready c).Else-not-order_in_range) (ne_eqb _ _ c.if-o-eq0.false)
 
-pub returns : goal.returns
-returns c =
+pub returns-else-o-eq0 : goal.returns-else-o-eq0
+returns-else-o-eq0 c =
     let a = c.args in
-    let m = c.match_order-r-2 in
-    let q : buying a.o ≡ false = ne_eqb _ _ c.if-o-eq0.false in
-    let left =
-    left_entered a.h a.x.now a.buys.now a.y.now a.sells.now c.requires.0 a.number a.time a.out.now _ _ _ _ _
-    a.o (is_lawful (goal.at.returns c).Else-not-order_lawful) (in_range (goal.at.returns c).Else-not-order_in_range) false q m.result m.ensures in
-    (c.step_after-2.ensures ∙ left.0, left.1)
+    left_entered a.number a.held.now.time a.o (book (goal.at.returns-else-o-eq0 c).Start)
+    (is_lawful (goal.at.returns-else-o-eq0 c).Else-not-order_lawful) (in_range (goal.at.returns-else-o-eq0 c).Else-not-order_in_range)
+    false (ne_eqb _ _ c.if-o-eq0.false) _ _ _ _ _ c.match_order-else-o-eq0.ensures

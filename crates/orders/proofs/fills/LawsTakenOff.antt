@@ -14,20 +14,19 @@ use Rattle.std.specs.Prelude.{if◌then◌else◌}
 use Rattle.basics.specs.Lists.{All, none, also, every}
 use Rattle.basics.proofs.LawsChoice.{holds_or_not, lt_or_le, and_left, and_right}
 use Rattle.basics.proofs.LawsLists.{all_alike}
-use Rattle.side.specs.Table.{side, Holds, Shows}
-use Rattle.side.proofs.rows.LawsShown.{length_side, shown_holds, shown_side}
 use Rattle.rules.specs.declared.Resting.{Resting}
 use Rattle.rules.specs.Book.{unused, shares_left}
 use Rattle.rules.specs.Holdings.{holdings, taken_of, reduced_by, keeping, after}
 use Rattle.rules.proofs.LawsHoldings.{Parts, parts_length}
-use Rattle.side.specs.Shifts.{less_by}
+use Rattle.side.specs.Shifts.{less_by, keeps, keepers}
+use Rattle.side.proofs.shifts.LawsClosing.{keepers_all}
 use Rattle.orders.specs.declared.cursor.Part.{Part}
-use Rattle.orders.specs.declared.walk.Taking.{Taking}
+use Rattle.orders.specs.declared.takings.Taking.{Taking}
 use Rattle.orders.specs.Cursor.{Placed, part_of, placed_from}
 use Rattle.orders.specs.Walk.{taking, takings_from, is_below}
 use Rattle.orders.proofs.cursor.LawsParts.{places_of, up_from, placed_holdings, placed_places}
 use Rattle.orders.proofs.walk.LawsTaken.{no_taking}
-use Rattle.orders.specs.Fills.{Least, taken_at, lessened, keeps, keepers, after_takings}
+use Rattle.orders.specs.Fills.{MinimumRemains, taken_at, lessened, after_takings}
 
 -- ── What was taken from one order ──
 
@@ -57,11 +56,11 @@ taken_one j p t =
 
 -- ── Taking by taking ──
 
-less_none : (h : Resting) → Least h → less_by 0 h ≡ h
-less_none h least =
+less_none : (h : Resting) → MinimumRemains h → less_by 0 h ≡ h
+less_none h remains =
     let e : h.shares.0 - 0 ≡ h.shares.0 = omega arith in
     let f : h.reserve.0 - (0 - h.shares.0) ≡ h.reserve.0 = omega arith in
-    let g : min h.minimum.0 (shares_left h) ≡ h.minimum.0 = omega (arith, least) in
+    let g : min h.minimum.0 (shares_left h) ≡ h.minimum.0 = omega (arith, remains) in
     rw (e, f, g)
 
 reserve_more : (shown reserve a b : ℕ) → reserve - (a - shown) - (b - (shown - a)) ≡ reserve - (a + b - shown)
@@ -98,12 +97,12 @@ less_more a b h =
     cut_twice h.minimum.0 before left (fewer_left h.shares.0 h.reserve.0 a b) in
     rw (reserve_more h.shares.0 h.reserve.0 a b, e, cut)
 
-length_lessened : (i : ℕ) (ks : List Taking) (s : List Resting) → length (lessened i ks s) ≡ length s
+pub length_lessened : (i : ℕ) (ks : List Taking) (s : List Resting) → length (lessened i ks s) ≡ length s
 unfolding lessened
 length_lessened i ks [] = refl
 length_lessened i ks (h ∷ s) = ap suc (length_lessened (i + 1) ks s)
 
-pub lessened_none : (i : ℕ) {s : List Resting} → All Least s → lessened i [] s ≡ s
+pub lessened_none : (i : ℕ) {s : List Resting} → All MinimumRemains s → lessened i [] s ≡ s
 unfolding lessened taken_at
 lessened_none i none = refl
 lessened_none i (also {x = h} l a) = let e = less_none h l in let r = lessened_none (i + 1) a in cc
@@ -135,17 +134,6 @@ lessened_next ks i k s l e =
     let more : take (i + 1) ks ≡ take i ks ++ (k ∷ []) = rw (add-one i, e) (take-suc ks i no_taking l) in
     rw more (lessened_more 0 k.place (take i ks) k s (omega arith))
 
--- a side of n orders from which the takings are off
-module _ (n : ℕ) (x : List ℕ) (t₀ t : List (List ℕ)) (ks : List Taking) (shows : Shows (lessened 0 ks (side n x t₀)) x t) where
-  long : length (lessened 0 ks (side n x t₀)) ≡ n
-  long = length_lessened 0 ks (side n x t₀) ∙ length_side n x t₀
-
-  pub lessened_holds : Holds n x t
-  lessened_holds = shown_holds (lessened 0 ks (side n x t₀)) x t n long shows
-
-  pub lessened_side : side n x t ≡ lessened 0 ks (side n x t₀)
-  lessened_side = shown_side (lessened 0 ks (side n x t₀)) x t n long shows
-
 -- ── Whoever keeps something ──
 
 pub all_keep : {s : List Resting} → All (λ (h : Resting). 1 ≤ h.shares.0) s → every keeps s ≡ true
@@ -153,14 +141,8 @@ unfolding every
 all_keep none = refl
 all_keep (also {x = h} p a) = rw (ne_eqb h.shares.0 0 (λ z. omega arith)) (all_keep a)
 
-pub keepers_all : (s : List Resting) → every keeps s ≡ true → keepers s ≡ s
-unfolding every keepers
-keepers_all [] e = refl
-keepers_all (h ∷ s) e =
-    rw (and_left (keeps h) (every keeps s) e) (ap (λ (r : List Resting). h ∷ r) (keepers_all s (and_right (keeps h) (every keeps s) e)))
-
 -- the orders from rank `at` on keep all, where no taking is from there on
-pub keep_behind : (i at : ℕ) (ks : List Taking) {s : List Resting} → All Least s → All (is_below (i + at)) ks → every keeps s ≡ true
+pub keep_behind : (i at : ℕ) (ks : List Taking) {s : List Resting} → All MinimumRemains s → All (is_below (i + at)) ks → every keeps s ≡ true
     → every keeps (drop at (lessened i ks s)) ≡ true
 unfolding every lessened
 keep_behind i zero ks none a e = refl
@@ -174,7 +156,7 @@ keep_behind i (suc at) ks (also {x = h} {s = s} l more) a e = keep_behind (i + 1
 
 -- ── The orders that were not reached ──
 
-lessened_same : (i : ℕ) {ks : List Taking} → All (is_below i) ks → {s : List Resting} → All Least s → lessened i ks s ≡ s
+lessened_same : (i : ℕ) {ks : List Taking} → All (is_below i) ks → {s : List Resting} → All MinimumRemains s → lessened i ks s ≡ s
 unfolding lessened
 lessened_same i a none = refl
 lessened_same i {ks = ks} a (also {x = h} {s = s} l more) =
@@ -182,7 +164,7 @@ lessened_same i {ks = ks} a (also {x = h} {s = s} l more) =
     let rest = lessened_same (i + 1) (all_alike (λ k m. omega (arith, m)) a) more in
     cc
 
-lessened_behind : (i at : ℕ) {ks : List Taking} → All (is_below (i + at)) ks → {s : List Resting} → All Least s
+lessened_behind : (i at : ℕ) {ks : List Taking} → All (is_below (i + at)) ks → {s : List Resting} → All MinimumRemains s
     → drop at (lessened i ks s) ≡ drop at s
 unfolding lessened
 lessened_behind i zero a more = lessened_same i (all_alike (λ k l. omega (arith, l)) a) more
@@ -205,13 +187,13 @@ every_dropped (suc at) [] e = e
 every_dropped (suc at) (h ∷ s) e = every_dropped at s (and_right (keeps h) (every keeps s) e)
 
 -- where no taking is from rank `at` on, the orders from there on stand as they were, behind those of the others that keep something
-module _ (at : ℕ) {ks : List Taking} (a : All (is_below at) ks) (s : List Resting) (least : All Least s) (keep : every keeps s ≡ true) where
+module _ (at : ℕ) {ks : List Taking} (a : All (is_below at) ks) (s : List Resting) (remain : All MinimumRemains s) (keep : every keeps s ≡ true) where
   parted : after_takings ks s ≡ keepers (take at (lessened 0 ks s)) ++ drop at s
   parted =
       let less = lessened 0 ks s in
       let b : All (is_below (0 + at)) ks = all_alike (λ k l. omega (arith, l)) a in
       ap keepers (sym (take-append-drop at less)) ∙ keepers_append (take at less) (drop at less)
-      ∙ ap (λ (u : List Resting). keepers (take at less) ++ keepers u) (lessened_behind 0 at b least)
+      ∙ ap (λ (u : List Resting). keepers (take at less) ++ keepers u) (lessened_behind 0 at b remain)
       ∙ ap (λ (u : List Resting). keepers (take at less) ++ u) (keepers_all (drop at s) (every_dropped at s keep))
 
   long_parted : length (after_takings ks s) ≡ length (keepers (take at (lessened 0 ks s))) + (length s - at)

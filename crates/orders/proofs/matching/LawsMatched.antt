@@ -25,7 +25,7 @@ use Rattle.basics.proofs.LawsLists.{all_alike}
 use Rattle.rules.specs.Book.{places_a_side, stamp, in_rank_order}
 use Rattle.soundness.proofs.LawsThinned.{thinned_after, thinned_all, thinned_ranked}
 use Rattle.side.specs.Looking.{Older}
-use Rattle.orders.specs.declared.walk.Taking.{Taking}
+use Rattle.orders.specs.declared.takings.Taking.{Taking}
 use Rattle.orders.specs.Fills.{after_takings}
 use Rattle.orders.specs.Refills.{MayRefill}
 use Rattle.orders.specs.Walk.{is_below}
@@ -37,32 +37,8 @@ use Rattle.rules.specs.Refusals.{is_rest}
 use Rattle.rules.specs.Working.{buying, limit_of, locking_price, Met, execution_price, absent, beyond, one_cent_less_aggressive, reaches, meets_or_passes, adjusted, seeks, takings, remainder, ending, last_line, remainder_of, with_remainder, refill_fate}
 use Rattle.rules.specs.Holdings.{holdings, executions, after}
 use Rattle.rules.specs.Settling.{first_move, told, settled_side}
-use Rattle.orders.specs.declared.matching.Matched.{Matched}
 use Rattle.side.specs.Looking.{price_bound}
 use Rattle.orders.specs.Matching.{is_full, match_of, rests_below}
-
--- a side takes at most one order more
-pub length_remainder : (n : Number) (o : Order) (left : ℕ) (end : Ending) (own : List Resting)
-    → length (with_remainder n o left end own) ≡ length own + (if is_rest end then 1 else 0)
-length_remainder n o left Filled own = omega arith
-length_remainder n o left (Rests price) own = omega (arith, length_insert (buying o) (remainder_of n o left price) own)
-length_remainder n o left (Cancels reason) own = omega arith
-
--- a side is too full for an ending exactly where it would hold more than its places
-pub full_more : (end : Ending) (own : List Resting) → length own ≤ places_a_side → places_a_side < length own + (if is_rest end then 1 else 0) → is_full end own ≡ true
-full_more Filled own most l = let z : ⊥ = omega arith in absurd z
-full_more (Rests price) own most l = le-leb places_a_side (length own) (omega arith)
-full_more (Cancels reason) own most l = let z : ⊥ = omega arith in absurd z
-
-pub full_not : (end : Ending) (own : List Resting) → length own + (if is_rest end then 1 else 0) ≤ places_a_side → is_full end own ≡ false
-full_not Filled own l = refl
-full_not (Rests price) own l = lt-leb places_a_side (length own) (omega arith)
-full_not (Cancels reason) own l = refl
-
-pub rest_fits : (end : Ending) (k : ℕ) → k + (if is_rest end then 1 else 0) ≤ places_a_side → is_rest end ≡ true → k < places_a_side
-rest_fits Filled k l r = absurd (true≢false (sym r))
-rest_fits (Rests price) k l r = omega arith
-rest_fits (Cancels reason) k l r = absurd (true≢false (sym r))
 
 -- ── Where an order would rest ──
 
@@ -124,12 +100,13 @@ dropped (suc k) (also p a) = dropped k a
 -- a side that a walk took of, as far as rank `at`
 pub may_refill : (buy : Bool) (n : Number) (at : ℕ) {ks : List Taking} → All (is_below at) ks → (s : List Resting) (ts : List ℕ)
     → after_takings ks s ≡ after s ts → in_rank_order buy s ≡ true → All Workable s → All (Older (stamp n first_move)) s
-    → MayRefill buy n (length (after s ts) - (length s - at)) (after s ts)
-may_refill buy n at {ks = ks} below s ts is ranked workable older =
-    let thinned = thinned_after ts (all_alike (λ h w. record { is_left = omega (arith, w.holds); least = w.least }) workable) in
+    → length (after s ts) ≤ places_a_side → MayRefill buy n (length (after s ts) - (length s - at)) (after s ts)
+may_refill buy n at {ks = ks} below s ts is ranked workable older fits =
+    let thinned = thinned_after ts (all_alike (λ h w. record { is_left = omega (arith, w.holds); least = w.remains }) workable) in
     let unreached : drop (length (after s ts) - (length s - at)) (after s ts) ≡ drop at s =
-    ap (λ (u : List Resting). drop (length u - (length s - at)) u) (sym is) ∙ after_unreached at below s (all_alike (λ h w. w.least) workable) (all_keep (all_alike (λ h w. w.holds) workable)) in
+    ap (λ (u : List Resting). drop (length u - (length s - at)) u) (sym is) ∙ after_unreached at below s (all_alike (λ h w. w.remains) workable) (all_keep (all_alike (λ h w. w.holds) workable)) in
     record {
+      fits = fits;
       within = omega arith;
       ranked = thinned_ranked buy thinned ranked;
       older = thinned_all (λ h shown reserve l m k o. record { priced = o.priced; stamped = o.stamped }) thinned older;
@@ -157,12 +134,3 @@ module _ (o : Order) (number : Number) (met : Met) where
     ended_is f =
         let g : is_full (ending o met) met.own ≡ false = ap (λ (e : Ending). is_full e met.own) (sym ends) ∙ f in
         rw (g, ends, leaves)
-
--- ── The answer ──
-
--- an answer, number by number
-abbrev pub answer : ℕ → ℕ → ℕ → ℕ → Matched
-answer refusal own opposite length = record { refusal = refusal; own = own; opposite = opposite; length = length }
-
-pub answer_is : {refusal own own' opposite opposite' length length' : ℕ} → own ≡ own' → opposite ≡ opposite' → length ≡ length' → answer refusal own opposite length ≡ answer refusal own' opposite' length'
-answer_is a b c = rw (a, b, c)

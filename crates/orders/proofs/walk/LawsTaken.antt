@@ -1,22 +1,25 @@
--- Laws of the takings of a walk: which orders they are from, how many there are, and how they stand in a table. Assumes nothing.
+-- Laws of the takings of a walk: which orders they are from, and how many there are. Assumes nothing.
 use Prim.Native.Nat.{ℕ, ◌+◌, ◌-◌, ◌≤◌, ◌<◌, max}
 use mathlib.Core.Bool.{Bool, true, false, not, ◌||◌}
-use mathlib.Core.List.{List, [], ◌∷◌, map}
+use mathlib.Core.List.{List, [], ◌∷◌}
 use mathlib.Core.Logic.{⊎_elim}
 use mathlib.Core.Path.{◌≡◌, refl, sym, ap, ◌∙◌}
 use lib.Dec.{eqb}
-use lib.ListN.{length, get_or, take, drop, length-append, length-map, get_or-map}
-use lib.Seq.{take_at, length-take-le, get_or-take}
+use lib.ListN.{length, length-append}
 use native.Mathlib.Omega.{arith}
 use borrow.Author.Tests.{ne_eqb, eqb-true}
 use Rattle.basics.specs.Lists.{All, none, also}
 use Rattle.basics.proofs.LawsChoice.{holds_or_not, by_choice}
-use Rattle.basics.proofs.LawsLists.{all_at, all_both}
-use Rattle.kinds.specs.Kinds.{shares}
+use Rattle.basics.proofs.LawsLists.{all_both}
+use Rattle.kinds.specs.Kinds.{half_cents, shares}
 use Rattle.rules.specs.Holdings.{nothing, walk}
 use Rattle.orders.specs.declared.cursor.Part.{Part}
-use Rattle.orders.specs.declared.walk.Taking.{Taking}
-use Rattle.orders.specs.Walk.{is_passed, part_gives, taking, takings_from, is_below, reached, takings_of, taking_row, taking_in, takings_in, laid}
+use Rattle.orders.specs.declared.takings.Taking.{Taking}
+use Rattle.orders.specs.Walk.{part_is_skipped, part_gives, taking, takings_from, is_below, reached, takings_of}
+
+-- no taking, where a list of them has none
+abbrev pub no_taking : Taking
+no_taking = record { place = 0; price = half_cents 0; shares = shares 0 }
 
 -- ── What one part gives ──
 
@@ -53,7 +56,7 @@ takings_nothing (p ∷ s) = rw (taking_none p) (takings_nothing s)
 
 -- with nothing left
 gives_nothing : (p : Part) → part_gives 0 p ≡ 0
-gives_nothing p = by_choice (λ (k : ℕ). k ≡ 0) (is_passed 0 p) (λ t. refl) (λ t. omega arith)
+gives_nothing p = by_choice (λ (k : ℕ). k ≡ 0) (part_is_skipped 0 p) (λ t. refl) (λ t. omega arith)
 
 pub walk_nothing : (may : Part → Bool) (s : List Part) → walk may part_gives 0 s ≡ nothing s
 unfolding walk nothing
@@ -111,29 +114,3 @@ module _ (may : Part → Bool) where
   -- every taking is from an order that the walk reached
   pub takings_reached : (want : ℕ) (s : List Part) → All (is_below (reached may 0 want s)) (takings_of may want s)
   takings_reached want s = from_reached 0 want s
-
--- ── Takings in a table ──
-
--- the takings that were laid are those that are read
-pub takings_laid : (ks : List Taking) (took : List (List ℕ)) → takings_in (length ks) (laid (map taking_row ks) took) ≡ ks
-takings_laid ks took = rw (take_at (map taking_row ks) (drop (length (map taking_row ks)) took) (length ks) (length-map ks taking_row)) (back ks)
-  where
-    back : (ks : List Taking) → map taking_in (map taking_row ks) ≡ ks
-    back [] = refl
-    back (k ∷ ks) = ap (λ (l : List Taking). k ∷ l) (back ks)
-
--- those that are read, one by one
-abbrev pub no_taking : Taking
-no_taking = taking_in []
-
-module _ (count : ℕ) (took : List (List ℕ)) (l : count ≤ length took) where
-  pub length_takings : length (takings_in count took) ≡ count
-  length_takings = length-map (take count took) taking_in ∙ length-take-le count took l
-
-  module _ (i : ℕ) (m : i < count) where
-    pub taking_read : taking_in (get_or took i []) ≡ get_or (takings_in count took) i no_taking
-    taking_read = sym (get_or-map taking_in (take count took) i [] ∙ ap taking_in (get_or-take count took i [] m))
-
-    -- what holds of all takings holds of each
-    pub taking_all : {P : Taking → Type 0} → All P (takings_in count took) → P (taking_in (get_or took i []))
-    taking_all a = rw taking_read (all_at no_taking i a (omega (arith, length_takings)))

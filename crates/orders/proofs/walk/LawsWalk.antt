@@ -1,12 +1,10 @@
--- Laws of a walk over the parts of a side: its turns, what holds whenever the loop begins one, and its takings in the table. Assumes nothing.
+-- Laws of a walk over the parts of a side: its turns, and what holds whenever the loop begins one. Assumes nothing.
 use Prim.Native.Nat.{ℕ, suc, ◌+◌, ◌-◌, ◌≤◌, ◌<◌, min, max}
 use mathlib.Core.Bool.{Bool, true, false}
-use mathlib.Core.List.{List, [], ◌∷◌, ◌++◌, map, append_assoc, append-nil, map-append}
-use mathlib.Core.Path.{◌≡◌, refl, sym, ap, ◌∙◌}
+use mathlib.Core.List.{List, [], ◌∷◌, ◌++◌, append_assoc, append-nil}
+use mathlib.Core.Path.{◌≡◌, refl, sym, ap, subst, ◌∙◌}
 use lib.Dec.{eqb}
-use lib.ListN.{length, set, drop, length-append, length-map}
-use lib.Seq.{drop-drop, take_at, drop_at, set_split}
-use native.Mathlib.Numerals.{add-one}
+use lib.ListN.{length, length-append}
 use native.Mathlib.Omega.{arith}
 use borrow.Author.Tests.{ne_eqb}
 use Rattle.std.specs.Prelude.{if◌then◌else◌}
@@ -18,9 +16,10 @@ use Rattle.rules.specs.Holdings.{nothing, walk}
 use Rattle.rules.proofs.LawsTakings.{nothing_total}
 use Rattle.orders.specs.declared.cursor.Cursor.{Cursor}
 use Rattle.orders.specs.declared.cursor.Part.{Part}
-use Rattle.orders.specs.declared.walk.Taking.{Taking}
+use Rattle.orders.specs.declared.takings.Taking.{Taking}
 use Rattle.orders.specs.Cursor.{parts, ahead, start, IsAt, Gives}
-use Rattle.orders.specs.Walk.{most_takings, is_passed, part_gives, taking, takings_from, reached, first_skipped, takings_of, walked_of, taking_row, laid, laid_at}
+use Rattle.orders.specs.Room.{most_takings}
+use Rattle.orders.specs.Walk.{part_is_skipped, part_gives, taking, takings_from, reached, first_skipped, takings_of, walked_of}
 use Rattle.orders.proofs.cursor.LawsAhead.{ahead_start, length_parts}
 use Rattle.orders.proofs.walk.LawsTaken.{taking_none, length_taking, takings_nothing, walk_nothing}
 
@@ -75,7 +74,7 @@ module _ (may : Part → Bool) (ks : List Taking) (at skipped left : ℕ) where
 
     turn : may p ≡ true
         → outcome may ks at skipped left (p ∷ s)
-        ≡ outcome may (ks ++ taking p (part_gives left p)) (max at (p.place + 1)) (if is_passed left p then min skipped p.place else skipped)
+        ≡ outcome may (ks ++ taking p (part_gives left p)) (max at (p.place + 1)) (if part_is_skipped left p then min skipped p.place else skipped)
         (left - part_gives left p) s
     unfolding outcome takings_from walk reached first_skipped total
     turn t =
@@ -86,106 +85,82 @@ module _ (may : Part → Bool) (ks : List Taking) (at skipped left : ℕ) where
 
 -- ── The loop ──
 
-pub laid_one : (k : ℕ) (r : List ℕ) (took : List (List ℕ)) → k < length took → set took k r ≡ laid_at k (r ∷ []) took
-laid_one k r took l = set_split took k r l ∙ rw (drop-drop 1 k took, add-one k)
-
-laid_more : (ks x : List Taking) (took : List (List ℕ))
-    → laid_at (length ks) (map taking_row x) (laid (map taking_row ks) took) ≡ laid (map taking_row (ks ++ x)) took
-laid_more ks x took =
-    let p = map taking_row ks in
-    let q = map taking_row x in
-    let n : length p ≡ length ks = length-map ks taking_row in
-    rw (take_at p (drop (length p) took) (length ks) n, drop_at p (drop (length p) took) (length ks) n, drop-drop (length q) (length p) took)
-    (sym (rw (map-append taking_row ks x, length-append p q) (append_assoc p q (drop (length p + length q) took))))
-
--- the takings of the parts behind the cursor are laid, and the walk goes on from there with the shares left
-pub record Underway (may : Part → Bool) (want : ℕ) (s : List Resting) (took₀ took : List (List ℕ)) (c : Cursor) (count left skipped : ℕ) : Type 0 where
+-- the takings of the parts behind the cursor are taken, and the walk goes on from there with the shares left
+pub record Underway (may : Part → Bool) (want : ℕ) (s : List Resting) (took : List Taking) (c : Cursor) (left skipped : ℕ) : Type 0 where
   pub is_at : IsAt s c
-  pub ks : List Taking
-  pub counted : length ks ≡ count
-  pub room : count + length (ahead s c) ≤ most_takings
-  pub rows : took ≡ laid (map taking_row ks) took₀
-  pub rest : outcome may ks c.at skipped left (ahead s c) ≡ outcome may [] 0 places_a_side want (parts s)
+  pub room : length took + length (ahead s c) ≤ length (parts s)
+  pub rest : outcome may took c.at skipped left (ahead s c) ≡ outcome may [] 0 places_a_side want (parts s)
 
 -- the walk has ended so
-abbrev pub Ended : (Part → Bool) → ℕ → List Resting → List (List ℕ) → List (List ℕ) → Cursor → ℕ → ℕ → ℕ → Type 0
-Ended may want s took₀ took c count left skipped =
-    (record { count = count; left = shares left; at = c.at; skipped = skipped } ≡ walked_of may want (parts s))
-    × (took ≡ laid (map taking_row (takings_of may want (parts s))) took₀)
+abbrev pub Ended : (Part → Bool) → ℕ → List Resting → List Taking → Cursor → ℕ → ℕ → Type 0
+Ended may want s took c left skipped =
+    (record { left = shares left; at = c.at; skipped = skipped } ≡ walked_of may want (parts s)) × (took ≡ takings_of may want (parts s))
 
-pub underway_start : (may : Part → Bool) (want : ℕ) (s : List Resting) (took : List (List ℕ)) → length s ≤ places_a_side
-    → Underway may want s took took start 0 want places_a_side
-underway_start may want s took l =
+pub underway_start : (may : Part → Bool) (want : ℕ) (s : List Resting) → Underway may want s [] start want places_a_side
+underway_start may want s =
     let e = ahead_start s in
     record {
       is_at = record { within = omega arith; behind = omega arith; waits = λ p. let z : ⊥ = omega arith in absurd z };
-      ks = [];
-      counted = refl;
-      room = rw e (omega (arith, length_parts s));
-      rows = refl;
+      room = rw e (omega arith);
       rest = rw e;
     }
 
-module _ {may : Part → Bool} {want : ℕ} {s : List Resting} {took₀ took : List (List ℕ)} {c : Cursor} {count left skipped : ℕ}
-    (w : Underway may want s took₀ took c count left skipped) where
-  ended : Over may w.ks c.at skipped left (ahead s c) → Ended may want s took₀ took c count left skipped
+module _ {may : Part → Bool} {want : ℕ} {s : List Resting} {took : List Taking} {c : Cursor} {left skipped : ℕ}
+    (w : Underway may want s took c left skipped) where
+  ended : Over may took c.at skipped left (ahead s c) → Ended may want s took c left skipped
   unfolding outcome
   ended e =
       let f = sym e ∙ w.rest in
-      let k : w.ks ≡ takings_of may want (parts s) = ap (λ (o : Outcome). o.took) f in
+      let k : took ≡ takings_of may want (parts s) = ap (λ (o : Outcome). o.took) f in
       let l : left ≡ want - total (walk may part_gives want (parts s)) = ap (λ (o : Outcome). o.left) f in
       let i : c.at ≡ reached may 0 want (parts s) = ap (λ (o : Outcome). o.at) f in
       let n : skipped ≡ first_skipped may places_a_side want (parts s) = ap (λ (o : Outcome). o.skipped) f in
-      (rw (← k, ← l, ← i, ← n, w.counted), rw (← k) w.rows)
+      (rw (← l, ← i, ← n), k)
 
-  pub ended_side : ahead s c ≡ [] → Ended may want s took₀ took c count left skipped
-  ended_side e = ended (rw e (over_end may w.ks c.at skipped left))
+  pub ended_side : ahead s c ≡ [] → Ended may want s took c left skipped
+  ended_side e = ended (rw e (over_end may took c.at skipped left))
 
-  pub ended_none : left ≡ 0 → Ended may want s took₀ took c count left skipped
-  ended_none z = ended (over_none may w.ks c.at skipped left z (ahead s c))
+  pub ended_none : left ≡ 0 → Ended may want s took c left skipped
+  ended_none z = ended (over_none may took c.at skipped left z (ahead s c))
 
   module _ (some : 0 < left) {p : Part} {next : Cursor} (g : Gives s c p next) where
-    pub ended_beyond : may p ≡ false → Ended may want s took₀ took c count left skipped
-    ended_beyond t = ended (rw g.list (over_beyond may w.ks c.at skipped left p (ahead s next) some t))
+    pub ended_beyond : may p ≡ false → Ended may want s took c left skipped
+    ended_beyond t = ended (rw g.list (over_beyond may took c.at skipped left p (ahead s next) some t))
 
-    pub underway_on : may p ≡ true → (let x = taking p (part_gives left p) in
-        Underway may want s took₀ (laid_at count (map taking_row x) took) next (count + length x) (left - part_gives left p)
-        (if is_passed left p then min skipped p.place else skipped))
+    underway_on : may p ≡ true → Underway may want s (took ++ taking p (part_gives left p)) next (left - part_gives left p)
+        (if part_is_skipped left p then min skipped p.place else skipped)
     underway_on t =
         let x = taking p (part_gives left p) in
-        let m : count + suc (length (ahead s next)) ≤ most_takings = rw g.list at w.room in
+        let m : length took + suc (length (ahead s next)) ≤ length (parts s) = rw g.list at w.room in
         record {
           is_at = g.stands;
-          ks = w.ks ++ x;
-          counted = length-append w.ks x ∙ rw w.counted;
-          room = omega (arith, length_taking p (part_gives left p), m);
-          rows = rw (← w.counted, w.rows) (laid_more w.ks x took₀);
+          room = omega (arith, length-append took x, length_taking p (part_gives left p), m);
           rest =
-              ap (λ (at : ℕ). outcome may (w.ks ++ x) at (if is_passed left p then min skipped p.place else skipped) (left - part_gives left p)
+              ap (λ (at : ℕ). outcome may (took ++ x) at (if part_is_skipped left p then min skipped p.place else skipped) (left - part_gives left p)
               (ahead s next)) g.at
-              ∙ sym (turn may w.ks c.at skipped left p (ahead s next) some t)
-              ∙ ap (outcome may w.ks c.at skipped left) (sym g.list) ∙ w.rest;
+              ∙ sym (turn may took c.at skipped left p (ahead s next) some t)
+              ∙ ap (outcome may took c.at skipped left) (sym g.list) ∙ w.rest;
         }
+
+    -- by a part that is not skipped
+    pub underway_taken : may p ≡ true → part_is_skipped left p ≡ false
+        → Underway may want s (took ++ taking p (part_gives left p)) next (left - part_gives left p) skipped
+    underway_taken t takes =
+        let same : (if part_is_skipped left p then min skipped p.place else skipped) ≡ skipped = rw takes in
+        subst (λ (k : ℕ). Underway may want s (took ++ taking p (part_gives left p)) next (left - part_gives left p) k) same (underway_on t)
+
+    -- one that is skipped gives nothing
+    pub underway_past : may p ≡ true → part_is_skipped left p ≡ true → Underway may want s took next left (min skipped p.place)
+    underway_past t skips =
+        let none : left - 0 ≡ left = omega arith in
+        rw (skips, taking_none p, append-nil took, none) at (underway_on t)
+
+    -- room for the taking of the part
+    pub room_next : length s ≤ places_a_side → length took < most_takings
+    room_next fits =
+        let m : length took + suc (length (ahead s next)) ≤ length (parts s) = rw g.list at w.room in
+        omega (arith, m, length_parts s)
 
 -- each turn passes a part
 pub less : {s : List Resting} {c : Cursor} {p : Part} {next : Cursor} → Gives s c p next → length (ahead s next) < length (ahead s c)
 less g = rw g.list (omega arith)
-
--- one that is skipped lays nothing, and takes no shares
-pub underway_past : {may : Part → Bool} {want : ℕ} {s : List Resting} {took₀ took : List (List ℕ)} {c : Cursor} {count left skipped : ℕ}
-    → Underway may want s took₀ took c count left skipped → 0 < left → {p : Part} {next : Cursor} → Gives s c p next → may p ≡ true
-    → is_passed left p ≡ true → Underway may want s took₀ took next count left (min skipped p.place)
-unfolding underway_on
-underway_past {may = may} {want = want} {s = s} {took₀ = took₀} {took = took} {count = count} {left = left} {skipped = skipped} w some {p = p} {next = next} g t passed =
-    let m : count + suc (length (ahead s next)) ≤ most_takings = rw g.list at w.room in
-    let none : left - 0 ≡ left = omega arith in
-    let r : outcome may (w.ks ++ taking p (part_gives left p)) next.at (if is_passed left p then min skipped p.place else skipped)
-    (left - part_gives left p) (ahead s next) ≡ outcome may [] 0 places_a_side want (parts s) = (underway_on w some g t).rest in
-    record {
-      is_at = g.stands;
-      ks = w.ks;
-      counted = w.counted;
-      room = omega (arith, m);
-      rows = w.rows;
-      rest = rw (passed, taking_none p, append-nil w.ks, none) at r;
-    }

@@ -91,7 +91,7 @@ module _ (o : Order) (met : Met) (w : Walkable o met) (kept : ℕ)
   post_rests post price =
       let same : left ≡ met.opposite =
       ap (after met.opposite) (post_nothing o met post)
-      ∙ after_nothing (all_alike (λ h k. record { is_left = omega (arith, k.holds); least = k.least }) w.workable) in
+      ∙ after_nothing (all_alike (λ h k. record { is_left = omega (arith, k.holds); least = k.remains }) w.workable) in
       rw (same, at_the_start post, post) (best_meets o locked price met.opposite post w.ranked)
 
   other_rests : 0 < remainder o met → has o.word post_only ≡ false → (price : HalfCents) → 1 ≤ price.0

@@ -20,7 +20,7 @@ use Rattle.rules.specs.Holdings.{walk}
 use Rattle.orders.specs.declared.cursor.Part.{Part}
 use Rattle.orders.specs.Cursor.{shown_at, reserves, parts_from, parts, Placed, placed_at, part_of, placed_from}
 use Rattle.orders.specs.Fills.{taken_at}
-use Rattle.orders.specs.Walk.{is_passed, part_gives, taking, takings_from}
+use Rattle.orders.specs.Walk.{part_is_skipped, part_gives, taking, takings_from}
 use Rattle.orders.specs.Walk.{reached, first_skipped, takings_of}
 use Rattle.orders.proofs.cursor.LawsParts.{all_placed, present, parts_present}
 use Rattle.orders.proofs.cursor.LawsParts.{Closed, end, next}
@@ -132,7 +132,7 @@ closed_present may (p ∷ u) (next c closed) =
 -- ── A walk over parts ──
 
 gives_within : (left : ℕ) (p : Part) → part_gives left p ≤ p.shares.0
-gives_within left p = by_choice (λ (g : ℕ). g ≤ p.shares.0) (is_passed left p) (λ t. omega arith) (λ t. omega arith)
+gives_within left p = by_choice (λ (g : ℕ). g ≤ p.shares.0) (part_is_skipped left p) (λ t. omega arith) (λ t. omega arith)
 
 either_within : (b : Bool) (g n : ℕ) → g ≤ n → (if b then g else 0) ≤ (if b then n else 0)
 either_within true g n l = l
@@ -144,21 +144,21 @@ IsWhole held p = 0 < p.minimum.0 → 0 < p.shares.0 → p.shares.0 ≡ held p.pl
 
 -- where such a part is the first that is skipped, its order keeps it
 skipped_here : (held : ℕ → ℕ) (skipped left f : ℕ) (p : Part) → IsWhole held p
-    → (if is_passed left p then min skipped p.place else skipped) ≡ f → f < skipped
+    → (if part_is_skipped left p then min skipped p.place else skipped) ≡ f → f < skipped
     → (if eqb p.place f then part_gives left p else 0) + held f ≤ shares_at f p
 skipped_here held skipped left f p m e l =
     ⊎_elim
-    (λ (t : is_passed left p ≡ true).
+    (λ (t : part_is_skipped left p ≡ true).
     let small : left < min p.minimum.0 p.shares.0 = ltb-true left (min p.minimum.0 p.shares.0) t in
     let first : min skipped p.place ≡ f = rw t at e in
     let here : p.place ≡ f = omega (arith, first, l) in
     let all : p.shares.0 ≡ held f = rw here at (m (omega (arith, small)) (omega (arith, small))) in
     rw (eq-eqb p.place f here, t) (omega (arith, all)))
-    (λ (t : is_passed left p ≡ false).
+    (λ (t : part_is_skipped left p ≡ false).
     let same : skipped ≡ f = rw t at e in
     let z : ⊥ = omega (arith, same, l) in
     absurd z)
-    (holds_or_not (is_passed left p))
+    (holds_or_not (part_is_skipped left p))
 
 module _ (may : Part → Bool) where
   taken_within : (left j : ℕ) (ps : List Part) → taken_at j (takings_of may left ps) ≤ held_at j ps
@@ -180,8 +180,8 @@ module _ (may : Part → Bool) where
       ⊎_elim
       (λ (z : (eqb left 0 || not (may p)) ≡ true). rw z (omega arith))
       (λ (z : (eqb left 0 || not (may p)) ≡ false).
-      let n = if is_passed left p then min skipped p.place else skipped in
-      let l : n ≤ skipped = by_choice (λ (k : ℕ). k ≤ skipped) (is_passed left p) (λ t. omega arith) (λ t. omega arith) in
+      let n = if part_is_skipped left p then min skipped p.place else skipped in
+      let l : n ≤ skipped = by_choice (λ (k : ℕ). k ≤ skipped) (part_is_skipped left p) (λ t. omega arith) (λ t. omega arith) in
       rw z (omega (arith, l, skipped_within n (left - part_gives left p) ps)))
       (holds_or_not (eqb left 0 || not (may p)))
 
@@ -195,17 +195,17 @@ module _ (may : Part → Bool) where
 
   -- one that is not skipped and gives less than is wanted gives all that it holds
   gives_all : (left skipped : ℕ) (p : Part) (ps : List Part) (j : ℕ) → part_gives left p < left → p.place ≡ j
-      → j < first_skipped may (if is_passed left p then min skipped p.place else skipped) (left - part_gives left p) ps
+      → j < first_skipped may (if part_is_skipped left p then min skipped p.place else skipped) (left - part_gives left p) ps
       → part_gives left p ≡ p.shares.0
   gives_all left skipped p ps j l e f =
       ⊎_elim
-      (λ (t : is_passed left p ≡ true).
+      (λ (t : part_is_skipped left p ≡ true).
       let z : ⊥ = omega (arith, e, rw t at f, skipped_within (min skipped p.place) (left - 0) ps) in
       absurd z)
-      (λ (t : is_passed left p ≡ false).
+      (λ (t : part_is_skipped left p ≡ false).
       let m : min left p.shares.0 < left = rw t at l in
       rw t (omega (arith, m)))
-      (holds_or_not (is_passed left p))
+      (holds_or_not (part_is_skipped left p))
 
   -- with shares wanted at the end, an order before any that was skipped gave all
   pub gave_all_held : (left skipped j : ℕ) {ps : List Part} → Closed may ps → All (λ (p : Part). p.place ≡ j → may p ≡ true) ps
@@ -216,7 +216,7 @@ module _ (may : Part → Bool) where
       ⊎_elim
       (λ (t : may p ≡ true).
       let g = part_gives left p in
-      let n = if is_passed left p then min skipped p.place else skipped in
+      let n = if part_is_skipped left p then min skipped p.place else skipped in
       let u : g + total (walk may part_gives (left - g) ps) < left = rw t at l in
       let z : eqb left 0 ≡ false = ne_eqb left 0 (λ e. omega (arith, u, e)) in
       let d : j < first_skipped may n (left - g) ps = rw (z, t) at f in
@@ -244,7 +244,7 @@ module _ (may : Part → Bool) where
       (λ (z : (eqb left 0 || not (may p)) ≡ false).
       let t : may p ≡ true = not-false (may p) (or_neither (eqb left 0) (not (may p)) z).1 in
       let g = part_gives left p in
-      let n = if is_passed left p then min skipped p.place else skipped in
+      let n = if part_is_skipped left p then min skipped p.place else skipped in
       let d : first_skipped may n (left - g) ps ≡ f = rw z at e in
       let own = either_within (eqb p.place f) g p.shares.0 (gives_within left p) in
       let next = taken_next f p ps g (walk may part_gives (left - g) ps) in

@@ -23,10 +23,11 @@ use Rattle.rules.proofs.LawsWalkOrder.{NotBoth, Gives, takings_give}
 use Rattle.side.specs.Shifts.{less_by}
 use Rattle.soundness.proofs.LawsApart.{no_worse}
 use Rattle.orders.specs.declared.cursor.Part.{Part}
-use Rattle.orders.specs.declared.walk.Taking.{Taking}
+use Rattle.orders.specs.declared.takings.Taking.{Taking}
 use Rattle.orders.specs.declared.walk.Walked.{Walked}
 use Rattle.orders.specs.Cursor.{parts, placed_at, part_of, placed_from}
-use Rattle.orders.specs.Fills.{taken_at, lessened, keeps, keepers, after_takings}
+use Rattle.side.specs.Shifts.{keeps, keepers}
+use Rattle.orders.specs.Fills.{taken_at, lessened, after_takings}
 use Rattle.orders.specs.Walk.{is_within}
 use Rattle.orders.specs.Walk.{reached, first_skipped, takings_of, walked_of}
 use Rattle.orders.proofs.cursor.LawsParts.{placed_holdings, parts_present, parts_within}

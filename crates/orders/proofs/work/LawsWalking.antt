@@ -24,9 +24,9 @@ use Rattle.rules.proofs.LawsTakings.{nothing_total, walk_at_most}
 use Rattle.orders.specs.Locks.{locked_price, executes_at}
 use Rattle.orders.specs.declared.walk.Walked.{Walked}
 use Rattle.orders.specs.declared.cursor.Part.{Part}
-use Rattle.orders.specs.declared.walk.Taking.{Taking}
+use Rattle.orders.specs.declared.takings.Taking.{Taking}
 use Rattle.orders.specs.Cursor.{parts, Placed, part_of, placed_from}
-use Rattle.orders.specs.Walk.{most_takings, is_within, is_passed, part_gives, takings_from, takings_in, takings_of}
+use Rattle.orders.specs.Walk.{is_within, part_is_skipped, part_gives, takings_from, takings_of}
 use Rattle.orders.specs.Walking.{Walkable, untouched, bound_walk, is_idle, walk_for, takings_for, walk_bound, takings_by, Walks}
 use Rattle.orders.proofs.cursor.LawsAhead.{length_parts}
 use Rattle.orders.proofs.cursor.LawsParts.{placed_holdings, all_placed, parts_present, Alike, walk_present, best_closed, parts_within}
@@ -51,7 +51,7 @@ module _ {A B : Type 0} (f : A → B) (may : B → Bool) (gives : ℕ → B → 
 
 -- no part gives more than is left
 part_at_most : (left : ℕ) (p : Part) → part_gives left p ≤ left
-part_at_most left p = by_choice (λ (k : ℕ). k ≤ left) (is_passed left p) (λ t. omega arith) (λ t. omega arith)
+part_at_most left p = by_choice (λ (k : ℕ). k ≤ left) (part_is_skipped left p) (λ t. omega arith) (λ t. omega arith)
 
 -- ── An order's walk ──
 
@@ -63,20 +63,18 @@ module _ (o : Order) (met : Met) where
   whole = map part_of (placed_from 0 side)
 
   -- an order that takes nothing
-  walks_nothing : (took : List (List ℕ)) → takings o met ≡ nothing (holdings side) → Walks o met (untouched o) took
+  walks_nothing : takings o met ≡ nothing (holdings side) → Walks o met (untouched o) []
   unfolding remainder
-  walks_nothing took e =
+  walks_nothing e =
       let empty : nothing (holdings side) ≡ nothing whole =
       ap nothing (sym (placed_holdings 0 side))
       ∙ nothing_map (λ (p : Placed). p.holding) (placed_from 0 side) ∙ sym (nothing_map part_of (placed_from 0 side)) in
       let n : takings_by o met ≡ [] = ap (takings_from whole) (e ∙ empty) ∙ takings_nothing whole in
       record {
         takes = sym n;
-        counts = rw n refl;
-        fits = omega arith;
         leaves = rw e (omega (arith, nothing_total (holdings side)));
         reaches = omega arith;
-        before = rw n none;
+        before = none;
       }
 
   -- "Post Only executes nothing."
@@ -160,34 +158,34 @@ module _ (o : Order) (met : Met) where
         takings_are p ∙ rw killed)
         (holds_or_not (has o.word post_only))
 
-    walks_on : (took : List (List ℕ)) → 2 * length side ≤ most_takings → is_idle o bound side ≡ false
-        → takings_in (bound_walk o bound side).count took ≡ takings_of may o.shares.0 (parts side) → Walks o met (bound_walk o bound side) took
+    walks_on : is_idle o bound side ≡ false → Walks o met (bound_walk o bound side) (takings_of may o.shares.0 (parts side))
     unfolding remainder
-    walks_on took m busy e =
+    walks_on busy =
         let neither = or_neither (has o.word post_only) (ltb (o.shares.0 - (o.shares.0 - total gifts)) (least_of o)) busy in
         let alive : ltb (o.shares.0 - (o.shares.0 - total gifts)) (least_of o) ≡ false = neither.1 in
         let is : takings o met ≡ walk may part_gives o.shares.0 whole = takings_are neither.0 ∙ rw alive in
         let by : takings_by o met ≡ takings_of may o.shares.0 (parts side) = ap (takings_from whole) is ∙ alike.same in
         record {
-          takes = e ∙ sym by;
-          counts = ap length (sym by);
-          fits = omega (arith, m, takings_most (parts side) gifts, length_parts side);
+          takes = sym by;
           leaves = ap (λ (k : ℕ). o.shares.0 - k) (sym alike.in_all ∙ ap total (sym is));
           reaches = reached_within may (length side) 0 o.shares.0 (parts side) (parts_within side) (omega arith);
-          before =
-              subst (All (λ (t : Taking). t.place < (bound_walk o bound side).at)) (sym by) (takings_reached may o.shares.0 (parts side));
+          before = takings_reached may o.shares.0 (parts side);
         }
 
     -- a walk up to the bound is the order's
-    pub walks : (r : Walked) (took : List (List ℕ)) → 2 * length side ≤ most_takings → r ≡ walk_for o bound side
-        → takings_in r.count took ≡ takings_for o bound side → Walks o met r took
+    pub walks : Walks o met (walk_for o bound side) (takings_for o bound side)
     unfolding walk_for takings_for
-    walks r took m is takes =
+    walks =
         ⊎_elim
-        (λ (t : is_idle o bound side ≡ true).
-        let e : r ≡ untouched o = is ∙ rw t in
-        rw e (walks_nothing took (idle_nothing t)))
-        (λ (t : is_idle o bound side ≡ false).
-        let e : r ≡ bound_walk o bound side = is ∙ rw t in
-        rw e (walks_on took m t (rw (e, t) at takes)))
+        (λ (t : is_idle o bound side ≡ true). rw t (walks_nothing (idle_nothing t)))
+        (λ (t : is_idle o bound side ≡ false). rw t (walks_on t))
+        (holds_or_not (is_idle o bound side))
+
+    -- there is room for so many
+    pub takings_fit : length (takings_for o bound side) ≤ 2 * length side
+    unfolding takings_for
+    takings_fit =
+        ⊎_elim
+        (λ (t : is_idle o bound side ≡ true). rw t (omega arith))
+        (λ (t : is_idle o bound side ≡ false). rw t (omega (arith, takings_most (parts side) gifts, length_parts side)))
         (holds_or_not (is_idle o bound side))

@@ -1,12 +1,9 @@
--- The public contract determines its result, the side and the bytes: any two outcomes that meet it are equal, but for the rows in which the
--- side stands. The contract is read here as the checker reads it from the source (`Post`), not from a copy. Assumes nothing.
+-- The public contract determines its result, the side and the bytes: any two outcomes that meet it are equal. The contract is read here as
+-- the checker reads it from the source (`Post`), not from a copy. Assumes nothing.
 use mathlib.Core.Path.{◌≡◌, sym, ◌∙◌}
-use Rattle.side.specs.Table.{side}
-use Rattle.side.proofs.rows.LawsShown.{shown_same}
-use Rattle.settling.specs.declared.Settled.{Settled}
+use Rattle.settling.specs.declared.Settling.{Settling}
 use Rattle.quotes.proofs.moves.move_side.Reads as move-side
 
-pub move_side_determined : (κs : _) (a : _) (r r' : Settled) (s s' : _) → move-side.Post κs a r s → move-side.Post κs a r' s'
-    → (r ≡ r') × (side r.held s.0.now s.1.0.now ≡ side r.held s'.0.now s'.1.0.now)
-    × (s.1.1.1.1.1.1.1.0.now ≡ s'.1.1.1.1.1.1.1.0.now)
-move_side_determined κs a r r' s s' p q = (p.0 ∙ sym q.0, rw p.0 (shown_same p.1.0 q.1.0), p.1.1 ∙ sym q.1.1)
+pub move_side_determined : (κs : _) (a : _) (r r' : Settling) (s s' : _) → move-side.Post κs a r s → move-side.Post κs a r' s'
+    → (r ≡ r') × (s.0.now ≡ s'.0.now) × (s.1.1.1.1.1.0.now ≡ s'.1.1.1.1.1.0.now)
+move_side_determined κs a r r' s s' p q = (p.0 ∙ sym q.0, p.1.0 ∙ sym q.1.0, p.1.1 ∙ sym q.1.1)

@@ -9,11 +9,10 @@ use native.Mathlib.Omega.{arith}
 use Rattle.std.specs.Prelude.{if◌then◌else◌}
 use Rattle.basics.proofs.LawsChoice.{holds_or_not}
 use Rattle.side.specs.Table.{places_a_part}
-use Rattle.side.proofs.rows.LawsSteps.{counted, steps, step_at}
+use Rattle.side.proofs.rows.LawsSteps.{steps, step_at}
 use Rattle.side.proofs.place_of.Goals as goal
 
 pub loop-i-preserved : goal.loop-i-preserved
-unfolding counted
 loop-i-preserved c =
     let l = c.loop-part in
     let m = c.loop-i in

@@ -46,7 +46,7 @@ module _ (n : ℕ) (x : List ℕ) (t : List Row) (i : ℕ) (l : i < n) where
   level_at_lem h buy =
       let m : i < length (side n x t) = omega (arith, length_side n x t) in
       let r : get_or t (get_or (ranked n x) i 0) free ≡ row_of (get_or (side n x t) i unused) =
-      sym row_at ∙ ap (λ (rs : List Row). get_or rs i free) h.words ∙ get_or-map row_of (side n x t) i unused free m in
+      sym row_at ∙ ap (λ (rs : List Row). get_or rs i free) h.rows ∙ get_or-map row_of (side n x t) i unused free m in
       ap (level_in buy) r ∙ by_side buy (get_or (side n x t) i unused)
     where
       by_side : (b : Bool) (o : Resting) → level_in b (row_of o) ≡ level_of b o
@@ -66,7 +66,7 @@ pub shows_rows : (s : List Resting) (x : List ℕ) (t : List Row) (n : ℕ) → 
 shows_rows s x t n fits all names rows =
     let is : side n x t ≡ s = ap (map order_of) rows ∙ orders_rows s in
     record {
-      holds = record { fits = fits; all = all; names = names; words = rows ∙ ap (map row_of) (sym is) };
+      holds = record { fits = fits; all = all; names = names; rows = rows ∙ ap (map row_of) (sym is) };
       is = is;
     }
 
@@ -118,7 +118,7 @@ module _ (n : ℕ) (x : List ℕ) (t : List Row) (h : Holds n x t) where
       let t' = set t v (row_of o) in
       let b : v < length t = omega (arith, h.all, names_below x h.names n p) in
       let new : get_or t' v free ≡ row_of o = get_or-set_same t v (row_of o) free b in
-      let old : rows_at t' (ranked n x) ≡ map row_of (side n x t) = put_free v (row_of o) t (ranked n x) (next_free x h.names n p) ∙ h.words in
+      let old : rows_at t' (ranked n x) ≡ map row_of (side n x t) = put_free v (row_of o) t (ranked n x) (next_free x h.names n p) ∙ h.rows in
       shows_rows (insert_at at o (side n x t)) x' t' (n + 1) (omega arith) (length-set t v (row_of o) ∙ h.all) names
       (ap (rows_at t') e ∙ map_insert_at (λ (j : ℕ). get_or t' j free) at v (ranked n x) ∙ rw (new, old) (sym (map_insert_at row_of at o (side n x t))))
 
@@ -127,7 +127,7 @@ module _ (n : ℕ) (x : List ℕ) (t : List Row) (h : Holds n x t) where
   side_removed x' at names e =
       let f = h.fits in
       shows_rows (remove_at at (side n x t)) x' t (n - 1) (omega arith) h.all names
-      (ap (rows_at t) e ∙ map_remove_at (λ (j : ℕ). get_or t j free) at (ranked n x) ∙ (ap (λ (rs : List Row). remove_at at rs) h.words ∙ sym (map_remove_at row_of at (side n x t))))
+      (ap (rows_at t) e ∙ map_remove_at (λ (j : ℕ). get_or t j free) at (ranked n x) ∙ (ap (λ (rs : List Row). remove_at at rs) h.rows ∙ sym (map_remove_at row_of at (side n x t))))
 
   -- another order in the place of one
   pub side_put : (at : ℕ) (o : Resting) → at < n → Shows (set (side n x t) at o) n x (set t (get_or (ranked n x) at 0) (row_of o))
@@ -137,14 +137,14 @@ module _ (n : ℕ) (x : List ℕ) (t : List Row) (h : Holds n x t) where
       let m : at < length (ranked n x) = omega (arith, length_ranked n x) in
       let b : v < length t = rw (ranked_at n x at l) (omega (arith, h.all, names_below x h.names (n - 1 - at) (omega arith))) in
       shows_rows (set (side n x t) at o) x (set t v (row_of o)) n f (length-set t v (row_of o) ∙ h.all) h.names
-      (put_named (row_of o) t (ranked n x) at m b (ranked_once x h.names n f v) ∙ (ap (λ (rs : List Row). set rs at (row_of o)) h.words ∙ sym (map_set row_of (side n x t) at o)))
+      (put_named (row_of o) t (ranked n x) at m b (ranked_once x h.names n f v) ∙ (ap (λ (rs : List Row). set rs at (row_of o)) h.rows ∙ sym (map_set row_of (side n x t) at o)))
 
   -- the best k left out: nothing moves
   pub side_dropped : (k : ℕ) → k ≤ n → Shows (drop k (side n x t)) (n - k) x t
   side_dropped k l =
       let f = h.fits in
       shows_rows (drop k (side n x t)) x t (n - k) (omega arith) h.all h.names
-      (ap (rows_at t) (sym (ranked_drop n x k l)) ∙ map_drop (λ (j : ℕ). get_or t j free) k (ranked n x) ∙ (ap (drop k) h.words ∙ sym (map_drop row_of k (side n x t))))
+      (ap (rows_at t) (sym (ranked_drop n x k l)) ∙ map_drop (λ (j : ℕ). get_or t j free) k (ranked n x) ∙ (ap (drop k) h.rows ∙ sym (map_drop row_of k (side n x t))))
 
   -- no order
   pub side_cleared : Shows [] 0 x t

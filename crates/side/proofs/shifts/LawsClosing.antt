@@ -88,7 +88,7 @@ closing_start n x t reached h l e =
       long = refl;
       ahead = λ k p. refl;
       same = λ j. refl;
-      rows = rw all worst.holds.words;
+      rows = rw all worst.holds.rows;
     }
 
 module _ {n : ℕ} {x₀ x : List ℕ} {t : List Row} {to i : ℕ} (h : Holds n x₀ t) (w : Closing n x₀ x t to i) where
@@ -105,7 +105,7 @@ module _ {n : ℕ} {x₀ x : List ℕ} {t : List Row} {to i : ℕ} (h : Holds n 
     unfolding ranked
     row_next =
         let z : n - (n - suc i) ≡ suc i = omega arith in
-        let words : rows_at t (ranked (suc i) x₀) ≡ map row_of (side (suc i) x₀ t) = rw z at (side_dropped n x₀ t h (n - suc i) (omega arith)).holds.words in
+        let words : rows_at t (ranked (suc i) x₀) ≡ map row_of (side (suc i) x₀ t) = rw z at (side_dropped n x₀ t h (n - suc i) (omega arith)).holds.rows in
         ap (λ (rs : List Row). get_or rs 0 free) words
 
     module _ (o : Resting) (e : o ≡ order_of (get_or t (get_or x i 0) free)) where

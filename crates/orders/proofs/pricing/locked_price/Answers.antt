@@ -1,44 +1,28 @@
 -- `orders::pricing::locked_price` meets its contract: the first order of a side is its best. Assumes nothing.
-use Prim.Native.Nat.{◌<◌}
-use mathlib.Core.Bool.{true, false}
 use mathlib.Core.List.{List, [], ◌∷◌}
-use mathlib.Core.Path.{◌≡◌, sym, ap, ◌∙◌}
-use lib.ListN.{length, get_or}
-use native.Mathlib.Omega.{arith}
-use Rattle.std.specs.Prelude.{if◌then◌else◌}
+use mathlib.Core.Path.{◌≡◌, refl, sym, ap, ◌∙◌}
+use Rattle.std.specs.List.{slice_get}
+use Rattle.std.specs.Prelude.{if◌then◌else◌, Some, None}
 use Rattle.kinds.specs.Kinds.{half_cents}
-use Rattle.side.specs.Table.{ranked, side}
-use Rattle.side.proofs.rows.LawsShown.{length_side}
 use Rattle.rules.specs.declared.Resting.{Resting}
-use Rattle.rules.specs.Book.{unused}
 use Rattle.orders.specs.Locks.{locked_price}
 use Rattle.orders.proofs.pricing.locked_price.Goals as goal
-use Rattle.orders.proofs.pricing.locked_price.Goals.{After-at-best}
 
-of_the_best : (s : List Resting) (best : Resting) → 0 < length s → best ≡ get_or s 0 unused
-    → locked_price s ≡ (if best.displayed then best.price else half_cents 0)
+of_the_best : (s : List Resting) (best : Resting) → slice_get s 0 ≡ Some best → locked_price s ≡ (if best.displayed then best.price else half_cents 0)
 unfolding locked_price
-of_the_best [] best l e = let z : ⊥ = omega arith in absurd z
-of_the_best (h ∷ s) best l e = ap (λ (o : Resting). if o.displayed then o.price else half_cents 0) (sym e)
+of_the_best [] best e = let z : ⊥ = cc in absurd z
+of_the_best (h ∷ s) best e = let is : h ≡ best = cc in ap (λ (o : Resting). if o.displayed then o.price else half_cents 0) is
 
--- what the best order, once there is one, says
-best_says : (c : After-at-best) → (let a = c.args in
-    locked_price (side a.n a.x.now a.t.now) ≡ (if c.at-best.result.displayed then c.at-best.result.price else half_cents 0))
-best_says c =
-    let a = c.args in
-    let some : 0 < a.n = omega (arith, c.if-n-eq0.false) in
-    of_the_best (side a.n a.x.now a.t.now) c.at-best.result (omega (arith, some, length_side a.n a.x.now a.t.now)) c.at-best.ensures
+of_none : (s : List Resting) → slice_get s 0 ≡ None → locked_price s ≡ half_cents 0
+unfolding locked_price
+of_none [] e = refl
+of_none (h ∷ s) e = let z : ⊥ = cc in absurd z
 
-pub returns-then-n-eq0 : goal.returns-then-n-eq0
-unfolding locked_price ranked
-returns-then-n-eq0 c = rw c.if-n-eq0.true
+pub returns-in-Some : goal.returns-in-Some
+returns-in-Some c = sym (of_the_best c.args.t.now c.in-Some.best (sym c.get.ensures ∙ c.in-Some.is) ∙ rw c.if-best.true)
 
-pub returns-then-best : goal.returns-then-best
-returns-then-best c =
-    let shown : c.at-best.result.displayed ≡ true = c.if-best.true in
-    sym (best_says (goal.at.returns-then-best c).After-at-best ∙ rw shown)
+pub returns-in_default : goal.returns-in_default
+returns-in_default c = sym (of_the_best c.args.t.now c.in-Some.best (sym c.get.ensures ∙ c.in-Some.is) ∙ rw c.if-best.false)
 
-pub returns : goal.returns
-returns c =
-    let hidden : c.at-best.result.displayed ≡ false = c.if-best.false in
-    sym (best_says (goal.at.returns c).After-at-best ∙ rw hidden)
+pub returns-in_default-2 : goal.returns-in_default-2
+returns-in_default-2 c = sym (of_none c.args.t.now (sym c.get.ensures ∙ c.in_default.is))

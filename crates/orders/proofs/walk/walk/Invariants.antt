@@ -1,13 +1,12 @@
 -- `orders::walk::walk`: what its loop keeps, and its measure.
 use lib.ListN.{length}
-use Rattle.side.specs.Table.{side}
 use Rattle.orders.specs.Cursor.{ahead}
 use Rattle.orders.specs.Walk.{is_within}
 use Rattle.orders.proofs.walk.LawsWalk.{Underway}
 use Rattle.orders.proofs.walk.walk.Given as goal
 
 abbrev pub invariant-loop-left : goal.invariant-loop-left
-invariant-loop-left l = Underway (is_within l.buying l.bound) l.initial.left.0 (side l.n l.x l.t) l.initial.took l.took l.c l.count l.left.0 l.skipped
+invariant-loop-left l = Underway (is_within l.buying l.bound) l.initial.left.0 l.t l.took l.c l.left.0 l.skipped
 
 abbrev pub decreases-loop-left : goal.decreases-loop-left
-decreases-loop-left l = length (ahead (side l.n l.x l.t) l.c)
+decreases-loop-left l = length (ahead l.t l.c)

@@ -2,25 +2,18 @@
 -- Assumes nothing.
 use Prim.Native.Nat.{◌+◌}
 use mathlib.Core.Bool.{◌&&◌}
-use mathlib.Core.Path.{◌≡◌, refl, ◌∙◌}
+use mathlib.Core.Path.{◌≡◌, ◌∙◌}
 use lib.Dec.{ltb, leb}
 use lib.ListN.{length, get_or, length-set}
 use native.Mathlib.Omega.{arith}
 use Rattle.std.specs.Prelude.{if◌then◌else◌}
-use Rattle.side.specs.Table.{index_size, places_a_part}
-use Rattle.side.proofs.rows.LawsSteps.{counted, steps, step_at}
+use Rattle.side.specs.Table.{index_size}
+use Rattle.side.proofs.rows.LawsSteps.{steps, step_at}
 use Rattle.side.proofs.shifts.LawsRotated.{lowering_step, filled_end, within_le, within_lt}
 use Rattle.side.proofs.shifts.lower.Goals as goal
 use Rattle.side.proofs.shifts.lower.Goals.{else-loop-part-test, then-loop-part-test+else-loop-i-test+else-part-end-part-gt64}
 
-pub loop-i-init : goal.loop-i-init
-loop-i-init c =
-    let part = c.loop-part.part in
-    let e : part + 0 ≡ part = omega arith in
-    (omega arith, refl, λ z long began. rw e began)
-
 pub loop-i-preserved : goal.loop-i-preserved
-unfolding counted
 loop-i-preserved c =
     let l = c.loop-part in
     let m = c.loop-i in
@@ -46,15 +39,6 @@ loop-i-preserved c =
           rw (further, e)
           (lowering_step a.from a.to z k m.b m.x (omega (arith, long)) (omega (arith, long)) (omega (arith, long)) (omega arith) (m.invariant.2 z long began)),
     )
-
-pub loop-part-preserved : goal.loop-part-preserved
-loop-part-preserved c =
-    let l = c.loop-part in
-    let m = c.loop-i in
-    let x₀ = c.args.x.now in
-    let long : length x₀ ≡ index_size = c.told-x in
-    let all : l.part + m.i ≡ l.part + places_a_part = omega arith in
-    (omega arith, rw all at (m.invariant.2 x₀ long l.invariant.1))
 
 pub returns : goal.returns
 returns c =

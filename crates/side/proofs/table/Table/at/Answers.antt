@@ -10,12 +10,9 @@ use Rattle.side.specs.Table.{order_of, free}
 use Rattle.side.proofs.rows.LawsShown.{length_is, order_at}
 use Rattle.side.proofs.table.Table.at.Goals as goal
 
-pub slot_at-slot-requires : goal.slot_at-slot-requires
-slot_at-slot-requires c = (c.self.invariant.names, omega (arith, c.requires, length_is c.self.inside c.self.view_is), c.self.invariant.fits)
-
 pub returns : goal.returns
 returns c =
     let t = c.self.inside in
-    ap (λ (j : ℕ). order_of (get_or t.rows j free)) c.slot_at-slot.ensures.0
+    ap (λ (j : ℕ). order_of (get_or t.rows j free)) c.slot_at.ensures.0
     ∙ order_at t.held t.index t.rows c.args.rank (omega (arith, c.requires, length_is c.self.inside c.self.view_is))
     ∙ ap (λ (s : List Resting). get_or s c.args.rank unused) c.self.view_is

@@ -9,9 +9,6 @@ use Rattle.side.proofs.shifts.LawsClosing.{closing_start, closing_on, closing_en
 use Rattle.side.proofs.table.Table.close_up.Goals as goal
 use Rattle.side.proofs.table.Table.close_up.Goals.{After-loop-i}
 
-pub overflow_sub-to : goal.overflow_sub-to
-overflow_sub-to c = omega (arith, c.requires.within, length_is c.self.inside c.self.view_is)
-
 pub loop-i-init : goal.loop-i-init
 loop-i-init c =
     let t = c.self.inside in (

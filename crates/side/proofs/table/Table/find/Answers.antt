@@ -4,7 +4,7 @@ use native.Mathlib.Omega.{arith}
 use Rattle.basics.proofs.LawsLoops.{found_here, found_later}
 use Rattle.rules.specs.Book.{unused}
 use Rattle.rules.specs.Commands.{is_number}
-use Rattle.side.proofs.LawsHints.{rank_found, rank_nowhere}
+use Rattle.side.proofs.LawsHints.{rank_found}
 use Rattle.side.proofs.table.Table.find.Goals as goal
 
 pub returns-then-eq : goal.returns-then-eq
@@ -20,9 +20,3 @@ loop-rank-preserved c =
     let l = c.loop-rank in
     let on = found_later (is_number a.number) unused a.self.now l.rank (omega arith) (rw c.at-o.ensures at (sym c.eq.ensures ∙ c.if-eq.false)) in
     (omega arith, l.invariant.1, sym on ∙ l.invariant.2)
-
-pub returns : goal.returns
-returns c =
-    let a = c.args in
-    let l = c.loop-rank in
-    sym (rank_nowhere a.number a.self.now (omega (arith, l.invariant.1, l.invariant.2)))

@@ -6,9 +6,6 @@ use Rattle.std.proofs.lemmas.Option.{slice_get-get_or, slice_get_past}
 use Rattle.side.proofs.rows.LawsShown.{length_is}
 use Rattle.side.proofs.table.Table.get.Goals as goal
 
-pub at-requires : goal.at-requires
-at-requires c = omega (arith, c.if-rank-self.true, length_is c.self.inside c.self.view_is)
-
 pub returns-then-rank-self : goal.returns-then-rank-self
 returns-then-rank-self c =
     let a = c.args in

@@ -9,12 +9,6 @@ use Rattle.side.proofs.rows.LawsShown.{length_is}
 use Rattle.side.proofs.shifts.LawsShifts.{shows_inserted}
 use Rattle.side.proofs.table.Table.insert.Goals as goal
 
-pub overflow_sub-n : goal.overflow_sub-n
-overflow_sub-n c = omega (arith, c.requires.0, length_is c.self.inside c.self.view_is)
-
-pub raise-requires : goal.raise-requires
-raise-requires c = (omega arith, omega (arith, c.requires.1, length_is c.self.inside c.self.view_is))
-
 pub invariant_of-self : goal.invariant_of-self
 invariant_of-self c =
     let t = c.self.inside in

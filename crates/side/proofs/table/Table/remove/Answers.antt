@@ -9,15 +9,6 @@ use Rattle.side.proofs.rows.LawsShown.{length_side, length_is}
 use Rattle.side.proofs.shifts.LawsShifts.{shows_removed}
 use Rattle.side.proofs.table.Table.remove.Goals as goal
 
-pub overflow_sub-last : goal.overflow_sub-last
-overflow_sub-last c = omega (arith, c.requires, length_is c.self.inside c.self.view_is)
-
-pub overflow_sub-last-2 : goal.overflow_sub-last-2
-overflow_sub-last-2 c = omega (arith, c.requires, length_is c.self.inside c.self.view_is)
-
-pub lower-requires : goal.lower-requires
-lower-requires c = (omega arith, omega (arith, c.self.invariant.fits, c.requires, length_is c.self.inside c.self.view_is))
-
 pub invariant_of-self : goal.invariant_of-self
 invariant_of-self c =
     let t = c.self.inside in

@@ -1,9 +1,0 @@
--- `orders::fills::counted` meets its contract. Assumes nothing.
-
-use Rattle.orders.proofs.fills.counted.Goals as goal
-
-pub returns-then-one : goal.returns-then-one
-returns-then-one c = rw c.if-one.true
-
-pub returns-else-one : goal.returns-else-one
-returns-else-one c = rw c.if-one.false
