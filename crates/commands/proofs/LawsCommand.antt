@@ -1,51 +1,165 @@
--- A command is judged by its header, and then by its body alone. Assumes nothing.
-use Prim.Native.Nat.{ℕ, ◌<◌}
-use mathlib.Core.List.{List, ◌++◌}
+-- A command is judged by its header, and then by its body alone; and what its body leaves of the two sides is what the command leaves of the
+-- book, with its number and its time in the header. Assumes nothing.
+use Prim.Native.Nat.{ℕ, ◌≤◌, ◌<◌}
+use mathlib.Core.Bool.{true}
+use mathlib.Core.List.{List, [], ◌++◌}
 use mathlib.Core.Path.{◌≡◌, refl, sym, ap, ◌∙◌}
 use native.Mathlib.Omega.{arith}
 use lib.Dec.{leb}
+use lib.ListN.{length}
 use borrow.Author.Tests.{ne_eqb, leb-false}
+use Rattle.std.specs.Prelude.{Result, Ok, Err, Some}
+use Rattle.basics.specs.Bytes.{onto}
+use Rattle.basics.proofs.LawsBytes.{onto_none}
 use Rattle.judge.specs.Judge.{book_holding}
+use Rattle.kinds.specs.declared.Number.{Number}
 use Rattle.rules.specs.declared.Body.{Body}
+use Rattle.rules.specs.declared.Body.TheVariants as body
 use Rattle.rules.specs.declared.Command.{Command}
-use Rattle.rules.specs.Book.{Book}
+use Rattle.rules.specs.declared.Refusal.{Refusal}
+use Rattle.rules.specs.declared.Resting.{Resting}
+use Rattle.rules.specs.Book.{Book, sound}
+use Rattle.rules.specs.Commands.{with_accepted, does}
+use Rattle.rules.specs.EventLines.{event_lines}
 use Rattle.rules.specs.Refusals.{first_of, last_refusal, header_refusals, body_refusals, line_refusals}
-use Rattle.rules.proofs.LawsRefusals.{none_given, first_given, first_passed, header_numbered}
-use Rattle.rules.specs.Step.{answer}
-use Rattle.side.specs.declared.tables.Step.{Step}
+use Rattle.rules.specs.Refusing.{or_refused}
+use Rattle.rules.specs.Step.{Answer, answer}
+use Rattle.rules.proofs.LawsCommands.{order_does, cancel_does, quote_does, close_does}
+use Rattle.rules.proofs.LawsRefusals.{none_given, first_given, first_passed, first_numbered, header_numbered, body_numbered}
+use Rattle.rules.proofs.LawsRefusing.{refused_alike, passed_zero, refused_above}
 use Rattle.side.specs.Answers.{Left, answer_of, body_answer}
-use Rattle.side.proofs.tables.LawsAnswers.{refused_with}
+use Rattle.side.proofs.tables.LawsAnswers.{refused_with, body_refused, body_done}
+use Rattle.soundness.proofs.LawsKept.{answer_kept}
+use Rattle.commands.specs.Sides.{held_after}
+
+-- what a command leaves of a book and of the output
+pub record Leaves (r : Result ℕ Refusal) (book : Book) (out' out : List ℕ) (a : Answer) : Type 0 where
+  pub value : r ≡ or_refused (length (event_lines a.events)) a.refusal
+  pub book_after : book ≡ a.book
+  pub out_after : out' ≡ onto (event_lines a.events) out
+
+-- every answer to a command leaves a sound book sound
+pub command_sound : (c : Command) (b : Book) → sound b ≡ true → sound (answer_of c b).book ≡ true
+unfolding answer_of
+command_sound c b s = answer_kept b (Some c) (first_of (line_refusals b (Some c))) s (λ e. e)
 
 -- ── The header ──
 
 module _ (c : Command) (b : Book) where
+  abbrev given : ℕ
+  given = first_of (header_refusals (book_holding b.held) c)
+
+  -- what the header gets
+  abbrev pub IsJudged : Result (Unit {0}) Refusal → Type 0
+  IsJudged r = r ≡ or_refused (tt {0}) given
+
   -- to the header no more of a book is of account
   same_header : header_refusals (book_holding b.held) c ≡ header_refusals b c
   unfolding header_refusals
   same_header = refl
 
-  pub header_refused : (k : ℕ) → k ≡ first_of (header_refusals (book_holding b.held) c) → 0 < k → answer_of c b ≡ refused_with k b
+  refused_is : 0 < given → answer_of c b ≡ refused_with given b
   unfolding answer_of line_refusals answer
-  header_refused k e l =
-      let f : first_of (header_refusals b c) ≡ k = sym (e ∙ ap first_of same_header) in
-      let g : first_of (header_refusals b c ++ body_refusals b c.body) ≡ k = first_given (header_refusals b c) (body_refusals b c.body) (omega (arith, f)) ∙ f in
-      rw (g, ne_eqb k 0 (λ (z : k ≡ 0). omega arith))
+  refused_is l =
+      let f : first_of (header_refusals b c) ≡ given = sym (ap first_of same_header) in
+      let g : first_of (header_refusals b c ++ body_refusals b c.body) ≡ given = first_given (header_refusals b c) (body_refusals b c.body) (omega (arith, f, l)) ∙ f in
+      rw (g, ne_eqb given 0 (λ (z : given ≡ 0). omega arith))
 
-  header_passed : 0 ≡ first_of (header_refusals (book_holding b.held) c) → answer_of c b ≡ body_answer c.number c.time c.body b
-  unfolding answer_of line_refusals body_answer
-  header_passed e =
-      rw (first_passed last_refusal (header_refusals b c) (body_refusals b c.body) (header_numbered b c) (sym (e ∙ ap first_of same_header)))
+  -- a header that is refused leaves the book and the output
+  pub header_refused : (e : Refusal) (out : List ℕ) → IsJudged (Err e) → Leaves (Err e) b out out (answer_of c b)
+  unfolding event_lines
+  header_refused e out h =
+      let is = refused_is (refused_above (tt {0}) given e (sym h)) in
+      record {
+        value = sym (refused_alike (tt {0}) (length (event_lines [])) given e (sym h)) ∙ sym (ap (λ (a : Answer). or_refused (length (event_lines a.events)) a.refusal) is);
+        book_after = sym (ap (λ (a : Answer). a.book) is);
+        out_after = onto_none out ∙ sym (ap (λ (a : Answer). onto (event_lines a.events) out) is);
+      }
 
--- what the body leaves is what the command leaves
-pub left_passed : (c : Command) (b : Book) (k : ℕ) (s : Body) → c.body ≡ s → k ≡ first_of (header_refusals (book_holding b.held) c) → k ≡ 0
-    → (r : Step) (x : List ℕ) (t : List (List ℕ)) (y : List ℕ) (u : List (List ℕ)) (out' out : List ℕ)
-    → Left r x t y u out' out (body_answer c.number c.time s b) → Left r x t y u out' out (answer_of c b)
-left_passed c b k s q e z r x t y u out' out l =
-    let p : answer_of c b ≡ body_answer c.number c.time s b =
-    header_passed c b (sym z ∙ e) ∙ ap (λ (other : Body). body_answer c.number c.time other b) q in
-    rw p l
+  module _ (passes : IsJudged (Ok (tt {0}))) where
+    none : first_of (header_refusals b c) ≡ 0
+    unfolding header_refusals
+    none =
+        let most : given ≤ last_refusal = first_numbered last_refusal (header_refusals b c) (header_numbered b c) in
+        passed_zero (tt {0}) (tt {0}) given most (sym passes)
 
--- and its number is above the last
-pub header_next : (c : Command) (b : Book) (k : ℕ) → k ≡ first_of (header_refusals (book_holding b.held) c) → k ≡ 0 → b.held.last.0 < c.number.0
-unfolding header_refusals
-header_next c b k e z = leb-false c.number.0 b.held.last.0 (none_given 4 (leb c.number.0 b.held.last.0) _ (omega arith) (sym e ∙ z)).0
+    -- the number of a command that passes is above the last
+    pub header_next : b.held.last.0 < c.number.0
+    unfolding header_refusals
+    header_next = leb-false c.number.0 b.held.last.0 (none_given 4 (leb c.number.0 b.held.last.0) _ (omega arith) none).0
+
+    by_body : answer_of c b ≡ body_answer c.number c.time c.body b
+    unfolding answer_of line_refusals body_answer
+    by_body = rw (first_passed last_refusal (header_refusals b c) (body_refusals b c.body) (header_numbered b c) none)
+
+-- ── The body ──
+
+module _ (n : Number) (time time' : ℕ) (b : Book) where
+  -- neither the sides nor the events depend on the time
+  does_alike : (by : Body)
+      → let d = does n time by b in
+      let d' = does n time' by b in
+      (d.book.buys ≡ d'.book.buys) × (d.book.sells ≡ d'.book.sells) × (d.events ≡ d'.events)
+  does_alike (body.Order o) =
+      let p = order_does n time b o in
+      let q = order_does n time' b o in
+      (rw (p.0, q.0) refl, rw (p.0, q.0) refl, rw (p.1, q.1) refl)
+  does_alike (body.Cancel of) =
+      let p = cancel_does n time b of in
+      let q = cancel_does n time' b of in
+      (rw (p.0, q.0) refl, rw (p.0, q.0) refl, rw (p.1, q.1) refl)
+  does_alike (body.Quote away) =
+      let p = quote_does n time b away in
+      let q = quote_does n time' b away in
+      (rw (p.0, q.0) refl, rw (p.0, q.0) refl, rw (p.1, q.1) refl)
+  does_alike body.Close =
+      let p = close_does n time b in
+      let q = close_does n time' b in
+      (rw (p.0, q.0) refl, rw (p.0, q.0) refl, rw (p.1, q.1) refl)
+
+  does_held : (by : Body) → (does n time by b).book.held ≡ held_after by (with_accepted n time b.held)
+  does_held (body.Order o) = rw (order_does n time b o).0 refl
+  does_held (body.Cancel of) = rw (cancel_does n time b of).0 refl
+  does_held (body.Quote away) = rw (quote_does n time b away).0 refl
+  does_held body.Close = rw (close_does n time b).0 refl
+
+module _ (c : Command) (b : Book) (passes : IsJudged c b (Ok (tt {0}))) (time : ℕ) where
+  abbrev judged : ℕ
+  judged = first_of (body_refusals b c.body)
+
+  judged_is : (body_answer c.number time c.body b).refusal ≡ judged
+  unfolding body_answer answer
+  judged_is = refl
+
+  -- an accepted command
+  pub left_accepted : (len : ℕ) (buys sells : List Resting) (out' out : List ℕ) → Left (Ok len) buys sells out' out (body_answer c.number time c.body b)
+      → Leaves (Ok len) (record { held = held_after c.body (with_accepted c.number c.time b.held); buys = buys; sells = sells }) out' out (answer_of c b)
+  left_accepted len buys sells out' out left =
+      let zero : judged ≡ 0 = passed_zero _ len judged (first_numbered last_refusal (body_refusals b c.body) (body_numbered b c.body)) (sym (left.0 ∙ ap (or_refused _) judged_is)) in
+      let was = body_done c.number time c.body b zero in
+      let is = by_body c b passes ∙ body_done c.number c.time c.body b zero in
+      let alike = does_alike c.number time c.time b c.body in
+      let held = does_held c.number c.time c.time b c.body in
+      let told : (body_answer c.number time c.body b).events ≡ (answer_of c b).events =
+      ap (λ (a : Answer). a.events) was ∙ alike.2 ∙ sym (ap (λ (a : Answer). a.events) is) in
+      record {
+        value = left.0 ∙ rw (told, ap (λ (a : Answer). a.refusal) was, ap (λ (a : Answer). a.refusal) is) refl;
+        book_after =
+            rw (left.1, left.2, ap (λ (a : Answer). a.book) was, alike.0, alike.1, sym held)
+            (sym (ap (λ (a : Answer). a.book) is));
+        out_after = left.3 ∙ ap (λ (es : _). onto (event_lines es) out) told;
+      }
+
+  -- a refused one
+  pub left_refused_by_body : (e : Refusal) (buys sells : List Resting) (out' out : List ℕ) → Left (Err e) buys sells out' out (body_answer c.number time c.body b)
+      → Leaves (Err e) (record { held = b.held; buys = buys; sells = sells }) out' out (answer_of c b)
+  left_refused_by_body e buys sells out' out left =
+      let above : 0 < judged = refused_above _ judged e (sym (left.0 ∙ ap (or_refused _) judged_is)) in
+      let was = body_refused c.number time c.body b judged above refl in
+      let is = by_body c b passes ∙ body_refused c.number c.time c.body b judged above refl in
+      let same : body_answer c.number time c.body b ≡ answer_of c b = was ∙ sym is in
+      record {
+        value = left.0 ∙ ap (λ (a : Answer). or_refused (length (event_lines a.events)) a.refusal) same;
+        book_after = rw (left.1, left.2, ap (λ (a : Answer). a.book) was) (sym (ap (λ (a : Answer). a.book) is));
+        out_after = left.3 ∙ ap (λ (a : Answer). onto (event_lines a.events) out) same;
+      }

@@ -1,91 +1,100 @@
-// A command on a sound book that stands in a header and two sides that are lent, worked in place (01, How an order is worked). It is judged
-// by its header first and then by its body; a refusal leaves the header, both sides and every byte as they were.
+// A command on a sound book in place, worked there (01, How an order is worked). It is judged by its header first and then by its body; a
+// refusal leaves the book and every byte as they were.
 
 #![tactic(auto)]
 
 mod cancels;
 
-ghost use Rattle.std.specs.Prelude.{◌≤◌, length};
+ghost use Rattle.std.specs.Prelude.{true, ◌≡◌, ◌≤◌, ◌<◌, length};
+ghost use Rattle.basics.specs.Bytes.{onto};
+ghost use Rattle.rules.specs.Book.{sound};
+ghost use Rattle.rules.specs.Commands.{with_accepted};
+ghost use Rattle.rules.specs.EventLines.{event_lines};
 ghost use Rattle.rules.specs.Refusals.{least_room};
-ghost use Rattle.rules.specs.declared.Body.TheVariants as body;
-ghost use Rattle.side.specs.Answers.{answer_of, body_answer, Left, Stands};
-ghost use Rattle.side.specs.Tables.{book_on};
+ghost use Rattle.rules.specs.Refusing.{or_refused};
+ghost use Rattle.side.specs.Answers.{answer_of, body_answer, Left};
+ghost use Rattle.commands.specs.Sides.{AreSound, Closes, held_after};
 
-use kinds::Number;
 use orders::reports;
-use orders::walk::Takings;
-use rules::{Body, Command, Held};
-use side::rows::{Index, Rows};
-use side::tables;
-use side::tables::{Head, Step};
+use orders::takings::Takings;
+use rules::{Body, Command, Held, Refusal};
+use side::table::Table;
+use side::tables::SoundBook;
 
 // ── A close ──
 
-fn close(
-    h: Head,
-    number: Number,
-    time: u32,
-    x: &Index,
-    buys: &Rows,
-    y: &Index,
-    sells: &Rows,
-    out: &mut [u8],
-) -> Step
-    requires { Stands h x.now buys.now y.now sells.now × (least_room ≤ length out.old) }
-    ensures { Left result x.now buys.now y.now sells.now out.new out.old
-        (body_answer number time body.Close (book_on h x.now buys.now y.now sells.now)) }
+// Every order is cancelled, reason 7; the length of the lines.
+fn close(buys: &mut Table, sells: &mut Table, out: &mut [u8]) -> usize
+    requires sides { AreSound buys.old sells.old }
+    requires room { least_room ≤ length out.old }
+    ensures { Closes buys.old sells.old out.old result buys.new sells.new out.new }
 {
-    let n = h.buys;
-    let m = h.sells;
-    let len = reports::report_cancelled(x, buys, n, 7, out);
-    let more = reports::report_cancelled(y, sells, m, 7, &mut out[len..]);
-    let held = h.held;
-    let shut = Held {
-        last: number,
-        time: time,
-        closed: true,
-        ..held
-    };
-    let head = Head {
-        held: shut,
-        buys: 0,
-        sells: 0,
-    };
-    Step {
-        refusal: 0,
-        head: head,
-        length: len + more,
-    }
+    let length = reports::report_cancelled(buys, 7, out);
+    let more = reports::report_cancelled(sells, 7, &mut out[length..]);
+    buys.clear();
+    sells.clear();
+    length + more
 }
 
 // ── A command ──
 
-pub fn apply(
-    h: Head,
+// What the body of a command leaves of the two sides, and the length of its lines.
+fn carry_out(
+    held: &Held,
     c: Command,
-    x: &mut Index,
-    buys: &mut Rows,
-    y: &mut Index,
-    sells: &mut Rows,
+    buys: &mut Table,
+    sells: &mut Table,
     took: &mut Takings,
     out: &mut [u8],
-) -> Step
-    requires { Stands h x.old buys.old y.old sells.old × (least_room ≤ length out.old) }
-    ensures { Left result x.new buys.new y.new sells.new out.new out.old
-        (answer_of c (book_on h x.old buys.old y.old sells.old)) }
+) -> Result<usize, Refusal>
+    requires is_sound { sound (record { held = held.now; buys = buys.old; sells = sells.old }) ≡ true }
+    requires room { least_room ≤ length out.old }
+    requires next { held.now.last.0 < c.number.0 }
+    ensures { Left result buys.new sells.new out.new out.old
+        (body_answer c.number held.now.time c.body (record { held = held.now; buys = buys.old; sells = sells.old })) }
 {
-    let number = c.number;
-    let time = c.time;
-    let body = c.body;
-    let held = h.held;
-    let refusal = judge::header_refusal(held, c);
-    if refusal != 0 {
-        return tables::refuse(h, refusal);
+    match c.body {
+        Body::Order(o) => orders::enter(held, c.number, o, buys, sells, took, out),
+        Body::Cancel(of) => cancels::cancel(buys, sells, of, out),
+        Body::Quote(away) => quotes::quote(held, c.number, away, buys, sells, out),
+        Body::Close => Ok(close(buys, sells, out)),
     }
-    match body {
-        Body::Order(o) => orders::enter(h, number, time, o, x, buys, y, sells, took, out),
-        Body::Cancel(of) => cancels::cancel(h, number, time, of, x, buys, y, sells, out),
-        Body::Quote(away) => quotes::quote(h, number, time, away, x, buys, y, sells, out),
-        Body::Close => close(h, number, time, x, buys, y, sells, out),
+}
+
+// What an accepted command leaves of the header: its number and its time, and what its body changes.
+fn held_after(held: Held, c: Command) -> Held
+    ensures { result ≡ held_after c.body (with_accepted c.number c.time held) }
+{
+    let accepted = Held {
+        last: c.number,
+        time: c.time,
+        ..held
+    };
+    match c.body {
+        Body::Order(_) => accepted,
+        Body::Cancel(_) => accepted,
+        Body::Quote(away) => Held { away, ..accepted },
+        Body::Close => Held {
+            closed: true,
+            ..accepted
+        },
     }
+}
+
+pub fn apply(
+    book: &mut SoundBook,
+    c: Command,
+    took: &mut Takings,
+    out: &mut [u8],
+) -> Result<usize, Refusal>
+    requires { least_room ≤ length out.old }
+    ensures value { result ≡ or_refused (length (event_lines (answer_of c book.old).events)) (answer_of c book.old).refusal }
+    ensures book_after { book.new ≡ (answer_of c book.old).book }
+    ensures out_after { out.new ≡ onto (event_lines (answer_of c book.old).events) out.old }
+{
+    let held = book.held;
+    judge::header(held, c)?;
+    let length = carry_out(&held, c, &mut book.buys, &mut book.sells, took, out)?;
+    book.held = held_after(held, c);
+    Ok(length)
 }

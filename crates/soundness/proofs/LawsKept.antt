@@ -147,7 +147,7 @@ unfolding done_by
 done_sound b None s e = s
 done_sound b (Some c) s e = does_sound b c s e
 
-answer_kept : (b : Book) (r : Reading) (refusal : ℕ) → sound b ≡ true → (refusal ≡ 0 → first_of (line_refusals b r) ≡ 0) → sound (answer refusal r b).book ≡ true
+pub answer_kept : (b : Book) (r : Reading) (refusal : ℕ) → sound b ≡ true → (refusal ≡ 0 → first_of (line_refusals b r) ≡ 0) → sound (answer refusal r b).book ≡ true
 unfolding answer
 answer_kept b r refusal s f =
     ⊎_elim

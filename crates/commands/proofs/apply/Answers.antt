@@ -1,64 +1,115 @@
--- `commands::apply` meets its contract: the header is judged, and then an arm for each body. Assumes nothing.
-use Prim.Native.Nat.{◌<◌}
-use mathlib.Core.Path.{◌∙◌}
-use native.Mathlib.Omega.{arith}
-use Rattle.rules.specs.Book.{Book}
-use Rattle.side.specs.Tables.{book_on}
-use Rattle.side.proofs.tables.LawsAnswers.{left_refused}
-use Rattle.commands.proofs.LawsCommand.{header_refused, left_passed, header_next}
+-- `commands::apply` meets its contract: the header is judged first, then the body does its work on the two sides, and then the header is
+-- written. Assumes nothing.
+use mathlib.Core.Bool.{true}
+use mathlib.Core.Path.{◌≡◌, sym, ap, subst, ◌∙◌}
+use Rattle.std.proofs.lemmas.Result.{err_from_is_err_and}
+use Rattle.std.specs.Prelude.{Result, Ok, Err}
+use Rattle.rules.specs.declared.Command.{Command}
+use Rattle.rules.specs.declared.Refusal.{Refusal}
+use Rattle.rules.specs.Book.{Book, sound}
+use Rattle.side.specs.Answers.{answer_of}
+use Rattle.commands.proofs.LawsCommand.{Leaves, command_sound, header_refused, header_next, left_accepted, left_refused_by_body}
 use Rattle.commands.proofs.apply.Goals as goal
-use Rattle.commands.proofs.apply.Goals.{Else-refusal-ne0, Start}
+use Rattle.commands.proofs.apply.Goals.{After-from_residual, After-from_residual-in_err-length, After-held_after-book-inside}
 
-abbrev book : Start → Book
-book s = let a = s.args in book_on a.h a.x.now a.buys.now a.y.now a.sells.now
+-- the sound book that a command finds, and what it leaves of it, said of any book equal to it
+module _ (c : Command) {b b' : Book} (is : b ≡ b') where
+  left_of : {r : Result _ Refusal} {after : Book} {out' out : _} → Leaves r after out' out (answer_of c b) → Leaves r after out' out (answer_of c b')
+  left_of {r} {after} {out'} {out} = subst (λ (x : Book). Leaves r after out' out (answer_of c x)) is
 
--- a command that passes is the next one
-above : (c : Else-refusal-ne0) → c.args.h.held.last.0 < c.args.c.number.0
-above c =
+  sound_after : {after : Book} → sound b ≡ true → after ≡ (answer_of c b').book → sound after ≡ true
+  sound_after s e = subst (λ (x : Book). sound x ≡ true) (sym e) (command_sound c b' (subst (λ (x : Book). sound x ≡ true) is s))
+
+-- ── Refused by its header ──
+
+by_header : (c : After-from_residual) → Leaves c.from_residual.result c.args.book.now c.args.out.now c.args.out.now (answer_of c.args.c c.args.book.now)
+by_header c =
     let a = c.args in
-    header_next a.c (book_on a.h a.x.now a.buys.now a.y.now a.sells.now) c.header_refusal-refusal.result c.header_refusal-refusal.ensures c.if-refusal-ne0.false
+    let b : Book = record { held = c.book.inside.held; buys = c.book.inside.buys; sells = c.book.inside.sells } in
+    let p = err_from_is_err_and c.from_residual.result c.from_residual.ensures.1 in
+    let left = left_of a.c c.book.view_is (header_refused a.c b c.in_err-header.field-0.0 a.out.now (sym c.in_err-header.was ∙ c.header.ensures)) in
+    record {
+      value = p.1 ∙ ap (λ (e : Refusal). Err e) p.2 ∙ left.value;
+      book_after = sym c.book.view_is ∙ left.book_after;
+      out_after = left.out_after;
+    }
 
-pub returns-then-refusal-ne0 : goal.returns-then-refusal-ne0
-returns-then-refusal-ne0 c =
-    let a = c.args in
-    let k = c.header_refusal-refusal in
-    let left =
-    left_refused a.h a.x.now a.buys.now a.y.now a.sells.now c.requires.0 k.result a.out.now _
-    (header_refused a.c (book (goal.at.returns-then-refusal-ne0 c).Start) k.result k.ensures (omega (arith, c.if-refusal-ne0.true))) in
-    (c.refuse.ensures ∙ left.0, left.1)
+pub returns-in_err-header-clause-value : goal.returns-in_err-header-clause-value
+returns-in_err-header-clause-value c = (by_header c).value
 
-pub enter-requires : goal.enter-requires
-enter-requires c = let p = c.requires in (p.0, p.1, above (goal.at.enter-requires c).Else-refusal-ne0)
+pub returns-in_err-header-clause-book_after : goal.returns-in_err-header-clause-book_after
+returns-in_err-header-clause-book_after c = (by_header c).book_after
 
-pub cancel-requires : goal.cancel-requires
-cancel-requires c = c.requires
+pub returns-in_err-header-clause-out_after : goal.returns-in_err-header-clause-out_after
+returns-in_err-header-clause-out_after c = (by_header c).out_after
 
-pub quote-requires : goal.quote-requires
-quote-requires c = let p = c.requires in (p.0, p.1, above (goal.at.quote-requires c).Else-refusal-ne0)
+-- ── Refused by its body ──
 
-pub close-requires : goal.close-requires
-close-requires c = c.requires
+pub carry_out-requires-clause-next : goal.carry_out-requires-clause-next
+carry_out-requires-clause-next c =
+    header_next c.args.c (record { held = c.book.inside.held; buys = c.book.inside.buys; sells = c.book.inside.sells }) c.in_ok-header.ensures
 
-pub returns-in-Order : goal.returns-in-Order
-returns-in-Order c =
-    let a = c.args in
-    let k = c.header_refusal-refusal in
-    left_passed a.c (book (goal.at.returns-in-Order c).Start) k.result _ c.in-Order.is k.ensures c.if-refusal-ne0.false _ _ _ _ _ _ a.out.now c.enter.ensures
+module _ (c : After-from_residual-in_err-length) where
+  abbrev kept : Book
+  kept = record { held = c.book.inside.held; buys = c.carry_out.new.buys; sells = c.carry_out.new.sells }
 
-pub returns-in-Cancel : goal.returns-in-Cancel
-returns-in-Cancel c =
-    let a = c.args in
-    let k = c.header_refusal-refusal in
-    left_passed a.c (book (goal.at.returns-in-Cancel c).Start) k.result _ c.in-Cancel.is k.ensures c.if-refusal-ne0.false _ _ _ _ _ _ a.out.now c.cancel.ensures
+  by_body : Leaves c.from_residual-in_err-length.result kept c.carry_out.new.out c.args.out.now (answer_of c.args.c c.args.book.now)
+  by_body =
+      let a = c.args in
+      let b : Book = record { held = c.book.inside.held; buys = c.book.inside.buys; sells = c.book.inside.sells } in
+      let p = err_from_is_err_and c.from_residual-in_err-length.result c.from_residual-in_err-length.ensures.1 in
+      let by_sides = rw c.in_err-length.was at c.carry_out.ensures in
+      let left = left_of a.c c.book.view_is (left_refused_by_body a.c b c.in_ok-header.ensures b.held.time c.in_err-length.field-0.0 _ _ _ _ by_sides) in
+      record {
+        value = p.1 ∙ ap (λ (e : Refusal). Err e) p.2 ∙ left.value;
+        book_after = left.book_after;
+        out_after = left.out_after;
+      }
 
-pub returns-in-Quote : goal.returns-in-Quote
-returns-in-Quote c =
-    let a = c.args in
-    let k = c.header_refusal-refusal in
-    left_passed a.c (book (goal.at.returns-in-Quote c).Start) k.result _ c.in-Quote.is k.ensures c.if-refusal-ne0.false _ _ _ _ _ _ a.out.now c.quote.ensures
+  kept_sound : sound kept ≡ true
+  kept_sound = sound_after c.args.c c.book.view_is c.book.invariant by_body.book_after
 
-pub returns-in-Close : goal.returns-in-Close
-returns-in-Close c =
-    let a = c.args in
-    let k = c.header_refusal-refusal in
-    left_passed a.c (book (goal.at.returns-in-Close c).Start) k.result _ c.in-Close.is k.ensures c.if-refusal-ne0.false _ _ _ _ _ _ a.out.now c.close.ensures
+pub invariant_of-book : goal.invariant_of-book
+invariant_of-book c = kept_sound c
+
+pub returns-in_err-length-clause-value : goal.returns-in_err-length-clause-value
+returns-in_err-length-clause-value c = (by_body c).value
+
+pub returns-in_err-length-clause-book_after : goal.returns-in_err-length-clause-book_after
+returns-in_err-length-clause-book_after c = (by_body c).book_after
+
+pub returns-in_err-length-clause-out_after : goal.returns-in_err-length-clause-out_after
+returns-in_err-length-clause-out_after c = (by_body c).out_after
+
+-- ── Accepted ──
+
+module _ (c : After-held_after-book-inside) where
+  abbrev written : Book
+  written = record { held = c.held_after-book-inside.result; buys = c.carry_out.new.buys; sells = c.carry_out.new.sells }
+
+  accepted : Leaves (Ok c.in_ok-length.length) written c.carry_out.new.out c.args.out.now (answer_of c.args.c c.args.book.now)
+  accepted =
+      let a = c.args in
+      let b : Book = record { held = c.book.inside.held; buys = c.book.inside.buys; sells = c.book.inside.sells } in
+      let by_sides = rw c.in_ok-length.was at c.carry_out.ensures in
+      let left = left_of a.c c.book.view_is (left_accepted a.c b c.in_ok-header.ensures b.held.time c.in_ok-length.length _ _ _ _ by_sides) in
+      record {
+        value = left.value;
+        book_after = rw c.held_after-book-inside.ensures left.book_after;
+        out_after = left.out_after;
+      }
+
+  written_sound : sound written ≡ true
+  written_sound = sound_after c.args.c c.book.view_is c.book.invariant accepted.book_after
+
+pub invariant_of-book-2 : goal.invariant_of-book-2
+invariant_of-book-2 c = written_sound (goal.at.invariant_of-book-2 c).After-held_after-book-inside
+
+pub returns-clause-value : goal.returns-clause-value
+returns-clause-value c = (accepted (goal.at.returns-clause-value c).After-held_after-book-inside).value
+
+pub returns-clause-book_after : goal.returns-clause-book_after
+returns-clause-book_after c = (accepted (goal.at.returns-clause-book_after c).After-held_after-book-inside).book_after
+
+pub returns-clause-out_after : goal.returns-clause-out_after
+returns-clause-out_after c = (accepted (goal.at.returns-clause-out_after c).After-held_after-book-inside).out_after

@@ -18,8 +18,10 @@ use Rattle.rules.specs.Book.{numbers}
 use Rattle.rules.specs.Commands.{is_number, cancel_fate}
 use Rattle.rules.specs.Settling.{staying, told}
 use Rattle.commands.specs.declared.cancels.Found.{Found}
-use Rattle.commands.specs.declared.cancels.Found.TheVariants.{AmongBuys, AmongSells, Nowhere}
-use Rattle.commands.specs.Cancels.{where_is, off_line}
+use Rattle.commands.specs.declared.cancels.Found.TheVariants.{AmongBuys, AmongSells}
+use Rattle.commands.specs.Cancels.{among_both, where_is, off_line}
+use Rattle.side.specs.Looking.{rank_of}
+use Rattle.std.specs.Prelude.{Option, Some, None}
 
 -- ── A search ──
 
@@ -151,51 +153,66 @@ unfolding distinct
 second_once [] u d = d
 second_once (h ∷ s) u d = second_once s u (and_right (not (any (eqb h.number.0) (numbers (s ++ u)))) (distinct (numbers (s ++ u))) d)
 
+-- ── The rank of a number ──
+
+module _ (of : Number) (s : List Resting) where
+  pub ranked : (rank : ℕ) → rank_of of s ≡ Some rank → (rank ≡ first_where (is_number of) s) × (rank < length s)
+  ranked rank e =
+      ⊎_elim
+      (λ (l : first_where (is_number of) s < length s).
+      let is : Some (first_where (is_number of) s) ≡ Some rank = rw (lt-ltb (first_where (is_number of) s) (length s) l) at e in
+      let same : first_where (is_number of) s ≡ rank = cc in
+      (sym same, omega (arith, same, l)))
+      (λ (l : length s ≤ first_where (is_number of) s).
+      let is : None ≡ Some rank = rw (le-ltb (first_where (is_number of) s) (length s) l) at e in
+      absurd (never is))
+      (lt_or_le (first_where (is_number of) s) (length s))
+    where
+      never : {r : ℕ} → ◌≡◌ {A = Option ℕ} None (Some r) → ⊥
+      never z = cc
+
+  pub unranked : rank_of of s ≡ None → any (is_number of) s ≡ false
+  unranked e =
+      ⊎_elim
+      (λ (l : first_where (is_number of) s < length s).
+      let is : Some (first_where (is_number of) s) ≡ None = rw (lt-ltb (first_where (is_number of) s) (length s) l) at e in
+      absurd (never is))
+      (λ (l : length s ≤ first_where (is_number of) s). passed_all (is_number of) s l)
+      (lt_or_le (first_where (is_number of) s) (length s))
+    where
+      never : {r : ℕ} → ◌≡◌ {A = Option ℕ} (Some r) None → ⊥
+      never z = cc
+
+  pub none_ranked : any (is_number of) s ≡ false → rank_of of s ≡ None
+  none_ranked e = rw (le-ltb (first_where (is_number of) s) (length s) (passes_all (is_number of) s e))
+
 -- ── Where the order of a number rests ──
 
 module _ (of : Number) (buys sells : List Resting) where
-  pub where_buy : (at : ℕ) → at ≡ first_where (is_number of) buys → at < length buys → AmongBuys at ≡ where_is of buys sells
-  where_buy at e l = rw e (sym (rw (lt-ltb (first_where (is_number of) buys) (length buys) (omega (arith, e, l))) refl))
-
-  pub where_sell : length buys ≤ first_where (is_number of) buys → (at : ℕ) → at ≡ first_where (is_number of) sells → at < length sells
-      → AmongSells at ≡ where_is of buys sells
-  where_sell bare at e l =
-      rw e
-      (sym (rw (le-ltb (first_where (is_number of) buys) (length buys) bare, lt-ltb (first_where (is_number of) sells) (length sells) (omega (arith, e, l))) refl))
-
-  pub where_none : length buys ≤ first_where (is_number of) buys → length sells ≤ first_where (is_number of) sells → Nowhere ≡ where_is of buys sells
-  where_none bare none =
-      sym (rw (le-ltb (first_where (is_number of) buys) (length buys) bare, le-ltb (first_where (is_number of) sells) (length sells) none) refl)
-
   -- what was found is so
-  Is : Found → Type 0
-  Is (AmongBuys at) = (at ≡ first_where (is_number of) buys) × (at < length buys)
-  Is (AmongSells at) = (at ≡ first_where (is_number of) sells) × (at < length sells)
-  Is Nowhere = (any (is_number of) buys ≡ false) × (any (is_number of) sells ≡ false)
+  Is : Option Found → Type 0
+  Is (Some (AmongBuys rank)) = rank_of of buys ≡ Some rank
+  Is (Some (AmongSells rank)) = rank_of of sells ≡ Some rank
+  Is None = (any (is_number of) buys ≡ false) × (any (is_number of) sells ≡ false)
 
-  where_is_lem : Is (where_is of buys sells)
+  where_is_lem : (bought sold : Option ℕ) → rank_of of buys ≡ bought → rank_of of sells ≡ sold → Is (among_both bought sold)
   unfolding Is
-  where_is_lem =
-      ⊎_elim
-      (λ (l : first_where (is_number of) buys < length buys). rw (lt-ltb (first_where (is_number of) buys) (length buys) l) (refl, l))
-      (λ (l : length buys ≤ first_where (is_number of) buys).
-      rw (le-ltb (first_where (is_number of) buys) (length buys) l)
-      (⊎_elim
-      (λ (m : first_where (is_number of) sells < length sells). rw (lt-ltb (first_where (is_number of) sells) (length sells) m) (refl, m))
-      (λ (m : length sells ≤ first_where (is_number of) sells).
-      rw (le-ltb (first_where (is_number of) sells) (length sells) m) (passed_all (is_number of) buys l, passed_all (is_number of) sells m))
-      (lt_or_le (first_where (is_number of) sells) (length sells))))
-      (lt_or_le (first_where (is_number of) buys) (length buys))
+  where_is_lem (Some rank) sold e f = e
+  where_is_lem None (Some rank) e f = f
+  where_is_lem None None e f = (unranked of buys e, unranked of sells f)
 
-  module _ (found : Found) (is : found ≡ where_is of buys sells) where
-    pub found_buy : (at : ℕ) → found ≡ AmongBuys at → (at ≡ first_where (is_number of) buys) × (at < length buys)
-    unfolding Is
-    found_buy at e = subst Is (sym is ∙ e) where_is_lem
+  module _ (found : Option Found) (is : found ≡ where_is of buys sells) where
+    found_is : Is found
+    found_is = subst Is (sym is) (where_is_lem (rank_of of buys) (rank_of of sells) refl refl)
 
-    pub found_sell : (at : ℕ) → found ≡ AmongSells at → (at ≡ first_where (is_number of) sells) × (at < length sells)
+    pub found_buy : (rank : ℕ) → found ≡ Some (AmongBuys rank) → rank_of of buys ≡ Some rank
     unfolding Is
-    found_sell at e = subst Is (sym is ∙ e) where_is_lem
+    found_buy rank e = subst Is e found_is
 
-    pub found_none : found ≡ Nowhere → (any (is_number of) buys ≡ false) × (any (is_number of) sells ≡ false)
+    pub found_sell : (rank : ℕ) → found ≡ Some (AmongSells rank) → rank_of of sells ≡ Some rank
     unfolding Is
-    found_none e = subst Is (sym is ∙ e) where_is_lem
+    found_sell rank e = subst Is e found_is
+
+    pub found_none : found ≡ None → (any (is_number of) buys ≡ false) × (any (is_number of) sells ≡ false)
+    unfolding Is
+    found_none e = subst Is e found_is
