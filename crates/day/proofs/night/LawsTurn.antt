@@ -1,7 +1,7 @@
 -- One turn of a day, from what `day::replay::feed` worked and so many bytes of what is left as `command_lines::lines::carry` may keep. Assumes nothing.
 use Prim.Native.Nat.{ℕ, ◌-◌, ◌≤◌}
 use mathlib.Core.Bool.{Bool, true, false, not}
-use mathlib.Core.List.{List, [], ◌∷◌}
+use mathlib.Core.List.{List}
 use mathlib.Core.Path.{◌≡◌, refl, ap, ◌∙◌}
 use lib.Dec.{ltb}
 use lib.ListN.{length, take, drop, length-take, length-drop}
@@ -13,10 +13,8 @@ use Rattle.command_lines.specs.Pieces.{carried, part_kept}
 use Rattle.rules.specs.Day.{cut}
 use Rattle.day.specs.declared.replay.Fed.{Fed}
 use Rattle.day.specs.Feed.{worked, fed_by}
-use Rattle.day.specs.Pieces.{printed_at_end}
 use Rattle.rules.specs.Book.{Book}
 use Rattle.rules.specs.Refusals.{least_room}
-use Rattle.rules.proofs.LawsEvents.{refusal_length}
 use Rattle.day.specs.Turns.{turned, turn_of}
 
 -- to keep as many bytes as there were keeps all that is left of them
