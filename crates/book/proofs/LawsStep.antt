@@ -1,13 +1,13 @@
 -- A step over any record: refusals 1 and 2 come before the line, and where neither is given the answer is that of a sound book.
 -- Assumes nothing.
 use Prim.Native.Nat.{ℕ, ◌≤◌, ◌<◌}
-use mathlib.Core.Bool.{Bool, true}
-use mathlib.Core.List.{List, []}
-use mathlib.Core.Path.{◌≡◌, sym, ap, ◌∙◌}
+use mathlib.Core.Bool.{true, false}
+use mathlib.Core.List.{List}
+use mathlib.Core.Path.{◌≡◌, sym, ap}
 use lib.Dec.{eqb}
 use lib.ListN.{length}
 use native.Mathlib.Omega.{arith}
-use borrow.Author.Tests.{ne_eqb, le-ltb}
+use borrow.Author.Tests.{ne_eqb, le-ltb, lt-ltb}
 use Rattle.basics.specs.Bytes.{onto}
 use Rattle.std.specs.Prelude.{if◌then◌else◌, Some, None}
 use Rattle.basics.proofs.LawsBytes.{onto_none}
@@ -15,14 +15,9 @@ use Rattle.rules.specs.declared.Command.{Command}
 use Rattle.rules.specs.CommandLines.{Reading}
 use Rattle.rules.specs.Book.{BookRecord, book_in, record_of, record_sound}
 use Rattle.rules.specs.EventLines.{event_lines}
-use Rattle.rules.specs.Refusals.{first_of, least_room, last_refusal, line_refusals, fit_refusals, refusals}
-use Rattle.rules.proofs.LawsRefusals.{first_given, first_passed, fit_numbered, fit_facts}
+use Rattle.rules.specs.Refusals.{first_of, least_room, line_refusals, refusals}
 use Rattle.rules.specs.Step.{Returned, answer, step_on}
 use Rattle.side.specs.Answers.{answer_of}
-
--- refusals 1 and 2
-abbrev pub unfit : ℕ → Bool → ℕ
-unfit room book_sound = first_of (fit_refusals room book_sound)
 
 -- what a refusal returns
 abbrev pub refused_on : ℕ → BookRecord → List ℕ → Returned
@@ -36,20 +31,19 @@ module _ (r : BookRecord) (out : List ℕ) where
       refused : ℕ → List ℕ → Returned
       refused k o = refused_on k r o
 
-  pub step_unfit : (a : Reading) (k : ℕ) → k ≡ unfit (length out) (record_sound r) → 0 < k → step_on r a out ≡ refused_on k r out
-  unfolding refusals
-  step_unfit a k e l =
-      refused_step a k (first_given (fit_refusals (length out) (record_sound r)) (line_refusals (book_in r) a) (omega (arith, e)) ∙ sym e) l
+  -- refusals 1 and 2 come before the line
+  pub step_no_room : (a : Reading) → length out < least_room → step_on r a out ≡ refused_on 1 r out
+  unfolding refusals first_of
+  step_no_room a short = refused_step a 1 (rw (lt-ltb (length out) least_room short)) (omega arith)
 
-  pub step_bad : 0 ≡ unfit (length out) (record_sound r) → step_on r None out ≡ refused_on 3 r out
-  unfolding refusals line_refusals first_of
-  step_bad e = refused_step None 3
-      (first_passed last_refusal (fit_refusals (length out) (record_sound r)) (line_refusals (book_in r) None) (fit_numbered (length out) (record_sound r)) (sym e)) (omega arith)
+  module _ (room : least_room ≤ length out) where
+    pub step_unsound : (a : Reading) → record_sound r ≡ false → step_on r a out ≡ refused_on 2 r out
+    unfolding refusals first_of
+    step_unsound a e = refused_step a 2 (rw (le-ltb (length out) least_room room, e)) (omega arith)
 
-  pub fit : 0 ≡ unfit (length out) (record_sound r) → (record_sound r ≡ true) × (least_room ≤ length out)
-  fit e =
-      let f = fit_facts (length out) (record_sound r) [] (sym e) in
-      (f.1, f.0)
+    pub step_no_command : record_sound r ≡ true → step_on r None out ≡ refused_on 3 r out
+    unfolding refusals line_refusals first_of
+    step_no_command e = refused_step None 3 (rw (le-ltb (length out) least_room room, e)) (omega arith)
 
   module _ (c : Command) (is_sound : record_sound r ≡ true) (room : least_room ≤ length out) where
     fit_refusals_lem : first_of (refusals (length out) (record_sound r) (book_in r) (Some c)) ≡ first_of (line_refusals (book_in r) (Some c))

@@ -1,24 +1,20 @@
--- What is inspected place by place is what the clauses of `sound` say, and with the header it is `record_sound`. Assumes nothing.
+-- What is inspected place by place is what the clauses of `sound` say, and with what a book holds besides it is `record_sound`. Assumes nothing.
 use Prim.Native.Nat.{ℕ, zero, suc, ◌+◌, ◌-◌, ◌≤◌}
 use mathlib.Core.Bool.{Bool, true, false, not, ◌&&◌, ◌||◌, and-true, false-and, and-false, and_assoc, or_assoc}
-use mathlib.Core.List.{List, [], ◌∷◌, ◌++◌, map, map-append}
+use mathlib.Core.List.{List, [], ◌∷◌, ◌++◌, map-append}
 use mathlib.Core.Logic.{⊎_elim}
 use mathlib.Core.Path.{◌≡◌, refl, sym, ap, ◌∙◌}
 use lib.Dec.{eqb, leb, ltb}
-use lib.ListN.{length, take, drop, length-append, length-map}
+use lib.ListN.{length, take, drop, length-append}
 use lib.Seq.{length-take-le}
 use native.Mathlib.Omega.{arith}
 use borrow.Author.Tests.{ltb-true, ltb-false, le-leb, lt-leb, ne_eqb}
-use Rattle.basics.proofs.LawsLists.{map_take}
 use Rattle.basics.specs.Lists.{every, any, distinct}
 use Rattle.basics.proofs.LawsChoice.{holds_or_not, or_neither}
 use Rattle.kinds.specs.declared.Number.{Number}
-use Rattle.side.specs.Table.{order_of, loaded}
 use Rattle.rules.specs.declared.Resting.{Resting}
-use Rattle.rules.specs.Book.{numbers, places_a_side, opening, closing, resting_in_range, is_unused, away_in_range, in_rank_order, apart, book_in, sound, record_sound}
-use Rattle.side.specs.declared.tables.Head.{Head}
-use Rattle.side.specs.Tables.{record_on}
-use Rattle.inspection.specs.Inspection.{none_of, ranks_before_next, place_sound, side_sound, head_sound}
+use Rattle.rules.specs.Book.{numbers, places_a_side, opening, closing, resting_in_range, is_unused, away_in_range, in_rank_order, BookRecord, orders_in, apart, book_in, sound, record_sound}
+use Rattle.inspection.specs.Inspection.{none_of, ranks_before_next, place_sound, side_sound, held_sound}
 
 -- ── Tests over two lists ──
 
@@ -122,63 +118,61 @@ regroup true true true true true true true true false p o c b w z = refl
 regroup true true true true true true true true true false o c b w z = refl
 regroup true true true true true true true true true true o c b w z = refl
 
--- ── The record on a header and two tables ──
+-- ── The record ──
 
 pub both_fit : (n m : ℕ) → (ltb places_a_side n || ltb places_a_side m) ≡ false → (n ≤ places_a_side) × (m ≤ places_a_side)
 both_fit n m fit =
     (ltb-false places_a_side n (or_neither (ltb places_a_side n) (ltb places_a_side m) fit).0, ltb-false places_a_side m (or_neither (ltb places_a_side n) (ltb places_a_side m) fit).1)
 
-length_used : (n : ℕ) (t : List (List ℕ)) → length t ≡ places_a_side → n ≤ places_a_side → length (take n (map order_of t)) ≡ n
-length_used n t whole fit = let e = length-map t order_of in length-take-le n (map order_of t) (omega arith)
-
-module _ (h : Head) (t u : List (List ℕ)) where
+module _ (r : BookRecord) where
   -- a count is above the limit
-  pub over_full : (ltb places_a_side h.buys || ltb places_a_side h.sells) ≡ true → record_sound (record_on h t u) ≡ false
+  pub over_full : (ltb places_a_side r.buys.used || ltb places_a_side r.sells.used) ≡ true → record_sound r ≡ false
   unfolding record_sound
   over_full over =
       ⊎_elim
-      (λ (p : ltb places_a_side h.buys ≡ true). rw (lt-leb h.buys places_a_side (ltb-true places_a_side h.buys p)))
-      (λ (p : ltb places_a_side h.buys ≡ false).
-      let q : ltb places_a_side h.sells ≡ true = sym (ap (λ (b : Bool). b || ltb places_a_side h.sells) p) ∙ over in
-      rw (lt-leb h.sells places_a_side (ltb-true places_a_side h.sells q), and-false))
-      (holds_or_not (ltb places_a_side h.buys))
+      (λ (p : ltb places_a_side r.buys.used ≡ true). rw (lt-leb r.buys.used places_a_side (ltb-true places_a_side r.buys.used p)))
+      (λ (p : ltb places_a_side r.buys.used ≡ false).
+      let q : ltb places_a_side r.sells.used ≡ true = sym (ap (λ (b : Bool). b || ltb places_a_side r.sells.used) p) ∙ over in
+      rw (lt-leb r.sells.used places_a_side (ltb-true places_a_side r.sells.used q), and-false))
+      (holds_or_not (ltb places_a_side r.buys.used))
 
-  module _ (whole_buys : length t ≡ places_a_side) (whole_sells : length u ≡ places_a_side) (fit : (ltb places_a_side h.buys || ltb places_a_side h.sells) ≡ false) where
+  module _ (whole_buys : length r.buys.places ≡ places_a_side) (whole_sells : length r.sells.places ≡ places_a_side)
+      (fit : (ltb places_a_side r.buys.used || ltb places_a_side r.sells.used) ≡ false) where
     -- what is left once the counts are at most the limit
-    pub inspected : record_sound (record_on h t u)
-        ≡ (side_sound true h.held.last (numbers (loaded h.sells u)) h.buys (map order_of t)
-        && side_sound false h.held.last [] h.sells (map order_of u)
-        && apart (loaded h.buys t) (loaded h.sells u)
-        && head_sound h)
+    pub inspected : record_sound r
+        ≡ (side_sound true r.held.last (numbers (orders_in r.sells)) r.buys.used r.buys.places
+        && side_sound false r.held.last [] r.sells.used r.sells.places
+        && apart (orders_in r.buys) (orders_in r.sells)
+        && held_sound r.held r.buys.used r.sells.used)
     unfolding record_sound book_in sound
     inspected =
-        let fits = both_fit h.buys h.sells fit in
-        let last = h.held.last in
-        let buys = take h.buys (map order_of t) in
-        let sells = take h.sells (map order_of u) in
+        let fits = both_fit r.buys.used r.sells.used fit in
+        let last = r.held.last in
+        let n = r.buys.used in
+        let m = r.sells.used in
+        let buys = orders_in r.buys in
+        let sells = orders_in r.sells in
+        let n_fits : n ≤ length r.buys.places = omega (arith, fits.0) in
+        let m_fits : m ≤ length r.sells.places = omega (arith, fits.1) in
         rw (
-          map_take order_of h.buys t,
-          map_take order_of h.sells u,
-          side_is_lem true last (numbers sells) h.buys (map order_of t),
-          side_is_lem false last [] h.sells (map order_of u),
+          side_is_lem true last (numbers sells) n r.buys.places,
+          side_is_lem false last [] m r.sells.places,
           no_others (numbers sells),
-          length-map t order_of,
-          length-map u order_of,
-          whole_buys,
-          whole_sells,
           every_append (resting_in_range last) buys sells,
           map-append (λ (o : Resting). o.number.0) buys sells,
           distinct_append (numbers buys) (numbers sells),
           length-append buys sells,
-          length_used h.buys t whole_buys fits.0,
-          length_used h.sells u whole_sells fits.1,
-          le-leb h.buys places_a_side fits.0,
-          le-leb h.sells places_a_side fits.1,
-          no_orders h.buys h.sells,
+          length-take-le n r.buys.places n_fits,
+          length-take-le m r.sells.places m_fits,
+          whole_buys,
+          whole_sells,
+          le-leb n places_a_side fits.0,
+          le-leb m places_a_side fits.1,
+          no_orders n m,
         )
         (regroup
-        (every is_unused (drop h.buys (map order_of t)))
-        (every is_unused (drop h.sells (map order_of u)))
+        (every is_unused (drop n r.buys.places))
+        (every is_unused (drop m r.sells.places))
         (in_rank_order true buys)
         (every (resting_in_range last) buys)
         (distinct (numbers buys))
@@ -187,8 +181,8 @@ module _ (h : Head) (t u : List (List ℕ)) where
         (every (resting_in_range last) sells)
         (distinct (numbers sells))
         (apart buys sells)
-        (leb opening h.held.time)
-        (leb h.held.time closing)
-        (away_in_range h.held.away.bid)
-        (away_in_range h.held.away.offer)
-        (not h.held.closed || (eqb h.buys 0 && eqb h.sells 0)))
+        (leb opening r.held.time)
+        (leb r.held.time closing)
+        (away_in_range r.held.away.bid)
+        (away_in_range r.held.away.offer)
+        (not r.held.closed || (eqb n 0 && eqb m 0)))

@@ -1,11 +1,11 @@
--- What `sound` says of one place of a side, of a side, and of a book's header: as a header and two tables are inspected. LawsInspection
--- shows that together they are `record_sound`.
+-- What `sound` says of one place of a side, of a side, and of what a book holds besides: as a record is inspected. LawsInspection shows
+-- that together they are `record_sound`.
 use Rattle.std.specs.Prelude.{ℕ, zero, suc, ◌-◌, Bool, true, not, ◌&&◌, ◌||◌, List, [], ◌∷◌, eqb, leb, take}
 use Rattle.basics.specs.Lists.{any}
 use Rattle.kinds.specs.declared.Number.{Number}
+use Rattle.rules.specs.declared.Held.{Held}
 use Rattle.rules.specs.declared.Resting.{Resting}
 use Rattle.rules.specs.Book.{numbers, opening, closing, away_in_range, is_unused, ranks_before, resting_in_range}
-use Rattle.side.specs.declared.tables.Head.{Head}
 
 -- ── One place ──
 
@@ -38,12 +38,12 @@ unfoldable pub side_sound : Bool → Number → List ℕ → ℕ → List Restin
 side_sound buy last others n [] = true
 side_sound buy last others n (o ∷ rest) = place_sound buy last others n o rest && side_sound buy last others (n - 1) rest
 
--- ── The header ──
+-- ── The book besides its orders, of which there are so many ──
 
-abbrev pub head_sound : Head → Bool
-head_sound h =
-    leb opening h.held.time
-    && leb h.held.time closing
-    && away_in_range h.held.away.bid
-    && away_in_range h.held.away.offer
-    && (not h.held.closed || (eqb h.buys 0 && eqb h.sells 0))
+abbrev pub held_sound : Held → ℕ → ℕ → Bool
+held_sound h buys sells =
+    leb opening h.time
+    && leb h.time closing
+    && away_in_range h.away.bid
+    && away_in_range h.away.offer
+    && (not h.closed || (eqb buys 0 && eqb sells 0))

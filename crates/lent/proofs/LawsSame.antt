@@ -6,12 +6,12 @@ use mathlib.Core.Bool.{Bool, true, false, ◌&&◌}
 use mathlib.Core.List.{List, [], ◌∷◌}
 use mathlib.Core.Logic.{◌≢◌, ⊎_elim}
 use mathlib.Core.Path.{◌≡◌, refl, sym, ap, ◌∙◌}
-use lib.Dec.{eqb, leb, ltb}
+use lib.Dec.{eqb, leb}
 use lib.ListN.{length, take, drop, replicate}
 use native.Mathlib.Omega.{arith}
-use borrow.Author.Tests.{eq-eqb, ne_eqb, eqb-true, eqb-false, leb-true}
+use borrow.Author.Tests.{eq-eqb, ne_eqb, eqb-true, eqb-false, leb-true, lt-ltb, le-ltb}
 use Rattle.basics.specs.Lists.{every, first_where, All, also}
-use Rattle.basics.proofs.LawsChoice.{holds_or_not, and_left, and_right}
+use Rattle.basics.proofs.LawsChoice.{holds_or_not, lt_or_le, and_left, and_right}
 use Rattle.kinds.specs.declared.Number.{Number}
 use Rattle.rules.specs.declared.Resting.{Resting}
 use Rattle.rules.specs.Book.{Places, BookRecord, places_a_side, unused, is_unused, places_sound, book_in, sound, record_sound}
@@ -23,7 +23,7 @@ use Rattle.soundness.proofs.LawsKept.{step_sound}
 use Rattle.soundness.proofs.LawsRecords.{all_unused}
 use Rattle.soundness.proofs.LawsSides.{InRange, Sides, sides_of}
 use Rattle.soundness.proofs.LawsSound.{sound_is}
-use Rattle.book.proofs.LawsStep.{step_unfit}
+use Rattle.book.proofs.LawsStep.{step_no_room, step_unsound}
 use Rattle.lent.specs.Lent.{Lent, places_lent, no_places, is_empty, side_of, with_places, taken_apart, fits, lent_step}
 
 -- ── The count of a sound side ──
@@ -123,25 +123,20 @@ lent_is_answer buys r line out counted all =
     rw (eq-eqb (length table) places_a_side all, taken_out buys r)
     (ap (λ (x : BookRecord). taken_apart buys apart table (step x line out)) (put_in buys r counted))
 
--- refusal 1 is given, or else 2
-some_refusal : (room : ℕ) → 0 < first_of (fit_refusals room false)
-unfolding first_of
-some_refusal room =
-    ⊎_elim
-    (λ (t : ltb room least_room ≡ true). rw t (omega arith))
-    (λ (t : ltb room least_room ≡ false). rw t (omega arith))
-    (holds_or_not (ltb room least_room))
-
 -- a book with a side that counts otherwise is not sound, so it is refused
 pub uncounted_refused : (buys : Bool) (r : BookRecord) (line out : List ℕ) → (Counted (side_of buys r) → ⊥)
     → step r line out ≡ record { refusal = first_of (fit_refusals (length out) false); length = 0; book = r; out = out }
-unfolding step
+unfolding step first_of
 uncounted_refused buys r line out uncounted =
-    let refusal = first_of (fit_refusals (length out) false) in
     ⊎_elim
+    (λ (short : length out < least_room). rw (lt-ltb (length out) least_room short) (step_no_room r out (command_in line) short))
+    (λ (room : least_room ≤ length out).
+    rw (le-ltb (length out) least_room room)
+    (⊎_elim
     (λ (t : record_sound r ≡ true). absurd (uncounted (side_counted buys r t)))
-    (λ (t : record_sound r ≡ false). step_unfit r out (command_in line) refusal (rw t refl) (some_refusal (length out)))
-    (holds_or_not (record_sound r))
+    (λ (t : record_sound r ≡ false). step_unsound r out room (command_in line) t)
+    (holds_or_not (record_sound r))))
+    (lt_or_le (length out) least_room)
 
 -- a refusal hands back the same book
 refused_same : (r : BookRecord) (line out : List ℕ) → (step r line out).refusal ≢ 0 → (step r line out).book ≡ r

@@ -1,5 +1,4 @@
 pub mod LawsLentStep
-pub mod LawsLent
+pub mod LawsPromised
 pub mod LawsSame
 pub mod Determined
-pub mod LawsPromised

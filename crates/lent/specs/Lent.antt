@@ -6,10 +6,10 @@ use Rattle.basics.specs.Lists.{every, first_where}
 use Rattle.rules.specs.declared.Resting.{Resting}
 use Rattle.rules.specs.Book.{Places, BookRecord, places_a_side, unused, is_unused}
 use Rattle.rules.specs.Refusals.{first_of, fit_refusals}
+use Rattle.rules.specs.Refusing.{or_refused}
 use Rattle.rules.specs.Step.{Returned, step}
 use Rattle.book.specs.declared.Reply.{Reply}
-use Rattle.book.specs.Record.{record_in, book_with}
-use Rattle.lent.specs.declared.GivenBack.{GivenBack}
+use Rattle.book.specs.Record.{book_with}
 
 -- the table has no count, and 01 does not say which of its records are used: its leading ones that are not all zero
 abbrev pub places_lent : List Resting → Places
@@ -75,24 +75,7 @@ lent_step buys r table line out =
 
 -- the same as the code hands it back
 abbrev pub reply_lent : Lent → Reply
-reply_lent l = record { refusal = l.refusal; length = l.length; book = book_with l.book }
-
-abbrev pub worked_of : Lent → GivenBack
-worked_of l = record { reply = reply_lent l; places = l.table }
-
--- a reply of the whole book, and what is handed back of it, each as the code makes it of the other
-abbrev pub apart_of : Bool → Reply → GivenBack
-apart_of buys r = record {
-  reply = record { refusal = r.refusal; length = r.length; book = book_with (with_places buys no_places (record_in r.book)) };
-  places = (side_of buys (record_in r.book)).places;
-}
-
-abbrev pub together_of : Bool → GivenBack → Reply
-together_of buys w = record {
-  refusal = w.reply.refusal;
-  length = w.reply.length;
-  book = book_with (with_places buys (places_lent w.places) (record_in w.reply.book));
-}
+reply_lent l = record { answer = or_refused l.length l.refusal; book = book_with l.book }
 
 -- the contract of the entry: the reply, the table and the output that a call leaves
 abbrev pub Answered : Bool → BookRecord → List Resting → List ℕ → List ℕ → Reply → List Resting → List ℕ → Type 0

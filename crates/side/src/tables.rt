@@ -1,14 +1,38 @@
 // The book as a small header by value and its two sides in place: the form in which commands are worked. The places of a side are loaded
 // once, and saved once.
 ghost use Rattle.std.specs.Prelude.{◌≡◌, ◌≤◌, ◌<◌, take};
-ghost use Rattle.rules.specs.Book.{places_a_side, places_of};
+ghost use Rattle.rules.specs.Book.{places_a_side, places_of, orders_in};
 ghost use Rattle.side.specs.Tables.{numbered_at, Numbered};
+ghost use Rattle.side.specs.Sides.{places_on};
 
 use crate::rows;
 use crate::rows::{INDEX, Index, PLACES};
 use crate::table::Table;
 use rules::{Held, Resting};
 use std::marker::Model;
+
+// A side by value: its places, of which the first `used` hold resting orders in rank order; the others are zero.
+#[derive(Clone, Copy, PartialEq, Eq)]
+pub struct Side {
+    pub used: usize,
+    pub places: [Resting; PLACES],
+}
+
+pub const NO_ORDERS: Side = Side {
+    used: 0,
+    places: [rows::UNUSED; PLACES],
+};
+
+impl Side {
+    // The places that are used.
+    pub fn orders(&self) -> &[Resting]
+        requires { self.now.used ≤ places_a_side }
+        ensures value { result.now ≡ orders_in (places_on self.now) }
+        ensures all { length self.now.places ≡ places_a_side }
+    {
+        &self.places[..self.used]
+    }
+}
 
 // A sound book in place.
 #[derive(Drop)]

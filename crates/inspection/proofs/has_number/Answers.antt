@@ -1,44 +1,19 @@
--- `inspection::has_number` meets its contract. The loop passes orders of other numbers. Assumes nothing.
-use Prim.Native.Nat.{◌+◌}
-use mathlib.Core.List.{[], ◌∷◌}
-use mathlib.Core.Path.{◌≡◌, refl, sym, ap, ◌∙◌}
-use lib.Dec.{eqb}
-use lib.ListN.{length, drop}
-use native.Mathlib.Omega.{arith}
-use borrow.Author.Rules.{rules}
-use borrow.Author.Tests.{eq-eqb, ne_eqb}
-use Rattle.rules.specs.Book.{numbers, places_a_side}
-use Rattle.side.specs.Table.{loaded}
-use Rattle.inspection.proofs.LawsInspected.{any_end, any_found, any_next, from_end, from_next}
+-- `inspection::has_number` meets its contract. Assumes nothing.
+use Rattle.std.proofs.Common.{Bool, List, ◌||◌, refl, ◌∙◌, eqb, rules}
+use borrow.Author.Tests.{tests}
+use Rattle.std.proofs.lemmas.Iterator.{YieldsList-from_slice}
+use Rattle.std.proofs.lemmas.Iterator.Search.{any_from_yields_List}
+use Rattle.std.proofs.lemmas.List.Recursion.{same_from_clauses}
+use Rattle.std.specs.List.{list_any}
+use Rattle.basics.specs.Lists.{any}
+use Rattle.rules.specs.declared.Resting.{Resting}
+use Rattle.rules.specs.Book.{numbers}
 use Rattle.inspection.proofs.has_number.Goals as goal
 
-pub loop-i-init : goal.loop-i-init
-loop-i-init c = (search rules, refl)
-
-pub returns-then-number-o : goal.returns-then-number-o
-returns-then-number-o c =
-    let r = c.row-o in
-    let l = c.loop-i in
-    let a = c.args in
-    let f : length a.t.now ≡ places_a_side = c.whole.ensures in
-    let next : drop l.i (loaded a.n a.t.now) ≡ r.result ∷ drop (l.i + 1) (loaded a.n a.t.now) =
-    from_next a.n a.t.now l.i (omega arith) (omega arith) r.result r.ensures in
-    sym (any_found (eqb a.number.0) (ap numbers next) (eq-eqb _ _ c.if-number-o.true)) ∙ l.invariant.1
-
-pub loop-i-preserved : goal.loop-i-preserved
-loop-i-preserved c =
-    let r = c.row-o in
-    let l = c.loop-i in
-    let a = c.args in
-    let f : length a.t.now ≡ places_a_side = c.whole.ensures in
-    let next : drop l.i (loaded a.n a.t.now) ≡ r.result ∷ drop (l.i + 1) (loaded a.n a.t.now) =
-    from_next a.n a.t.now l.i (omega arith) (omega arith) r.result r.ensures in
-    (omega arith, sym (any_next (eqb a.number.0) (ap numbers next) (ne_eqb _ _ c.if-number-o.false)) ∙ l.invariant.1)
-
 pub returns : goal.returns
+unfolding any
 returns c =
-    let l = c.loop-i in
-    let a = c.args in
-    let f : length a.t.now ≡ places_a_side = c.whole.ensures in
-    let end : drop l.i (loaded a.n a.t.now) ≡ [] = from_end a.n a.t.now l.i (omega arith) (omega arith) in
-    sym (any_end (eqb a.number.0) (ap numbers end)) ∙ l.invariant.1
+    let test = λ (o : Resting). eqb c.args.number.0 o.number.0 in
+    any_from_yields_List test _ _ _ c.any.ensures.ran (YieldsList-from_slice c.args.orders.now cc) (λ x b q k. search (rules, tests))
+    ∙ same_from_clauses (list_any test) (λ (s : List Resting). any (eqb c.args.number.0) (numbers s)) (λ (o : Resting) (b : Bool). test o || b)
+    refl (λ _ _. refl) (λ _ _. refl) c.args.orders.now

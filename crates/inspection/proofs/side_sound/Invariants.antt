@@ -1,17 +1,10 @@
--- `inspection::side_sound`: what its loop keeps, and its measure.
-use Prim.Native.Nat.{◌-◌, ◌≤◌}
-use mathlib.Core.List.{map}
-use mathlib.Core.Path.{◌≡◌}
-use lib.ListN.{drop}
-use Rattle.rules.specs.Book.{numbers, places_a_side}
-use Rattle.side.specs.Table.{order_of, loaded}
-use Rattle.inspection.specs.Inspection.{side_sound}
+-- `inspection::side_sound`: what its loop keeps.
+use Rattle.std.proofs.Common.{◌≡◌, drop}
+use Rattle.rules.specs.Book.{numbers}
+use Rattle.inspection.proofs.LawsInspected.{orders_sound}
 use Rattle.inspection.proofs.side_sound.Given as goal
 
+-- what is left of the orders decides
 abbrev pub invariant-loop-i : goal.invariant-loop-i
 invariant-loop-i l =
-    let others = numbers (loaded l.m l.other) in
-    (l.i ≤ places_a_side) × (side_sound l.buying l.last others (l.n - l.i) (drop l.i (map order_of l.t)) ≡ side_sound l.buying l.last others l.n (map order_of l.t))
-
-abbrev pub decreases-loop-i : goal.decreases-loop-i
-decreases-loop-i l = places_a_side - l.i
+    orders_sound l.buying l.last (numbers l.others) (drop l.i l.orders) ≡ orders_sound l.buying l.last (numbers l.others) l.orders

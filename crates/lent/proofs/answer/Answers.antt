@@ -1,8 +1,33 @@
--- `lent::answer` meets its contract: a table that does not fit is refused, and any other is worked on by value and given back. Assumes nothing.
-use Rattle.lent.proofs.LawsLentStep.{answered_short}
+-- `lent::answer` meets its contract: a table that does not fit is refused, and else what the whole book answers is taken apart. Assumes nothing.
+use lib.ListN.{length}
+use mathlib.Core.Bool.{true, false}
+use mathlib.Core.Logic.{◌≢◌}
+use mathlib.Core.Path.{◌≡◌, sym, ◌∙◌}
+use Rattle.rules.specs.Book.{places_a_side}
+use Rattle.book.specs.Record.{record_in, book_with}
+use Rattle.lent.specs.Lent.{is_empty, places_lent, side_of, with_places}
+use Rattle.lent.proofs.LawsLentStep.{answered_short, answered_unfit, answered}
 use Rattle.lent.proofs.answer.Goals as goal
 
-pub returns-then-table-ne-PLACES : goal.returns-then-table-ne-PLACES
-returns-then-table-ne-PLACES c =
+pub returns-in_default : goal.returns-in_default
+returns-in_default c =
     let a = c.args in
-    answered_short a.buys a.book a.table.now a.line.now a.out.now c.if-table-ne-PLACES.true c.refuse.result c.refuse.ensures
+    let h : length a.table.now ≢ places_a_side = c.in_default.ensures.1 in
+    answered_short a.buys a.book a.table.now a.line.now a.out.now h c.refuse.result c.refuse.ensures
+
+pub returns-then-not-empty : goal.returns-then-not-empty
+returns-then-not-empty c =
+    let a = c.args in
+    let e : is_empty (side_of a.buys (record_in a.book)) ≡ false = rw c.side_of.ensures at (sym c.is_empty-empty.ensures ∙ c.if-not-empty.true) in
+    answered_unfit a.buys a.book a.table.now a.line.now a.out.now e c.refuse-then-not-empty.result c.refuse-then-not-empty.ensures
+
+pub returns : goal.returns
+returns c =
+    let a = c.args in
+    let e : is_empty (side_of a.buys (record_in a.book)) ≡ true = rw c.side_of.ensures at (sym c.is_empty-empty.ensures ∙ c.if-not-empty.false) in
+    let h = c.in-Ok.ensures.1 in
+    let all : length a.table.now ≡ places_a_side = h.long in
+    let whole : c.put_in.result ≡ book_with (with_places a.buys (places_lent a.table.now) (record_in a.book)) = rw h.same at c.put_in.ensures in
+    let r = c.answer-reply in
+    let told = answered a.buys a.book a.table.now a.line.now a.out.now all e r.result (rw whole at r.ensures.value) r.new.out (rw whole at r.ensures.out_after) in
+    rw (c.with_side.ensures, c.copy_from_slice.ensures.after, c.side_of-left.ensures) told

@@ -1,38 +1,23 @@
--- `lent::is_empty` meets its contract: what is inspected in the table is the side's own places. Assumes nothing.
-use Prim.Native.Nat.{ℕ}
-use mathlib.Core.Bool.{Bool, true, false, ◌&&◌}
-use mathlib.Core.List.{List, [], map}
-use mathlib.Core.Path.{◌≡◌, refl, sym, ap, ◌∙◌}
-use lib.Dec.{eqb}
-use lib.ListN.{length, length-map}
-use borrow.Author.Tests.{eq-eqb}
+-- `lent::is_empty` meets its contract. Assumes nothing.
+use Rattle.std.proofs.Common.{Bool, ◌≡◌, ◌&&◌, refl, ◌∙◌, length, rules}
+use mathlib.Core.Bool.{and-true}
+use borrow.Author.Tests.{eq-eqb, tests}
+use Rattle.std.proofs.lemmas.Iterator.{YieldsList-from_slice}
+use Rattle.std.proofs.lemmas.Iterator.Search.{all_from_yields_List}
+use Rattle.std.proofs.lemmas.List.Recursion.{same_from_clauses}
+use Rattle.std.specs.List.{list_all}
 use Rattle.basics.specs.Lists.{every}
-use Rattle.kinds.specs.declared.Number.{Number}
 use Rattle.rules.specs.declared.Resting.{Resting}
-use Rattle.rules.specs.Book.{places_a_side, is_unused}
-use Rattle.side.specs.Table.{order_of, row_of}
-use Rattle.side.proofs.rows.LawsTable.{orders_rows}
-use Rattle.book.specs.declared.Side.{Side}
-use Rattle.book.specs.Record.{places_on}
-use Rattle.inspection.specs.Inspection.{side_sound}
-use Rattle.inspection.proofs.LawsInspection.{none_used}
+use Rattle.rules.specs.Book.{is_unused, places_a_side}
 use Rattle.lent.specs.Lent.{is_empty}
 use Rattle.lent.proofs.is_empty.Goals as goal
 
-empty_found : (last : Number) (used : ℕ) (places : List Resting) (t : List (List ℕ)) (found : Bool) → t ≡ map row_of places
-    → length t ≡ places_a_side → found ≡ side_sound true last [] 0 (map order_of t) → (eqb used 0 && found) ≡ is_empty (record { used = used; places = places })
-unfolding is_empty
-empty_found last used places t found is long told =
-    let all : length places ≡ places_a_side = sym (length-map places row_of) ∙ (rw is at long) in
-    rw (told, is, orders_rows places, none_used true last [] places, eq-eqb (length places) places_a_side all) (skipped (eqb used 0) (every is_unused places))
-  where
-    skipped : (a b : Bool) → (a && b) ≡ (a && true && b)
-    skipped true b = refl
-    skipped false b = refl
-
 pub returns : goal.returns
+unfolding every is_empty
 returns c =
-    let s = c.side_of-s in
-    let sound = c.side_sound in
-    empty_found _ s.result.used s.result.places _ sound.result c.load.ensures c.whole.ensures sound.ensures
-    ∙ ap (λ (x : Side). is_empty (places_on x)) s.ensures
+    let places = c.args.side.now.places in
+    let long : length places ≡ places_a_side = search rules in
+    let unused_is : c.all.result ≡ every is_unused places =
+    all_from_yields_List is_unused _ _ _ c.all.ensures.ran (YieldsList-from_slice places cc) (λ x b q k. search (rules, tests))
+    ∙ same_from_clauses (list_all is_unused) (every is_unused) (λ (o : Resting) (b : Bool). is_unused o && b) refl (λ _ _. refl) (λ _ _. refl) places in
+    rw (eq-eqb (length places) places_a_side long, and-true, unused_is)
