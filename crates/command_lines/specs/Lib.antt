@@ -1,3 +1,4 @@
+pub mod Forms
 pub mod Lines
 pub mod Pieces
 pub mod Reading

@@ -1,5 +1,5 @@
 -- The first line of some bytes, by the place of its line feed.
-use Rattle.std.specs.Prelude.{ℕ, suc, Bool, List, [], ◌∷◌, eqb, take, if◌then◌else◌, Some, None}
+use Rattle.std.specs.Prelude.{ℕ, suc, Bool, List, [], ◌∷◌, eqb, take, if◌then◌else◌, None}
 use Rattle.basics.specs.Lists.{first_where}
 use Rattle.digits.specs.Digits.{digit_of}
 use Rattle.rules.specs.CommandLines.{Kind, kinds, digits_with_header, line_feed, command_in}

@@ -2,6 +2,7 @@
 
 #![tactic(auto)]
 
+pub mod forms;
 pub mod lines;
 pub mod reader;
 pub mod writer;

@@ -18,16 +18,17 @@ pub struct Line {
 }
 
 // How many digits a command has whose second digit is `c`.
+#[tactic(auto, unfolding(crate::specs::Lines::digits_after, crate::specs::Lines::digits_from, rules::specs::CommandLines::kinds))]
 fn digits_after(c: u8) -> usize
     ensures { result ≡ digits_after c }
 {
     match c {
-        49 => rules::ORDER_DIGITS,
-        50 => rules::CANCEL_DIGITS,
-        51 => rules::QUOTE_DIGITS,
-        52 => rules::CLOSE_DIGITS,
-        53 => rules::RESERVE_DIGITS,
-        54 => rules::MINIMUM_DIGITS,
+        b'1' => rules::ORDER_DIGITS,
+        b'2' => rules::CANCEL_DIGITS,
+        b'3' => rules::QUOTE_DIGITS,
+        b'4' => rules::CLOSE_DIGITS,
+        b'5' => rules::RESERVE_DIGITS,
+        b'6' => rules::MINIMUM_DIGITS,
         _ => 0,
     }
 }
@@ -36,14 +37,7 @@ fn digits_after(c: u8) -> usize
 pub fn scan_line(s: &[u8]) -> usize
     ensures { result ≡ first_where (λ c. eqb c line_feed) s.now }
 {
-    let mut i = 0;
-    while i < s.len() {
-        if s[i] == 10 {
-            return i;
-        }
-        i += 1;
-    }
-    i
+    s.iter().position(|&c| c == b'\n').unwrap_or(s.len())
 }
 
 // The first line, where it is no command.
@@ -86,12 +80,9 @@ pub fn carry(input: &mut [u8], from: usize, end: usize, most: usize) -> usize
     ensures value { result ≡ length (carried input.old from end most) }
     ensures input_after { input.new ≡ onto (carried input.old from end most) input.old }
 {
-    let mut i = from;
-    while (i < end) & (i - from < most) {
-        input[i - from] = input[i];
-        i += 1;
-    }
-    i - from
+    let kept = most.min(end - from);
+    input.copy_within(from..from + kept, 0);
+    kept
 }
 
 // What a read leaves behind the bytes that stood in a buffer: it failed, or the input has ended, or bytes stand up to a place.

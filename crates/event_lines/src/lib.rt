@@ -2,5 +2,6 @@
 
 #![tactic(auto)]
 
+pub mod forms;
 pub mod reader;
 pub mod writer;

@@ -5,8 +5,10 @@ ghost use Rattle.std.specs.Prelude.{[], ◌∷◌, ◌≡◌, ◌≤◌, length}
 ghost use Rattle.basics.specs.Bytes.{onto};
 ghost use Rattle.rules.specs.CommandLines.{line};
 ghost use Rattle.rules.specs.EventLines.{rested_fields, with_kind, event_line, refusal_line};
+ghost use Rattle.event_lines.specs.Forms.{code_of};
 ghost use Rattle.rules.specs.declared.Event.TheVariants.{Executed, Rested, Cancelled, Moved};
 
+use crate::forms::Kind;
 use kinds::{HalfCents, Number, Shares};
 
 // Line 11: shares of a resting order are executed against the incoming one.
@@ -21,34 +23,34 @@ pub fn write_executed(
     ensures value { result ≡ 35 }
     ensures out_after { out.new ≡ onto (event_line (Executed incoming resting price shares)) out.old }
 {
-    digits::write_one(out, 0, 0x11);
-    digits::write_four(out, 2, incoming.0);
-    digits::write_four(out, 10, resting.0);
-    digits::write_four(out, 18, price.0);
-    digits::write_four(out, 26, shares.0);
-    out[34] = 10;
-    35
+    digits::write(out, 0, Kind::Executed.number());
+    digits::write(out, 2, incoming.0);
+    digits::write(out, 10, resting.0);
+    digits::write(out, 18, price.0);
+    digits::write(out, 26, shares.0);
+    out[rules::EXECUTED_LENGTH - 1] = b'\n';
+    rules::EXECUTED_LENGTH
 }
 
 // Lines 12 and 14 are alike but for their kind: an order at a price.
 fn write_at_price(
     out: &mut [u8],
-    kind: u8,
+    kind: Kind,
     number: Number,
     price: HalfCents,
     shares: Shares,
 ) -> usize
     requires { 27 ≤ length out.old }
     ensures value { result ≡ 27 }
-    ensures out_after { out.new ≡ onto (line (with_kind rested_fields) (kind ∷ number.0 ∷ price.0 ∷ shares.0 ∷ []))
+    ensures out_after { out.new ≡ onto (line (with_kind rested_fields) (code_of kind ∷ number.0 ∷ price.0 ∷ shares.0 ∷ []))
         out.old }
 {
-    digits::write_one(out, 0, kind);
-    digits::write_four(out, 2, number.0);
-    digits::write_four(out, 10, price.0);
-    digits::write_four(out, 18, shares.0);
-    out[26] = 10;
-    27
+    digits::write(out, 0, kind.number());
+    digits::write(out, 2, number.0);
+    digits::write(out, 10, price.0);
+    digits::write(out, 18, shares.0);
+    out[rules::RESTED_LENGTH - 1] = b'\n';
+    rules::RESTED_LENGTH
 }
 
 // Line 12: an order rests.
@@ -57,7 +59,7 @@ pub fn write_rested(out: &mut [u8], number: Number, price: HalfCents, shares: Sh
     ensures value { result ≡ 27 }
     ensures out_after { out.new ≡ onto (event_line (Rested number price shares)) out.old }
 {
-    write_at_price(out, 0x12, number, price, shares)
+    write_at_price(out, Kind::Rested, number, price, shares)
 }
 
 // Line 13: shares of an order are cancelled.
@@ -66,12 +68,12 @@ pub fn write_cancelled(out: &mut [u8], number: Number, shares: Shares, reason: u
     ensures value { result ≡ 21 }
     ensures out_after { out.new ≡ onto (event_line (Cancelled number shares reason)) out.old }
 {
-    digits::write_one(out, 0, 0x13);
-    digits::write_four(out, 2, number.0);
-    digits::write_four(out, 10, shares.0);
-    digits::write_one(out, 18, reason);
-    out[20] = 10;
-    21
+    digits::write(out, 0, Kind::Cancelled.number());
+    digits::write(out, 2, number.0);
+    digits::write(out, 10, shares.0);
+    digits::write(out, 18, reason);
+    out[rules::CANCELLED_LENGTH - 1] = b'\n';
+    rules::CANCELLED_LENGTH
 }
 
 // Line 14: a resting order is set at a price with a new stamp.
@@ -80,7 +82,7 @@ pub fn write_moved(out: &mut [u8], number: Number, price: HalfCents, shares: Sha
     ensures value { result ≡ 27 }
     ensures out_after { out.new ≡ onto (event_line (Moved number price shares)) out.old }
 {
-    write_at_price(out, 0x14, number, price, shares)
+    write_at_price(out, Kind::Moved, number, price, shares)
 }
 
 // The line that the program prints of a refusal.
@@ -89,8 +91,8 @@ pub fn write_refusal(out: &mut [u8], refusal: u8) -> usize
     ensures value { result ≡ 5 }
     ensures out_after { out.new ≡ onto (refusal_line refusal) out.old }
 {
-    digits::write_one(out, 0, 0x1f);
-    digits::write_one(out, 2, refusal);
-    out[4] = 10;
+    digits::write(out, 0, 0x1fu8);
+    digits::write(out, 2, refusal);
+    out[4] = b'\n';
     5
 }

@@ -67,7 +67,6 @@ use Rattle.demands.proofs.LawsStillMeets as still
 use Rattle.demands.proofs.LawsWorst as worst
 use Rattle.demands.proofs.LawsWritten as written
 use Rattle.command_lines.specs.Pieces.{all_of}
-use Rattle.tally.specs.declared.Stop.TheVariants.{Going}
 use Rattle.tally.specs.Tally.{tally_of, tally_of_pieces}
 use Rattle.tally.proofs.LawsAgree.{tally_agrees}
 use Rattle.tally.proofs.LawsLong.{tally_cut}
@@ -350,7 +349,7 @@ one_event_a_line line e is = let read = event_in_is line e is in (read.line_is_l
 -- the tally of a day's own lines "must agree with demand 3's sums": for each accepted order nothing stops it, and it gives just the
 -- executed and the cancelled shares that the sums above count
 pub the_tally_agrees : (lines : List (List ℕ)) (stood : Book) (line : List ℕ) (c : Command) (o : Order) → Enters by_line fresh lines stood line c o
-    → ((tally_of c.number (printed_of fresh lines)).stop ≡ Going)
+    → ((tally_of c.number (printed_of fresh lines)).stop ≡ None)
     × ((tally_of c.number (printed_of fresh lines)).executed.0 ≡ executed_in c.number (events_in (printed_of fresh lines)))
     × ((tally_of c.number (printed_of fresh lines)).cancelled.0 ≡ cancelled_in c.number (events_in (printed_of fresh lines)))
 the_tally_agrees lines stood line c o r = let has = tally_agrees lines stood line c o r in (has.going, has.executed_are, has.cancelled_are)

@@ -7,7 +7,7 @@ ghost use Rattle.std.specs.Prelude.{◌≡◌, ◌≤◌, ◌<◌, length, take}
 ghost use Rattle.command_lines.specs.Pieces.{part_kept, after_lines, after_part};
 ghost use Rattle.rules.specs.Day.{cut};
 ghost use Rattle.tally.specs.Tally.{turn};
-ghost use Rattle.tally_day.specs.Decimal.{is_decimal, decimal_in};
+ghost use Rattle.tally_day.specs.Decimal.{decimal_in};
 
 use anyhow::{Context, Result};
 use command_lines::lines;
@@ -18,32 +18,22 @@ use tally::{Stop, Tally};
 
 // ── The argument ──
 
-fn is_decimal(c: u8) -> bool
-    ensures { result ≡ is_decimal c }
-{
-    (48 <= c) & (c <= 57)
-}
-
 // The order number that one to ten decimal digits write.
+#[tactic(auto, unfolding(crate::specs::Decimal::decimal_in))]
 fn decimal_in(s: &[u8]) -> Option<u32>
     ensures { result ≡ decimal_in s.now }
 {
-    if (s.len() == 0) | (10 < s.len()) {
+    if s.is_empty() || 10 < s.len() {
         return None;
     }
-    let mut value: u64 = 0;
-    let mut i = 0;
-    while i < s.len() {
-        if !is_decimal(s[i]) {
+    let mut value: u32 = 0;
+    for &c in s {
+        if !c.is_ascii_digit() {
             return None;
         }
-        value = value * 10 + (s[i] - 48) as u64;
-        if (kinds::LARGEST as u64) < value {
-            return None;
-        }
-        i += 1;
+        value = value.checked_mul(10)?.checked_add((c - b'0') as u32)?;
     }
-    Some(value as u32)
+    Some(value)
 }
 
 // ── A piece ──
@@ -72,7 +62,7 @@ fn take_piece(t: Tally, number: Number, input: &mut [u8], end: usize) -> Kept
 fn finish(t: Tally, number: Number, part: &[u8]) -> Tally
     ensures { result ≡ after_part (turn number) t part.now }
 {
-    if part.len() == 0 {
+    if part.is_empty() {
         return t;
     }
     tally::take_line(t, number, part)
@@ -87,39 +77,22 @@ fn say_sums(rt: &impl Print, executed: u32, cancelled: u32) -> Result<()> {
 }
 
 // Why the line behind the counted ones stopped the tally; people count lines from 1.
-fn say_stop(rt: &impl Eprint, lines: u64, why: &str) -> Result<()> {
-    let mut place = lines;
-    if place < u64::MAX {
-        place += 1;
-    }
-    eprintln!(rt; "line {place}: {why}").context("yarvotem: writing standard error")
+fn say_stop(rt: &impl Eprint, lines: u64, stop: Stop) -> Result<()> {
+    let place = lines.saturating_add(1);
+    eprintln!(rt; "line {place}: {stop}").context("yarvotem: writing standard error")
 }
 
 fn say(rt: &(impl Print + Eprint), t: Tally) -> Result<()> {
-    let stop = t.stop;
-    match stop {
-        Stop::Going => say_sums(rt, t.executed.0, t.cancelled.0),
-        Stop::UnknownKind => say_stop(rt, t.lines, "unknown kind"),
-        Stop::Short => say_stop(rt, t.lines, "short"),
-        Stop::TrailingBytes => say_stop(rt, t.lines, "trailing bytes"),
-        Stop::BadDigitOrEnding => say_stop(rt, t.lines, "bad digit or ending"),
-        Stop::ExecutedPasses => say_stop(
-            rt,
-            t.lines,
-            "the sum of executed shares passes 4294967295",
-        ),
-        Stop::CancelledPasses => say_stop(
-            rt,
-            t.lines,
-            "the sum of cancelled shares passes 4294967295",
-        ),
+    match t.stop {
+        None => say_sums(rt, t.executed.0, t.cancelled.0),
+        Some(stop) => say_stop(rt, t.lines, stop),
     }
 }
 
 // ── A day ──
 
 // From the first piece to the end of the input. A proved loop has to end, and nothing says that an input does: so the turns are
-// counted down from a number that no day uses up.
+// counted up to a number that no day comes to.
 fn run(
     rt: &(impl Print + Eprint),
     from: &mut impl io::Read,
@@ -130,8 +103,7 @@ fn run(
 {
     let mut tally = tally::begin();
     let mut have = 0;
-    let mut turns = u64::MAX;
-    while 0 < turns {
+    for _ in 0..u64::MAX {
         let got = from
             .read(&mut input[have..])
             .context("yarvotem: reading standard input")?;
@@ -144,7 +116,6 @@ fn run(
                 have = carried.have;
             }
         }
-        turns -= 1;
     }
     Ok(())
 }
@@ -156,15 +127,13 @@ fn say_usage(rt: &impl Eprint) -> Result<()> {
 }
 
 // The order number that the one argument writes.
-fn asked(rt: &HostRuntime) -> Option<u32> {
+fn asked(rt: &HostRuntime) -> Option<Number> {
     let mut word = [0u8; 16];
-    let Ok(length) = rt.arg(1, &mut word) else {
-        return None;
-    };
+    let length = rt.arg(1, &mut word).ok()?;
     let Err(FillError::NotPresent) = rt.arg(2, &mut []) else {
         return None;
     };
-    decimal_in(&word[..length])
+    decimal_in(&word[..length]).map(Number)
 }
 
 fn main(rt: HostRuntime) -> Result<()> {
@@ -173,5 +142,5 @@ fn main(rt: HostRuntime) -> Result<()> {
     };
     let mut from = rt.stdin();
     let mut input = [0u8; 65536];
-    run(&rt, &mut from, Number(number), &mut input)
+    run(&rt, &mut from, number, &mut input)
 }

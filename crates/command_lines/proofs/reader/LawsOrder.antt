@@ -1,48 +1,44 @@
 -- An order is of one of the kinds of order: what it carries is read first, and then the fields that every order has. Assumes nothing.
 use Prim.Native.Nat.{ℕ}
-use mathlib.Core.Bool.{Bool, true, false, ◌||◌}
+use mathlib.Core.Bool.{Bool, true, false}
 use mathlib.Core.List.{List, []}
-use mathlib.Core.Path.{◌≡◌, refl}
-use lib.Dec.{eqb}
+use mathlib.Core.Path.{◌≡◌, refl, ◌∙◌}
 use Rattle.std.specs.Prelude.{if◌then◌else◌, Option, Some, None}
-use Rattle.digits.specs.Digits.{number_at, field_of}
+use Rattle.digits.specs.Digits.{number_at}
 use Rattle.kinds.specs.declared.Shares.{Shares}
-use Rattle.kinds.specs.Kinds.{cents, shares}
-use Rattle.rules.specs.declared.Body.TheVariants.{Order}
-use Rattle.rules.specs.CommandLines.{BodyReading}
+use Rattle.kinds.specs.Kinds.{shares}
 use Rattle.rules.specs.declared.Carried.{Carried}
 use Rattle.rules.specs.declared.Carried.TheVariants.{Nothing, MaxFloor, Minimum}
-use Rattle.rules.specs.CommandLines.{Making, Numbers, are, also, made, order_form, reserve_form, reserve_made, minimum_form, minimum_made}
-use Rattle.rules.specs.CommandLines.{order_kind, reserve_kind, minimum_kind, is_ended, numbers_from, body_of_form, body_from}
-use Rattle.command_lines.specs.Reading.{order_kinds, carrying, carried_in}
+use Rattle.rules.specs.CommandLines.{BodyReading, Making, Numbers, are, also, made, order_form, reserve_form, is_ended, numbers_from, body_of_form}
+use Rattle.command_lines.specs.declared.forms.Kind.{Kind}
+use Rattle.command_lines.specs.declared.forms.Kind.TheVariants as kind
+use Rattle.command_lines.specs.Reading.{as_shares, last_in, carrying, carried_in, order_made_with, order_carrying, body_of_kind}
 
--- the order that the fields of every order make, with what it carries
-abbrev pub order_carrying : Carried → Making order_form BodyReading
-order_carrying c side word price count =
-    Some (Order (record { side = side; word = word; price = cents price; shares = shares count; carried = c }))
-
-module _ (carry : Shares → Carried) where
-  pub last_good : (v : Option ℕ) → (field_of v).good ≡ true → carrying carry v ≡ Some (carry (shares (field_of v).number))
-  last_good (Some n) g = refl
-  last_good None g = cc
-
-  pub last_bad : (v : Option ℕ) → (field_of v).good ≡ false → carrying carry v ≡ None
-  last_bad (Some n) g = cc
-  last_bad None g = refl
+-- the kinds of order
+abbrev pub IsOrder : Kind → Type 0
+IsOrder kind.Order = Unit {0}
+IsOrder kind.Reserve = Unit {0}
+IsOrder kind.Minimum = Unit {0}
+IsOrder kind.Cancel = ⊥
+IsOrder kind.Quote = ⊥
+IsOrder kind.Close = ⊥
 
 -- the body of an order, where what it carries has been read
-unfoldable pub with_carried : Option Carried → Numbers → BodyReading
-with_carried (Some c) ns = made None order_form (order_carrying c) ns
-with_carried None ns = None
+abbrev pub with_carried : Option Carried → List ℕ → BodyReading
+with_carried (Some c) s = order_carrying c s
+with_carried None s = None
 
 -- an order whose form has one number more carries it
 abbrev order_with_last : (Shares → Carried) → Making reserve_form BodyReading
-order_with_last carry side word price count last = order_carrying (carry (shares last)) side word price count
+order_with_last carry side word price count last = order_made_with (carry (shares last)) side word price count
+
+abbrev with_last : Option Carried → Numbers → BodyReading
+with_last (Some c) ns = made None order_form (order_made_with c) ns
+with_last None ns = None
 
 carries_last : (carry : Shares → Carried) (side word price count last : Option ℕ)
-    → made None reserve_form (order_with_last carry) (also side (also word (also price (also count (also last (are []))))))
-    ≡ with_carried (carrying carry last) (also side (also word (also price (also count (are [])))))
-unfolding with_carried
+    → with_last (carrying carry (as_shares last)) (also side (also word (also price (also count (are [])))))
+    ≡ made None reserve_form (order_with_last carry) (also side (also word (also price (also count (also last (are []))))))
 carries_last carry None word price count None = refl
 carries_last carry None word price count (Some f) = refl
 carries_last carry (Some a) None price count None = refl
@@ -54,38 +50,34 @@ carries_last carry (Some a) (Some b) (Some d) None (Some f) = refl
 carries_last carry (Some a) (Some b) (Some d) (Some e) None = refl
 carries_last carry (Some a) (Some b) (Some d) (Some e) (Some f) = refl
 
-module _ (s : List ℕ) where
-  of_nothing : (ended : Bool)
-      → (if ended then made None order_form (order_carrying Nothing) (numbers_from 0 order_form s) else None)
-      ≡ with_carried (if ended then Some Nothing else None) (numbers_from 0 order_form s)
-  unfolding with_carried
-  of_nothing true = refl
-  of_nothing false = refl
+of_nothing : (s : List ℕ) (ended : Bool)
+    → with_carried (if ended then Some Nothing else None) s
+    ≡ (if ended then made None order_form (order_made_with Nothing) (numbers_from 0 order_form s) else None)
+unfolding order_carrying
+of_nothing s true = refl
+of_nothing s false = refl
 
-  of_last : (carry : Shares → Carried) (ended : Bool)
-      → (if ended then made None reserve_form (order_with_last carry) (numbers_from 0 reserve_form s) else None)
-      ≡ with_carried (if ended then carrying carry (number_at 4 22 s) else None) (numbers_from 0 order_form s)
-  unfolding with_carried numbers_from
-  of_last carry true = carries_last carry (number_at 1 0 s) (number_at 2 2 s) (number_at 4 6 s) (number_at 4 14 s) (number_at 4 22 s)
-  of_last carry false = refl
+of_last : (s : List ℕ) (carry : Shares → Carried) (ended : Bool)
+    → with_carried (carrying carry (if ended then as_shares (number_at 4 22 s) else None)) s
+    ≡ (if ended then made None reserve_form (order_with_last carry) (numbers_from 0 reserve_form s) else None)
+unfolding order_carrying numbers_from
+of_last s carry true =
+    by_last (number_at 4 22 s)
+    ∙ carries_last carry (number_at 1 0 s) (number_at 2 2 s) (number_at 4 6 s) (number_at 4 14 s) (number_at 4 22 s)
+  where
+    by_last : (last : Option ℕ)
+        → with_carried (carrying carry (as_shares last)) s
+        ≡ with_last (carrying carry (as_shares last)) (also (number_at 1 0 s) (also (number_at 2 2 s) (also (number_at 4 6 s) (also (number_at 4 14 s) (are [])))))
+    by_last (Some n) = refl
+    by_last None = refl
+of_last s carry false = refl
 
-  by_kind : (is_order is_reserve is_minimum : Bool)
-      → (if is_order then body_of_form order_form (order_carrying Nothing) s
-      else if is_reserve then body_of_form reserve_form reserve_made s
-      else if is_minimum then body_of_form minimum_form minimum_made s
-      else None)
-      ≡ with_carried
-      (if is_order then (if is_ended 22 s then Some Nothing else None)
-      else if is_reserve || is_minimum then
-      (if is_ended 30 s then carrying (λ (n : Shares). if is_reserve then MaxFloor n else Minimum n) (number_at 4 22 s) else None)
-      else None)
-      (numbers_from 0 order_form s)
-  unfolding body_of_form with_carried
-  by_kind true is_reserve is_minimum = of_nothing (is_ended 22 s)
-  by_kind false true is_minimum = of_last (λ (n : Shares). MaxFloor n) (is_ended 30 s)
-  by_kind false false true = of_last (λ (n : Shares). Minimum n) (is_ended 30 s)
-  by_kind false false false = refl
-
-  pub order_body : (kind : ℕ) → body_from order_kinds kind s ≡ with_carried (carried_in kind s) (numbers_from 0 order_form s)
-  unfolding body_from carried_in
-  order_body kind = by_kind (eqb kind order_kind) (eqb kind reserve_kind) (eqb kind minimum_kind)
+-- so an order of each of its kinds is read by what it carries
+pub order_body : (k : Kind) (s : List ℕ) → IsOrder k → with_carried (carried_in k s) s ≡ body_of_kind k s
+unfolding body_of_form last_in
+order_body kind.Order s h = of_nothing s (is_ended 22 s)
+order_body kind.Reserve s h = of_last s MaxFloor (is_ended 30 s)
+order_body kind.Minimum s h = of_last s Minimum (is_ended 30 s)
+order_body kind.Cancel s h = absurd h
+order_body kind.Quote s h = absurd h
+order_body kind.Close s h = absurd h

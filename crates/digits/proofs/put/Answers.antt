@@ -1,42 +1,28 @@
--- `digits::put` meets its contract. The loop's invariant: the digits that are still to be written, behind those that
--- stand in `out`, are all the digits; what lies past them stays. Assumes nothing.
-use Prim.Native.Nat.{◌+◌, ◌-◌, ◌%◌}
-use mathlib.Core.Path.{◌≡◌, sym, ◌∙◌}
-use mathlib.Core.List.{append-nil}
-use lib.ListN.{take, length-set, take-append-drop}
-use lib.Seq.{drop-set-lt}
+-- `digits::put` meets its contract: the bytes of the word are all eight digits, of which the last are written. Assumes nothing.
+use Prim.Native.Nat.{◌+◌, ◌-◌, ◌/◌, ◌^◌}
+use mathlib.Core.Path.{◌≡◌, ap, ◌∙◌}
+use lib.ListN.{take, drop}
+use lib.Seq.{take_all}
 use native.Mathlib.Omega.{arith}
-use borrow.Author.Rules.{rules}
 use Rattle.basics.specs.Bytes.{onto}
-use Rattle.digits.specs.Digits.{digits}
+use Rattle.digits.specs.Digits.{digit_of, digits}
+use Rattle.digits.specs.Words.{each_byte, spread_of}
 use Rattle.digits.proofs.LawsDigits.{length_digits}
-use Rattle.digits.proofs.LawsSpread.{word_rest, word_step}
+use Rattle.digits.proofs.LawsSpread.{spread_low, word_digits, last_digits}
 use Rattle.digits.proofs.put.Goals as goal
 
-pub loop-i-init : goal.loop-i-init
-loop-i-init c =
-    let a = c.args in
-    let e : a.k - 0 ≡ a.k = omega arith in
-    (search rules, search rules, rw e c.word-y.ensures, rw e, search rules)
-
-pub loop-i-preserved : goal.loop-i-preserved
-loop-i-preserved c =
-    let l = c.loop-i in
-    let a = c.args in
-    let e : a.k - (l.i + 1) ≡ a.k - l.i - 1 = omega arith in (
-      omega arith,
-      simp length-set l.invariant.1,
-      rw (e, l.invariant.2) (word_rest (a.k - l.i) a.x (omega arith)),
-      rw (e, l.invariant.2) (word_step l.out (a.k - l.i) a.x l.i (omega arith) (omega arith)) ∙ l.invariant.3,
-      drop-set-lt a.k l.out l.i (l.y % 256) (omega arith) ∙ l.invariant.4,
-    )
+pub spell-requires : goal.spell-requires
+spell-requires c = rw c.spread.ensures (spread_low 8 c.args.x)
 
 pub returns : goal.returns
-unfolding digits onto
+unfolding onto
 returns c =
-    let l = c.loop-i in
     let a = c.args in
-    let i : l.i ≡ a.k = omega arith in
-    let z : a.k - a.k ≡ 0 = omega arith in
-    let e : take a.k l.out ≡ digits a.k a.x = rw (i, z, append-nil) at l.invariant.3 in
-    sym (take-append-drop a.k l.out) ∙ rw (e, l.invariant.4, length_digits a.k a.x)
+    let few : 8 - (8 - a.k) ≡ a.k = omega arith in
+    let all : 8 - a.k + a.k ≡ 8 = omega arith in
+    let last : take (8 - (8 - a.k)) (drop (8 - a.k) (digits 8 a.x)) ≡ digits a.k a.x =
+    rw few (ap (take a.k) (rw all at (last_digits (8 - a.k) a.k a.x)) ∙ take_all a.k (digits a.k a.x) (omega (arith, length_digits a.k a.x))) in
+    let y = c.spell.result in
+    let whole : y / 256 ^ 0 ≡ each_byte digit_of 8 (spread_of 8 a.x) = omega arith ∙ c.spell.ensures ∙ ap (each_byte digit_of 8) c.spread.ensures in
+    let eight : c.to_le_bytes-eight.result ≡ digits 8 a.x = c.to_le_bytes-eight.ensures ∙ word_digits 8 0 a.x y whole in
+    rw (c.copy_from_slice.ensures.after, eight, last, length_digits a.k a.x)

@@ -1,22 +1,26 @@
--- `command_lines::reader::read_body` meets its contract: an arm for each kind, and one for all that may be orders. Assumes nothing.
-use borrow.Author.Tests.{ne_eqb}
-use Rattle.rules.specs.CommandLines.{kinds, body_from, body_in}
+-- `command_lines::reader::read_body` meets its contract: an order of any kind is read by what it carries. Assumes nothing.
+use mathlib.Core.Logic.{◌⊎◌, ⊎_elim}
+use mathlib.Core.Path.{◌≡◌, ap, ◌∙◌}
+use Rattle.std.specs.Prelude.{Option}
+use Rattle.rules.specs.declared.Carried.{Carried}
+use Rattle.command_lines.specs.declared.forms.Kind.{Kind}
+use Rattle.command_lines.specs.declared.forms.Kind.TheVariants as kind
+use Rattle.command_lines.proofs.reader.LawsOrder.{IsOrder, with_carried, order_body}
 use Rattle.command_lines.proofs.reader.read_body.Goals as goal
 
-pub returns-in-2 : goal.returns-in-2
-unfolding body_in body_from kinds
-returns-in-2 c = rw c.in-2.is c.read_cancel.ensures
+is_order : (k : Kind) → (k ≡ kind.Order) ⊎ ((k ≡ kind.Reserve) ⊎ (k ≡ kind.Minimum)) → IsOrder k
+is_order k = ⊎_elim (λ e. rw e tt) (⊎_elim (λ e. rw e tt) (λ e. rw e tt))
 
-pub returns-in-3 : goal.returns-in-3
-unfolding body_in body_from kinds
-returns-in-3 c = rw c.in-3.is c.read_quote.ensures
+pub returns-in_err-read_carried-in-Order : goal.returns-in_err-read_carried-in-Order
+returns-in_err-read_carried-in-Order c =
+    let a = c.args in
+    c.from_residual.ensures
+    ∙ ap (λ (r : Option Carried). with_carried r a.s.now) c.in_err-read_carried-in-Order.ensures
+    ∙ order_body a.kind a.s.now (is_order a.kind c.in-Order.is)
 
-pub returns-in-4 : goal.returns-in-4
-unfolding body_in body_from kinds
-returns-in-4 c = rw c.in-4.is c.read_close.ensures
-
-pub returns-in_default : goal.returns-in_default
-unfolding body_in body_from kinds
-returns-in_default c =
-    let r = c.in_default.in_default-own.rest in
-    rw (ne_eqb _ _ r.0.0.1, ne_eqb _ _ r.0.1, ne_eqb _ _ r.1) c.read_order.ensures
+pub returns-in_ok-read_carried-in-Order : goal.returns-in_ok-read_carried-in-Order
+returns-in_ok-read_carried-in-Order c =
+    let a = c.args in
+    c.read_order.ensures
+    ∙ ap (λ (r : Option Carried). with_carried r a.s.now) c.in_ok-read_carried-in-Order.ensures
+    ∙ order_body a.kind a.s.now (is_order a.kind c.in-Order.is)

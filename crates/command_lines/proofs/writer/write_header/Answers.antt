@@ -5,7 +5,7 @@ use Rattle.command_lines.proofs.writer.write_header.Goals as goal
 pub returns : goal.returns
 returns c =
     let a = c.args in
-    let kind = field 1 a.kind nothing c.write_one.ensures in
-    let number = field 4 a.number.0 kind c.write_four.ensures in
-    let time = field 4 a.time number c.write_four-2.ensures in
+    let kind = field 1 a.kind nothing c.write.ensures in
+    let number = field 4 a.number.0 kind c.write-2.ensures in
+    let time = field 4 a.time number c.write-3.ensures in
     wrote time

@@ -1,18 +1,15 @@
 -- `event_lines::writer::write_at_price` meets its contract: the fields are written one after the other, then the line feed. Assumes nothing.
 use mathlib.Core.Path.{refl}
-use lib.ListN.{length-set}
 use native.Mathlib.Omega.{arith}
 use Rattle.rules.proofs.LawsWriting.{nothing, field, wrote_line}
+use Rattle.event_lines.specs.Forms.{code_of}
 use Rattle.event_lines.proofs.writer.write_at_price.Goals as goal
-
-pub shape_of-out : goal.shape_of-out
-shape_of-out c = simp length-set (omega arith)
 
 pub returns : goal.returns
 returns c =
     let a = c.args in
-    let kind = field 1 a.kind nothing c.write_one.ensures in
-    let number = field 4 a.number.0 kind c.write_four.ensures in
-    let price = field 4 a.price.0 number c.write_four-2.ensures in
-    let shares = field 4 a.shares.0 price c.write_four-3.ensures in
+    let kind = field 1 (code_of a.kind) nothing (rw c.number.ensures at c.write.ensures) in
+    let number = field 4 a.number.0 kind c.write-2.ensures in
+    let price = field 4 a.price.0 number c.write-3.ensures in
+    let shares = field 4 a.shares.0 price c.write-4.ensures in
     record { value = refl; out_after = wrote_line shares (omega arith) }
