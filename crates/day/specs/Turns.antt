@@ -10,9 +10,6 @@ use Rattle.day.specs.Feed.{worked}
 use Rattle.day.specs.Pieces.{printed_at_end}
 use Rattle.rules.specs.Book.{Book, fresh}
 use Rattle.rules.specs.Refusals.{least_room}
-use Rattle.side.specs.Table.{Shows}
-use Rattle.side.specs.Answers.{Stands}
-use Rattle.side.specs.Tables.{head_of}
 use Rattle.day.specs.declared.night.Turn.{Turn}
 
 -- what a turn leaves: the book, the bytes that wait, what is handed to `write`, and whether more is to be read before the next turn
@@ -36,16 +33,15 @@ turned room b waits =
       reads = not is_short;
     }
 
--- the same in a header and numbers, as the code hands it back
+-- the same in numbers, as the code hands it back
 abbrev pub turn_of : Turned → Turn
-turn_of t = record { head = head_of t.book; have = length t.waits; length = length t.printed; reads = t.reads }
+turn_of t = record { have = length t.waits; length = length t.printed; reads = t.reads }
 
--- what a turn leaves of a sound book in a header and two sides that are lent, of the input whose first `have` bytes wait, and of the output
-abbrev pub Takes : Book → List ℕ → ℕ → List ℕ → Turn → List ℕ → List ℕ → List (List ℕ) → List ℕ → List (List ℕ) → List ℕ → Type 0
-Takes b input have out r input' x t y u out' =
+-- what a turn leaves of a sound book, of the input whose first `have` bytes wait, and of the output
+abbrev pub Takes : Book → List ℕ → ℕ → List ℕ → Turn → Book → List ℕ → List ℕ → Type 0
+Takes b input have out r b' input' out' =
     let w = turned (length out) b (take have input) in
-    (r ≡ turn_of w) × (Shows w.book.buys x t × (Shows w.book.sells y u × ((input' ≡ onto w.waits input)
-    × ((out' ≡ onto w.printed out) × (Stands r.head x t y u × (r.have ≤ have) × (r.length ≤ length out))))))
+    (r ≡ turn_of w) × (b' ≡ w.book) × (input' ≡ onto w.waits input) × (out' ≡ onto w.printed out) × (r.have ≤ have) × (r.length ≤ length out)
 
 -- the turns of the program from a book and the bytes that wait: what its reads give, piece by piece up to the end of the input, and all
 -- that it hands to `write`, one after the other

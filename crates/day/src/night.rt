@@ -4,22 +4,19 @@ ghost use Rattle.std.specs.Prelude.{◌≡◌, ◌≤◌, length};
 ghost use Rattle.basics.specs.Bytes.{onto};
 ghost use Rattle.day.specs.Pieces.{printed_at_end};
 ghost use Rattle.rules.specs.Refusals.{least_room};
-ghost use Rattle.side.specs.Answers.{Stands};
-ghost use Rattle.side.specs.Tables.{book_on};
 ghost use Rattle.day.specs.Turns.{Takes};
 
 use crate::replay;
 use command_lines::lines;
 use event_lines::writer;
-use orders::walk::Takings;
-use side::rows::{Index, Rows};
-use side::tables::Head;
+use orders::takings::Takings;
+use rules::Refusal;
+use side::tables::SoundBook;
 
-// What a turn leaves: the header, how many bytes wait at the front of the input, how many bytes of the output are to be
-// written, and whether more is to be read before the next turn.
+// What a turn leaves: how many bytes wait at the front of the input, how many bytes of the output are to be written, and whether more is to
+// be read before the next turn.
 #[derive(Clone, Copy)]
 pub struct Turn {
-    pub head: Head,
     pub have: usize,
     pub length: usize,
     pub reads: bool,
@@ -27,23 +24,17 @@ pub struct Turn {
 
 // A turn: works the whole lines of the first `have` bytes as far as the output has room, and moves what is left to the front.
 pub fn take_turn(
-    h: Head,
+    book: &mut SoundBook,
     input: &mut [u8],
     have: usize,
-    x: &mut Index,
-    buys: &mut Rows,
-    y: &mut Index,
-    sells: &mut Rows,
     took: &mut Takings,
     out: &mut [u8],
 ) -> Turn
-    requires { Stands h x.old buys.old y.old sells.old × (have ≤ length input.old) × (least_room ≤ length out.old) }
-    ensures { Takes (book_on h x.old buys.old y.old sells.old) input.old
-        have out.old result
-        input.new x.new buys.new y.new sells.new out.new }
+    requires within { have ≤ length input.old }
+    requires room { least_room ≤ length out.old }
+    ensures { Takes book.old input.old have out.old result book.new input.new out.new }
 {
-    let fed = replay::feed(h, &input[..have], x, buys, y, sells, took, out);
-    let head = fed.head;
+    let fed = replay::feed(book, &input[..have], took, out);
     let length = fed.length;
     let is_short = out.len() - length < rules::LEAST_ROOM;
     let most = if is_short {
@@ -53,7 +44,6 @@ pub fn take_turn(
     };
     let left = lines::carry(input, fed.at, have, most);
     Turn {
-        head: head,
         have: left,
         length: length,
         reads: !is_short,
@@ -64,10 +54,11 @@ pub fn take_turn(
 pub fn finish(part: &[u8], out: &mut [u8]) -> usize
     requires { 5 ≤ length out.old }
     ensures value { result ≡ length (printed_at_end part.now) }
+    ensures fits { result ≤ length out.new }
     ensures out_after { out.new ≡ onto (printed_at_end part.now) out.old }
 {
     if part.len() == 0 {
         return 0;
     }
-    writer::write_refusal(out, 3)
+    writer::write_refusal(out, u8::from(Refusal::NoCommand))
 }

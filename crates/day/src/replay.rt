@@ -1,38 +1,28 @@
-// A day's lines through the book, a piece of input at a time (01, Examples from the desk: the program). The book stands in a header
-// and two sides that are lent from the first line to the last: nothing of it is copied or tested between two lines.
+// A day's lines through the book, a piece of input at a time (01, Examples from the desk: the program). The book stands in place from the
+// first line to the last: nothing of it is copied or tested between two lines.
 ghost use Rattle.std.specs.Prelude.{◌≡◌, ◌≤◌, length};
 ghost use Rattle.rules.specs.Book.{fresh};
 ghost use Rattle.rules.specs.Refusals.{least_room};
-ghost use Rattle.side.specs.Answers.{Stands};
-ghost use Rattle.side.specs.Tables.{book_on, head_of};
 ghost use Rattle.day.specs.Feed.{Prints, Feeds};
 
 use command_lines::lines;
 use event_lines::writer;
 use kinds::{Cents, Number};
-use orders::walk::Takings;
-use rules::{Away, Command, Held};
-use side::rows::{Index, Rows};
-use side::tables::Head;
+use orders::takings::Takings;
+use rules::{Away, Command, Held, Refusal};
+use side::table::Table;
+use side::tables::SoundBook;
 
-// What a line leaves: the header, and the length of what is printed of it.
-#[derive(Clone, Copy)]
-pub struct Printed {
-    pub head: Head,
-    pub length: usize,
-}
-
-// What some lines leave: the header, how many bytes of input they are, and the length of what is printed of them.
+// What some lines leave: how many bytes of input they are, and the length of what is printed of them.
 #[derive(Clone, Copy)]
 pub struct Fed {
-    pub head: Head,
     pub at: usize,
     pub length: usize,
 }
 
-// The header of a fresh book.
-pub fn begin() -> Head
-    ensures { result ≡ head_of fresh }
+// A fresh book.
+pub fn begin() -> SoundBook
+    ensures { result ≡ fresh }
 {
     let away = Away {
         bid: Cents(0),
@@ -44,72 +34,40 @@ pub fn begin() -> Head
         away: away,
         closed: false,
     };
-    Head {
+    SoundBook {
         held: held,
-        buys: 0,
-        sells: 0,
+        buys: Table::empty(),
+        sells: Table::empty(),
     }
 }
 
 // ── A line ──
 
-// What is printed of a line that reads so: its event lines, or the line of its refusal.
+// What is printed of a line that reads so: its event lines, or the line of its refusal; how many bytes these are.
 fn print_line(
-    h: Head,
+    book: &mut SoundBook,
     reading: Option<Command>,
-    x: &mut Index,
-    buys: &mut Rows,
-    y: &mut Index,
-    sells: &mut Rows,
     took: &mut Takings,
     out: &mut [u8],
-) -> Printed
-    requires { Stands h x.old buys.old y.old sells.old × (least_room ≤ length out.old) }
-    ensures { Prints (book_on h x.old buys.old y.old sells.old) reading
-        out.old result
-        x.new buys.new y.new sells.new out.new }
+) -> usize
+    requires { least_room ≤ length out.old }
+    ensures { Prints book.old reading out.old result book.new out.new }
 {
     let Some(c) = reading else {
-        let length = writer::write_refusal(out, 3);
-        return Printed {
-            head: h,
-            length: length,
-        };
+        return writer::write_refusal(out, u8::from(Refusal::NoCommand));
     };
-    let step = commands::apply(h, c, x, buys, y, sells, took, out);
-    if step.refusal == 0 {
-        let head = step.head;
-        return Printed {
-            head: head,
-            length: step.length,
-        };
-    }
-    let length = writer::write_refusal(out, step.refusal);
-    Printed {
-        head: h,
-        length: length,
+    match commands::apply(book, c, took, out) {
+        Ok(length) => length,
+        Err(refusal) => writer::write_refusal(out, u8::from(refusal)),
     }
 }
 
 // ── A piece of input ──
 
 // Works the whole lines of an input, until none is left or the output has no room for another.
-pub fn feed(
-    h: Head,
-    input: &[u8],
-    x: &mut Index,
-    buys: &mut Rows,
-    y: &mut Index,
-    sells: &mut Rows,
-    took: &mut Takings,
-    out: &mut [u8],
-) -> Fed
-    requires { Stands h x.old buys.old y.old sells.old }
-    ensures { Feeds (book_on h x.old buys.old y.old sells.old) input.now
-        out.old result
-        x.new buys.new y.new sells.new out.new }
+pub fn feed(book: &mut SoundBook, input: &[u8], took: &mut Takings, out: &mut [u8]) -> Fed
+    ensures { Feeds book.old input.now out.old result book.new out.new }
 {
-    let mut head = h;
     let mut at = 0;
     let mut length = 0;
     loop {
@@ -120,14 +78,11 @@ pub fn feed(
         if input.len() - at <= line.digits {
             break;
         }
-        let reading = line.reading;
-        let p = print_line(head, reading, x, buys, y, sells, took, &mut out[length..]);
-        head = p.head;
-        length += p.length;
+        let printed = print_line(book, line.reading, took, &mut out[length..]);
+        length += printed;
         at += line.digits + 1;
     }
     Fed {
-        head: head,
         at: at,
         length: length,
     }

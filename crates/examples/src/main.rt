@@ -9,12 +9,8 @@ ghost use Rattle.std.specs.Prelude.{◌≡◌, ◌+◌, ◌≤◌, ◌<◌, leng
 ghost use Rattle.rules.specs.Refusals.{least_room};
 
 use anyhow::{Context, Result};
-use command_lines::lines;
 use day::{night, replay};
-use orders::walk;
-use orders::walk::Takings;
-use side::rows::{Index, Rows};
-use side::{rows, tables};
+use orders::takings::Takings;
 use std::io;
 
 // ── The days ──
@@ -24,11 +20,10 @@ fn line_after(days: &[u8], from: usize) -> usize
     requires { from < length days.now }
     ensures { (from < result) × (result ≤ length days.now) }
 {
-    let end = from + lines::scan_line(&days[from..]);
-    if end < days.len() {
-        return end + 1;
+    match days[from..].iter().position(|&b| b == b'\n') {
+        Some(n) => from + n + 1,
+        None => days.len(),
     }
-    end
 }
 
 // The place of the next line that begins with `#`, or the end; a line begins at `from`.
@@ -37,10 +32,7 @@ fn day_after(days: &[u8], from: usize) -> usize
     ensures { (from ≤ result) × (result ≤ length days.now) }
 {
     let mut i = from;
-    while i < days.len() {
-        if days[i] == b'#' {
-            return i;
-        }
+    while i < days.len() && days[i] != b'#' {
         i = line_after(days, i);
     }
     i
@@ -52,16 +44,12 @@ fn day_end(days: &[u8], at: usize, start: usize, end: usize) -> usize
     requires { (at < start) × (start ≤ end) × (end ≤ length days.now) }
     ensures { (start ≤ result) × (result ≤ end) }
 {
-    if start - at < 2 {
-        return end;
+    let is_marked = days[at..start].get(1) == Some(&b'-');
+    if is_marked && start < end {
+        end - 1
+    } else {
+        end
     }
-    if end <= start {
-        return end;
-    }
-    if days[at + 1] == b'-' {
-        return end - 1;
-    }
-    end
 }
 
 // ── A day ──
@@ -71,11 +59,11 @@ fn copy_on(day: &[u8], at: usize, input: &mut [u8], have: usize, reads: bool) ->
     requires { (at ≤ length day.now) × (have ≤ length input.old) }
     ensures { (at + result ≤ length day.now) × (have + result ≤ length input.new) }
 {
-    let mut n = 0;
-    while reads & (n < 97) & (n < day.len() - at) & (n < input.len() - have) {
-        input[have + n] = day[at + n];
-        n += 1;
+    if !reads {
+        return 0;
     }
+    let n = 97.min(day.len() - at).min(input.len() - have);
+    input[have..have + n].copy_from_slice(&day[at..at + n]);
     n
 }
 
@@ -93,56 +81,28 @@ fn end_day(to: &mut impl io::Write, part: &[u8], out: &mut [u8]) -> Result<()>
     hand_over(to, &out[..length])
 }
 
-// A day from a fresh book, turn by turn; whether it came to its end.
-fn take_turns(
-    to: &mut impl io::Write,
-    day: &[u8],
-    input: &mut [u8],
-    x: &mut Index,
-    buys: &mut Rows,
-    y: &mut Index,
-    sells: &mut Rows,
-    took: &mut Takings,
-    out: &mut [u8],
-) -> Result<bool>
-    requires { least_room ≤ length out.old }
-{
-    let mut head = replay::begin();
-    tables::clear(x, buys);
-    tables::clear(y, sells);
-    let mut at = 0;
-    let mut have = 0;
-    let mut turns = u64::MAX;
-    while 0 < turns {
-        let turn = night::take_turn(head, input, have, x, buys, y, sells, took, out);
-        hand_over(to, &out[..turn.length])?;
-        head = turn.head;
-        have = turn.have;
-        if turn.reads & (at == day.len()) {
-            end_day(to, &input[..have], out)?;
-            return Ok(true);
-        }
-        let more = copy_on(day, at, input, have, turn.reads);
-        at += more;
-        have += more;
-        turns -= 1;
-    }
-    Ok(false)
-}
-
-// A day, from a fresh book to its end; whether it came there.
+// A day, from a fresh book to its end, turn by turn; whether it came there.
 fn run_day(to: &mut impl io::Write, day: &[u8], out: &mut [u8]) -> Result<bool>
     requires { least_room ≤ length out.old }
 {
     let mut input = [0u8; 147];
-    let mut x: Index = [0; rows::INDEX];
-    let mut buys: Rows = [[0; rows::WORDS]; rows::PLACES];
-    let mut y: Index = [0; rows::INDEX];
-    let mut sells: Rows = [[0; rows::WORDS]; rows::PLACES];
-    let mut took: Takings = [[0; 3]; walk::TAKINGS];
-    take_turns(
-        to, day, &mut input, &mut x, &mut buys, &mut y, &mut sells, &mut took, out,
-    )
+    let mut book = replay::begin();
+    let mut took = Takings::new();
+    let mut at = 0;
+    let mut have = 0;
+    for _ in 0..u64::MAX {
+        let turn = night::take_turn(&mut book, &mut input, have, &mut took, out);
+        hand_over(to, &out[..turn.length])?;
+        have = turn.have;
+        if turn.reads && at == day.len() {
+            end_day(to, &input[..have], out)?;
+            return Ok(true);
+        }
+        let more = copy_on(day, at, &mut input, have, turn.reads);
+        at += more;
+        have += more;
+    }
+    Ok(false)
 }
 
 // The days, each under the line that names it.

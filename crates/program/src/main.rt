@@ -12,10 +12,7 @@ ghost use Rattle.rules.specs.Refusals.{least_room};
 use anyhow::{Context, Result};
 use command_lines::lines;
 use day::{night, replay};
-use orders::walk;
-use orders::walk::Takings;
-use side::rows::{Index, Rows};
-use side::{rows, tables};
+use orders::takings::Takings;
 use std::io;
 
 // The input is read in pieces of at most so many bytes.
@@ -61,29 +58,21 @@ fn end_day(to: &mut impl io::Write, part: &[u8], out: &mut [u8]) -> Result<()>
 }
 
 // A day, from a fresh book to the end of the input. A proved loop has to end, and nothing says that an input does: so the turns
-// are counted down from a number that no day uses up.
+// are counted, up to a number that no day uses up.
 fn run(
     from: &mut impl io::Read,
     to: &mut impl io::Write,
     input: &mut [u8],
-    x: &mut Index,
-    buys: &mut Rows,
-    y: &mut Index,
-    sells: &mut Rows,
-    took: &mut Takings,
     out: &mut [u8],
 ) -> Result<()>
     requires { (part_kept < length input.old) × (least_room ≤ length out.old) }
 {
-    let mut head = replay::begin();
-    tables::clear(x, buys);
-    tables::clear(y, sells);
+    let mut book = replay::begin();
+    let mut took = Takings::new();
     let mut have = 0;
-    let mut turns = u64::MAX;
-    while 0 < turns {
-        let turn = night::take_turn(head, input, have, x, buys, y, sells, took, out);
+    for _ in 0..u64::MAX {
+        let turn = night::take_turn(&mut book, input, have, &mut took, out);
         hand_over(to, &out[..turn.length])?;
-        head = turn.head;
         have = turn.have;
         let read = read_on(from, input, have, turn.reads)?;
         match read {
@@ -91,7 +80,6 @@ fn run(
             lines::Read::Ended => return end_day(to, &input[..have], out),
             lines::Read::Upto(end) => have = end,
         }
-        turns -= 1;
     }
     Ok(())
 }
@@ -101,12 +89,5 @@ fn main(rt: HostRuntime) -> Result<()> {
     let mut to = rt.stdout();
     let mut input = [0u8; PIECE];
     let mut out = [0u8; OUTPUT];
-    let mut x: Index = [0; rows::INDEX];
-    let mut buys: Rows = [[0; rows::WORDS]; rows::PLACES];
-    let mut y: Index = [0; rows::INDEX];
-    let mut sells: Rows = [[0; rows::WORDS]; rows::PLACES];
-    let mut took: Takings = [[0; 3]; walk::TAKINGS];
-    run(
-        &mut from, &mut to, &mut input, &mut x, &mut buys, &mut y, &mut sells, &mut took, &mut out,
-    )
+    run(&mut from, &mut to, &mut input, &mut out)
 }

@@ -19,6 +19,7 @@ use Rattle.command_lines.specs.declared.lines.Read.{Read}
 use Rattle.command_lines.specs.Pieces.{read_behind}
 use Rattle.rules.specs.declared.Body.{Body}
 use Rattle.rules.specs.declared.Body.TheVariants as body
+use Rattle.rules.specs.declared.Refusal.{Refusal}
 use Rattle.rules.specs.EventReading.{EventReading}
 use Rattle.rules.specs.CommandLines.{Reading}
 use Rattle.rules.specs.Book as book
@@ -26,9 +27,6 @@ use Rattle.rules.specs.CommandLines.{line_of, command_in}
 use Rattle.rules.specs.EventReading.{event_in}
 use Rattle.rules.specs.Refusals.{least_room}
 use Rattle.rules.specs.Step.{step, step_on}
-use Rattle.side.specs.declared.tables.Head.{Head}
-use Rattle.side.specs.Answers.{Stands}
-use Rattle.side.specs.Tables.{book_on, head_of}
 use Rattle.book.specs.declared.Book.{Book}
 use Rattle.book.specs.declared.Reply.{Reply}
 use Rattle.book.specs.Record.{record_in, book_with, reply_of}
@@ -41,7 +39,6 @@ use Rattle.day.specs.Feed.{Feeds}
 use Rattle.day.specs.Pieces.{printed_at_end}
 use Rattle.tally.specs.declared.TalliedPiece as tallied
 use Rattle.tally.specs.Tally.{fed_on}
-use Rattle.rules.specs.declared.Refusal.{Refusal}
 use Rattle.command_lines.specs.Writing.{written_for, buffer_of}
 use Rattle.book.proofs.Book.fresh.Met as fresh-met
 use Rattle.book.proofs.Book.fresh.Reads as fresh
@@ -93,7 +90,7 @@ use Rattle.day.proofs.night.take_turn.Statement as turn-statement
 use Rattle.day.proofs.night.finish.Met as finish-met
 use Rattle.day.proofs.night.finish.Reads as finish
 use Rattle.day.proofs.night.finish.Statement as finish-statement
-use Rattle.std.specs.Prelude.{Some, None, Result}
+use Rattle.std.specs.Prelude.{Some, Result}
 
 -- ── The book by value ──
 
@@ -237,40 +234,40 @@ read_event_says κs a r s = refl
 
 -- ── A day, piece by piece ──
 
--- `day::replay::begin()`: the header of a fresh book
+-- Here a book stands in place as a `SoundBook` of `side`, whose value is 01's book. That it is sound is an invariant of the type, so no
+-- `asks` speaks of it: where the type's fields are written, or a value of it is made, its soundness is proved.
+
+-- `day::replay::begin()`: a fresh book
 pub begin_is_proved : {M : Type 1} → begin-statement.statement M
 begin_is_proved = begin-met.met
 
 pub begin_asks : (κs : _) (a : _) → begin.Pre κs a ≡ Unit {0}
 begin_asks κs a = refl
 
-pub begin_says : (κs : _) (a : _) (r : Head) (s : _) → begin.Post κs a r s
-    ≡ (r ≡ head_of book.fresh)
+pub begin_says : (κs : _) (a : _) (r : book.Book) (s : _) → begin.Post κs a r s
+    ≡ (r ≡ book.fresh)
 begin_says κs a r s = refl
 
--- `day::replay::feed(h, input, x, buys, y, sells, took, out)`: on a sound book in its header and two sides that are lent
+-- `day::replay::feed(book, input, took, out)`: on any sound book, whatever the input and the output
 pub feed_is_proved : {M : Type 1} → feed-statement.statement M
 feed_is_proved = feed-met.met
 
-pub feed_asks : (κs : _) (a : _) → feed.Pre κs a ≡ Stands a.0 a.1.1.0.now a.1.1.1.0.now a.1.1.1.1.0.now a.1.1.1.1.1.0.now
+pub feed_asks : (κs : _) (a : _) → feed.Pre κs a ≡ Unit {0}
 feed_asks κs a = refl
 
 pub feed_says : (κs : _) (a : _) (r : Fed) (s : _) → feed.Post κs a r s
-    ≡ Feeds (book_on a.0 a.1.1.0.now a.1.1.1.0.now a.1.1.1.1.0.now a.1.1.1.1.1.0.now) a.1.0.now a.1.1.1.1.1.1.1.0.now r
-    s.1.1.0.now s.1.1.1.0.now s.1.1.1.1.0.now s.1.1.1.1.1.0.now s.1.1.1.1.1.1.1.0.now
+    ≡ Feeds a.0.now a.1.0.now a.1.1.1.0.now r s.0.now s.1.1.1.0.now
 feed_says κs a r s = refl
 
--- `day::night::take_turn(h, input, have, x, buys, y, sells, took, out)`: all that the program does between a read and a write
+-- `day::night::take_turn(book, input, have, took, out)`: all that the program does between a read and a write
 pub turn_is_proved : {M : Type 1} → turn-statement.statement M
 turn_is_proved = turn-met.met
 
-pub turn_asks : (κs : _) (a : _) → turn.Pre κs a ≡ (Stands a.0 a.1.1.1.0.now a.1.1.1.1.0.now a.1.1.1.1.1.0.now a.1.1.1.1.1.1.0.now
-    × (a.1.1.0 ≤ length a.1.0.now) × (least_room ≤ length a.1.1.1.1.1.1.1.1.0.now))
+pub turn_asks : (κs : _) (a : _) → turn.Pre κs a ≡ ((a.1.1.0 ≤ length a.1.0.now) × (least_room ≤ length a.1.1.1.1.0.now))
 turn_asks κs a = refl
 
 pub turn_says : (κs : _) (a : _) (r : Turn) (s : _) → turn.Post κs a r s
-    ≡ Takes (book_on a.0 a.1.1.1.0.now a.1.1.1.1.0.now a.1.1.1.1.1.0.now a.1.1.1.1.1.1.0.now) a.1.0.now a.1.1.0 a.1.1.1.1.1.1.1.1.0.now r
-    s.1.0.now s.1.1.1.0.now s.1.1.1.1.0.now s.1.1.1.1.1.0.now s.1.1.1.1.1.1.0.now s.1.1.1.1.1.1.1.1.0.now
+    ≡ Takes a.0.now a.1.0.now a.1.1.0 a.1.1.1.1.0.now r s.0.now s.1.0.now s.1.1.1.1.0.now
 turn_says κs a r s = refl
 
 -- `command_lines::lines::after_read(got, have, room)`: what a read gave
@@ -292,7 +289,7 @@ pub finish_asks : (κs : _) (a : _) → finish.Pre κs a ≡ (5 ≤ length a.1.0
 finish_asks κs a = refl
 
 pub finish_says : (κs : _) (a : _) (r : ℕ) (s : _) → finish.Post κs a r s
-    ≡ ((r ≡ length (printed_at_end a.0.now)) × (s.1.0.now ≡ onto (printed_at_end a.0.now) a.1.0.now))
+    ≡ ((r ≡ length (printed_at_end a.0.now)) × (r ≤ length s.1.0.now) × (s.1.0.now ≡ onto (printed_at_end a.0.now) a.1.0.now))
 finish_says κs a r s = refl
 
 -- `tally::feed(t, number, input)`: the whole lines of a piece, tallied (02, W1)

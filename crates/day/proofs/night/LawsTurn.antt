@@ -1,7 +1,7 @@
--- One turn of a day and its end, from what `day::replay::feed` worked and so many bytes of what is left as `command_lines::lines::carry` may keep. Assumes nothing.
+-- One turn of a day, from what `day::replay::feed` worked and so many bytes of what is left as `command_lines::lines::carry` may keep. Assumes nothing.
 use Prim.Native.Nat.{ℕ, ◌-◌, ◌≤◌}
 use mathlib.Core.Bool.{Bool, true, false, not}
-use mathlib.Core.List.{List, [], ◌∷◌}
+use mathlib.Core.List.{List}
 use mathlib.Core.Path.{◌≡◌, refl, ap, ◌∙◌}
 use lib.Dec.{ltb}
 use lib.ListN.{length, take, drop, length-take, length-drop}
@@ -13,10 +13,8 @@ use Rattle.command_lines.specs.Pieces.{carried, part_kept}
 use Rattle.rules.specs.Day.{cut}
 use Rattle.day.specs.declared.replay.Fed.{Fed}
 use Rattle.day.specs.Feed.{worked, fed_by}
-use Rattle.day.specs.Pieces.{printed_at_end}
 use Rattle.rules.specs.Book.{Book}
 use Rattle.rules.specs.Refusals.{least_room}
-use Rattle.rules.proofs.LawsEvents.{refusal_length}
 use Rattle.day.specs.Turns.{turned, turn_of}
 
 -- to keep as many bytes as there were keeps all that is left of them
@@ -35,16 +33,10 @@ module _ (room : ℕ) (b : Book) (input : List ℕ) (have : ℕ) (fed : Fed) (fe
   pub turn_is : (left : ℕ) (input' : List ℕ)
       → left ≡ length (carried input fed.at have most)
       → input' ≡ onto (carried input fed.at have most) input
-      → (record { head = fed.head; have = left; length = fed.length; reads = not (ltb (room - fed.length) least_room) }
+      → (record { have = left; length = fed.length; reads = not (ltb (room - fed.length) least_room) }
       ≡ turn_of (turned room b (take have input)))
       × (input' ≡ onto (turned room b (take have input)).waits input)
       × (left ≤ have)
   unfolding turned
   turn_is left input' e d =
       (rw (e, waits_are, fed_is), d ∙ ap (λ (waits : List ℕ). onto waits input) waits_are, rw e (simp (length-take, length-drop) (omega arith)))
-
--- what is printed at the end has room wherever a refusal has
-pub end_fits : (part : List ℕ) → length (printed_at_end part) ≤ 5
-unfolding printed_at_end
-end_fits [] = omega arith
-end_fits (b ∷ part) = omega (arith, refusal_length 3)

@@ -19,14 +19,12 @@ use Rattle.command_lines.proofs.lines.LawsCut.{cut_line, cut_none}
 use Rattle.day.specs.Feed.{Worked, worked}
 use Rattle.day.specs.Pieces.{printed_at_end, printed_of_pieces}
 use Rattle.day.proofs.replay.LawsCutAnywhere.{cut_anywhere}
-use Rattle.side.specs.Table.{Shows}
 use Rattle.rules.specs.Book.{Book, fresh}
 use Rattle.rules.specs.Day.{Cut, cut, book_after, printed, printed_of, output}
 use Rattle.rules.specs.Refusals.{least_room}
 use Rattle.rules.specs.Step.{answer_to}
-use Rattle.side.specs.Tables.{book_on, head_of}
-use Rattle.side.proofs.tables.LawsAnswers.{book_back}
-use Rattle.day.specs.Turns.{Turned, turned, Runs, goes_on, reads_on, ends, Ran, Stops, stops, stops_at_end, goes_on_to, reads_on_to, Begins}
+use Rattle.day.specs.declared.night.Turn.{Turn}
+use Rattle.day.specs.Turns.{Turned, turned, Takes, Runs, goes_on, reads_on, ends, Ran, Stops, stops, stops_at_end, goes_on_to, reads_on_to, Begins}
 
 -- ── What stands behind whole lines ──
 
@@ -342,8 +340,11 @@ stops_output room pieces written stopped =
 
 -- ── From one turn to the next ──
 
--- the book that a turn leaves is the book that stands in the header and the two sides that it leaves, and what waits stands at the front
-pub hands_on : (b : Book) (waits input x : List ℕ) (t : List (List ℕ)) (y : List ℕ) (u : List (List ℕ)) → Shows b.buys x t → Shows b.sells y u
-    → (book_on (head_of b) x t y u ≡ b) × (take (length waits) (onto waits input) ≡ waits)
+-- by its contract a turn hands on what the next begins with: the book that it leaves, and at the front of the input what waits
+pub hands_on : (b : Book) (input : List ℕ) (have : ℕ) (out : List ℕ) (r : Turn) (b' : Book) (input' out' : List ℕ)
+    → Takes b input have out r b' input' out'
+    → (b' ≡ (turned (length out) b (take have input)).book) × (take r.have input' ≡ (turned (length out) b (take have input)).waits)
 unfolding onto
-hands_on b waits input x t y u buys sells = (book_back b x t y u buys sells, take-append_seam waits (drop (length waits) input))
+hands_on b input have out r b' input' out' takes =
+    let waits = (turned (length out) b (take have input)).waits in
+    (takes.1, rw (takes.0, takes.2) (take-append_seam waits (drop (length waits) input)))

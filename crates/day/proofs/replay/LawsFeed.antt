@@ -3,7 +3,7 @@
 use Prim.Native.Nat.{ℕ, suc, ◌+◌, ◌-◌, ◌≤◌, ◌<◌}
 use mathlib.Core.List.{List, [], ◌∷◌, ◌++◌, append_assoc, append-nil}
 use mathlib.Core.Path.{◌≡◌, refl, sym, ap, ◌∙◌}
-use lib.ListN.{length, take, drop, length-append, length-drop}
+use lib.ListN.{length, take, drop, length-append, length-take, length-drop}
 use lib.Seq.{take_at, take_all, drop-drop, length-take-le}
 use native.Mathlib.Omega.{arith}
 use borrow.Author.Tests.{lt-ltb, le-ltb}
@@ -13,59 +13,57 @@ use Rattle.basics.proofs.LawsBytes.{onto_none, onto_after, onto_part}
 use Rattle.command_lines.specs.declared.lines.Line.{Line}
 use Rattle.command_lines.specs.Lines.{is_line_feed, first_line}
 use Rattle.command_lines.proofs.lines.LawsCut.{cut_line, cut_none}
-use Rattle.side.specs.Table.{Shows}
-use Rattle.side.proofs.rows.LawsShown.{length_side, holds_shows}
 use Rattle.rules.specs.Book.{Book}
 use Rattle.rules.specs.CommandLines.{command_in}
 use Rattle.rules.specs.Day.{Cut, cut, printed}
 use Rattle.rules.specs.Refusals.{least_room}
 use Rattle.rules.specs.Step.{Answer, answer_to}
-use Rattle.soundness.proofs.LawsKept.{answer_sound}
-use Rattle.side.specs.declared.tables.Head.{Head}
-use Rattle.side.specs.Answers.{Stands}
-use Rattle.side.specs.Tables.{book_on, head_of}
-use Rattle.side.proofs.tables.LawsAnswers.{book_back, stands_back}
 use Rattle.day.specs.declared.replay.Fed.{Fed}
-use Rattle.day.specs.Feed.{answer_for, Worked, nothing_of, behind, worked, fed_by}
+use Rattle.day.specs.Feed.{answer_for, Worked, nothing_of, behind, worked, Prints, Feeds}
 
 -- ── The lines worked so far ──
 
-abbrev fed : Head → ℕ → ℕ → Fed
-fed h at len = record { head = h; at = at; length = len }
+abbrev fed : ℕ → ℕ → Fed
+fed at len = record { at = at; length = len }
 
 -- what was worked before, in front of what is worked after it
 abbrev pub ahead : List ℕ → ℕ → Worked → Worked
 ahead lines k w = record { book = w.book; length = k + w.length; printed = lines ++ w.printed }
 
-pub record Feeding (input out₀ : List ℕ) (b₀ : Book) (x : List ℕ) (t : List (List ℕ)) (y : List ℕ) (u : List (List ℕ)) (out : List ℕ) (h : Head) (at len : ℕ) : Type 0 where
-  pub stands : Stands h x t y u
+pub record Feeding (input out₀ : List ℕ) (b₀ : Book) (b : Book) (out : List ℕ) (at len : ℕ) : Type 0 where
   pub within : at ≤ length input
   pub fits : len ≤ length out₀
   pub long : length out ≡ length out₀
   pub written : out ≡ onto (take len out) out₀
-  pub goes_on : worked (length out₀) b₀ (cut input).whole ≡ ahead (take len out) at (worked (length out₀ - len) (book_on h x t y u) (cut (drop at input)).whole)
+  pub goes_on : worked (length out₀) b₀ (cut input).whole ≡ ahead (take len out) at (worked (length out₀ - len) b (cut (drop at input)).whole)
 
-pub feeding_start : (input out : List ℕ) (h : Head) (x : List ℕ) (t : List (List ℕ)) (y : List ℕ) (u : List (List ℕ)) → Stands h x t y u → Feeding input out (book_on h x t y u) x t y u out h 0 0
-feeding_start input out h x t y u s = record {
-  stands = s;
+pub feeding_start : (input out : List ℕ) (b : Book) → Feeding input out b b out 0 0
+feeding_start input out b = record {
   within = omega arith;
   fits = omega arith;
   long = refl;
   written = onto_none out;
   goes_on =
       let all : length out - 0 ≡ length out = omega arith in
-      let none : 0 + (worked (length out) (book_on h x t y u) (cut input).whole).length ≡ (worked (length out) (book_on h x t y u) (cut input).whole).length = omega arith in
+      let none : 0 + (worked (length out) b (cut input).whole).length ≡ (worked (length out) b (cut input).whole).length = omega arith in
       rw (all, none);
 }
 
+-- lines that were written into the part of an output from `len` on have room there
+pub lines_have_room : (lines part out : List ℕ) (len : ℕ) → part ≡ onto lines (take (length out - len) (drop len out))
+    → length part ≡ length (take (length out - len) (drop len out)) → length lines ≤ length out - len
+unfolding onto
+lines_have_room lines part out len written long =
+    omega (arith, simp (length-append, length-take, length-drop) at (ap length written), simp (length-take, length-drop) at long)
+
 -- ── The end ──
 
-module _ (input out₀ : List ℕ) (b₀ : Book) (x : List ℕ) (t : List (List ℕ)) (y : List ℕ) (u : List (List ℕ)) (out : List ℕ) (h : Head) (at len : ℕ) (f : Feeding input out₀ b₀ x t y u out h at len) where
+module _ (input out₀ : List ℕ) (b₀ : Book) (b : Book) (out : List ℕ) (at len : ℕ) (f : Feeding input out₀ b₀ b out at len) where
   -- nothing more is worked
   abbrev pub Ends : Type 0
-  Ends = worked (length out₀) b₀ (cut input).whole ≡ record { book = book_on h x t y u; length = at; printed = take len out }
+  Ends = worked (length out₀) b₀ (cut input).whole ≡ record { book = b; length = at; printed = take len out }
 
-  ends : worked (length out₀ - len) (book_on h x t y u) (cut (drop at input)).whole ≡ nothing_of (book_on h x t y u) → Ends
+  ends : worked (length out₀ - len) b (cut (drop at input)).whole ≡ nothing_of b → Ends
   ends e =
       let z : at + 0 ≡ at = omega arith in
       f.goes_on ∙ ap (ahead (take len out) at) e ∙ rw (z, append-nil (take len out))
@@ -76,7 +74,7 @@ module _ (input out₀ : List ℕ) (b₀ : Book) (x : List ℕ) (t : List (List 
   no_room (x ∷ s) room b l = rw (lt-ltb room least_room l)
 
   pub ends_full : length out - len < least_room → Ends
-  ends_full l = ends (no_room (cut (drop at input)).whole (length out₀ - len) (book_on h x t y u) (omega (arith, f.long)))
+  ends_full l = ends (no_room (cut (drop at input)).whole (length out₀ - len) b (omega (arith, f.long)))
 
   ends_empty : length input ≤ at + first_where is_line_feed (drop at input) → Ends
   unfolding worked
@@ -93,27 +91,18 @@ module _ (input out₀ : List ℕ) (b₀ : Book) (x : List ℕ) (t : List (List 
       let d : l.digits ≡ first_where is_line_feed (drop at input) = ap (λ (x : Line). x.digits) found ∙ rw rest_is in
       ends_empty (omega (arith, d, none, f.within))
 
-  -- so the header, the sides and the output are those of all that is worked
-  pub left_end : Ends
-      → (record { head = h; at = at; length = len } ≡ fed_by (worked (length out₀) b₀ (cut input).whole))
-      × (Shows (worked (length out₀) b₀ (cut input).whole).book.buys x t
-      × (Shows (worked (length out₀) b₀ (cut input).whole).book.sells y u
-      × (out ≡ onto (worked (length out₀) b₀ (cut input).whole).printed out₀)))
+  -- so the book and the output are those of all that is worked
+  pub left_end : Ends → Feeds b₀ input out₀ (fed at len) b out
   left_end e =
-      let s = f.stands in
-      let head : head_of (book_on h x t y u) ≡ h = rw (length_side h.buys x t, length_side h.sells y u) in
       let long : length (take len out) ≡ len = length-take-le len out (omega (arith, f.fits, f.long)) in
-      rw e (fed_is_lem (sym head) (sym long), (holds_shows h.buys x t s.buys, (holds_shows h.sells y u s.sells, f.written)))
-    where
-      fed_is_lem : {h h' : Head} {len len' : ℕ} → h ≡ h' → len ≡ len' → fed h at len ≡ fed h' at len'
-      fed_is_lem p q = rw (p, q)
+      rw (e, long) (refl, refl, f.written, f.within, f.fits)
 
   -- ── A turn ──
 
   module _ (room : least_room ≤ length out - len) (e : ℕ) (found : e ≡ at + first_where is_line_feed (drop at input)) (is_line : e < length input)
       (line : List ℕ) (line_is : line ≡ take (e + 1 - at) (drop at input)) where
     abbrev pub it : Answer
-    it = answer_to (book_on h x t y u) line
+    it = answer_to b line
 
     -- the line, and what is cut behind it
     first_line_lem : (cut (drop at input)).whole ≡ line ∷ (cut (drop (e + 1) input)).whole
@@ -132,20 +121,23 @@ module _ (input out₀ : List ℕ) (b₀ : Book) (x : List ℕ) (t : List (List 
         let n : length line ≡ e + 1 - at = ap length line_is ∙ m in
         omega (arith, found, n)
 
-    worked_line : worked (length out₀ - len) (book_on h x t y u) (cut (drop at input)).whole
+    worked_line : worked (length out₀ - len) b (cut (drop at input)).whole
         ≡ behind line (printed it) (worked (length out₀ - len - length (printed it)) it.book (cut (drop (e + 1) input)).whole)
     unfolding worked
     worked_line = rw (first_line_lem, le-ltb (length out₀ - len) least_room (omega (arith, room, f.long)))
 
-    -- what printing the line leaves: the header, both sides, and the part of the output that was lent
-    module _ (h' : Head) (x' : List ℕ) (t' : List (List ℕ)) (y' : List ℕ) (u' : List (List ℕ)) (n : ℕ) (part : List ℕ)
-        (head_is : h' ≡ head_of it.book) (length_is : n ≡ length (printed it))
-        (buys_is : Shows it.book.buys x' t') (sells_is : Shows it.book.sells y' u')
+    -- what printing the line leaves: the book, and the part of the output that was lent
+    module _ (b' : Book) (n : ℕ) (part : List ℕ) (length_is : n ≡ length (printed it)) (book_is : b' ≡ it.book)
         (part_is : part ≡ onto (printed it) (take (length out - len) (drop len out))) where
       abbrev pub next : List ℕ
       next = take len out ++ (part ++ drop (length out - len) (drop len out))
 
-      module _ (same : length next ≡ length out) where
+      module _ (part_long : length part ≡ length (take (length out - len) (drop len out))) where
+        same : length next ≡ length out
+        same =
+            let long = simp (length-take, length-drop) at part_long in
+            simp (length-append, length-take, length-drop) (omega (arith, long, f.fits, f.long))
+
         front_long : length (take len out) ≡ len
         front_long = length-take-le len out (omega (arith, f.fits, f.long))
 
@@ -156,11 +148,7 @@ module _ (input out₀ : List ℕ) (b₀ : Book) (x : List ℕ) (t : List (List 
         lines_long = length-append (take len out) (printed it) ∙ omega (arith, front_long, length_is)
 
         lines_fit : len + n ≤ length out₀
-        unfolding onto
-        lines_fit =
-            let l : length next ≡ length (take len out ++ printed it) + (length out₀ - length (take len out ++ printed it)) =
-            ap length next_is ∙ simp (length-append, length-drop) in
-            omega (arith, l, lines_long, same, f.long)
+        lines_fit = omega (arith, length_is, lines_have_room (printed it) part out len part_is part_long, f.fits, f.long)
 
         taken : take (len + n) next ≡ take len out ++ printed it
         unfolding onto
@@ -168,21 +156,17 @@ module _ (input out₀ : List ℕ) (b₀ : Book) (x : List ℕ) (t : List (List 
             ap (take (len + n)) next_is
             ∙ take_at (take len out ++ printed it) (drop (length (take len out ++ printed it)) out₀) (len + n) lines_long
 
-        book_next : book_on h' x' t' y' u' ≡ it.book
-        book_next = rw head_is (book_back it.book x' t' y' u' buys_is sells_is)
-
         rest_same : worked (length out₀ - len - length (printed it)) it.book (cut (drop (e + 1) input)).whole
-            ≡ worked (length out₀ - (len + n)) (book_on h' x' t' y' u') (cut (drop (e + 1) input)).whole
+            ≡ worked (length out₀ - (len + n)) b' (cut (drop (e + 1) input)).whole
         rest_same =
             let k : length out₀ - len - length (printed it) ≡ length out₀ - (len + n) = omega (arith, length_is) in
-            rw (k, book_next)
+            rw (k, book_is)
 
-        pub feeding_turn : Feeding input out₀ b₀ x' t' y' u' next h' (e + 1) (len + n)
+        pub feeding_turn : Feeding input out₀ b₀ b' next (e + 1) (len + n)
         feeding_turn =
-            let w = worked (length out₀ - (len + n)) (book_on h' x' t' y' u') (cut (drop (e + 1) input)).whole in
+            let w = worked (length out₀ - (len + n)) b' (cut (drop (e + 1) input)).whole in
             let lengths : at + (length line + w.length) ≡ e + 1 + w.length = omega (arith, line_long) in
             record {
-              stands = rw head_is (stands_back it.book x' t' y' u' buys_is sells_is (answer_sound (book_on h x t y u) line f.stands.is_sound));
               within = omega (arith, is_line);
               fits = lines_fit;
               long = same ∙ f.long;
@@ -202,7 +186,7 @@ module _ (input out₀ : List ℕ) (b₀ : Book) (x : List ℕ) (t : List (List 
     place_is : at + l.digits ≡ at + first_where is_line_feed (drop at input)
     place_is = ap (λ (x : Line). at + x.digits) found ∙ rw rest_is
 
-    line_read : answer_for (book_on h x t y u) l.reading ≡ answer_to (book_on h x t y u) (take (at + l.digits + 1 - at) (drop at input))
+    line_read : answer_for b l.reading ≡ answer_to b (take (at + l.digits + 1 - at) (drop at input))
     unfolding answer_to
     line_read =
         let k : at + l.digits + 1 - at ≡ suc l.digits = omega arith in
@@ -211,14 +195,12 @@ module _ (input out₀ : List ℕ) (b₀ : Book) (x : List ℕ) (t : List (List 
         ap (λ (x : Line). x.reading) found ∙ rw rest_is in
         rw (k, r, d)
 
-    pub feeding_line : (h' : Head) (x' : List ℕ) (t' : List (List ℕ)) (y' : List ℕ) (u' : List (List ℕ)) (n : ℕ) (part : List ℕ)
-        → h' ≡ head_of (answer_for (book_on h x t y u) l.reading).book → n ≡ length (printed (answer_for (book_on h x t y u) l.reading))
-        → Shows (answer_for (book_on h x t y u) l.reading).book.buys x' t' → Shows (answer_for (book_on h x t y u) l.reading).book.sells y' u'
-        → part ≡ onto (printed (answer_for (book_on h x t y u) l.reading)) (take (length out - len) (drop len out))
-        → length (take len out ++ (part ++ drop (length out - len) (drop len out))) ≡ length out
-        → Feeding input out₀ b₀ x' t' y' u' (take len out ++ (part ++ drop (length out - len) (drop len out))) h' (at + (l.digits + 1)) (len + n)
-    feeding_line h' x' t' y' u' n part head_is length_is buys_is sells_is part_is same =
+    pub feeding_line : (b' : Book) (n : ℕ) (part : List ℕ) → Prints b l.reading (take (length out - len) (drop len out)) n b' part
+        → length part ≡ length (take (length out - len) (drop len out))
+        → Feeding input out₀ b₀ b' (take len out ++ (part ++ drop (length out - len) (drop len out))) (at + (l.digits + 1)) (len + n)
+    feeding_line b' n part prints part_long =
         let next_at : at + (l.digits + 1) ≡ at + l.digits + 1 = omega arith in
+        let read = rw line_read at prints in
         rw next_at
-        (feeding_turn room (at + l.digits) place_is (omega (arith, is_line)) (take (at + l.digits + 1 - at) (drop at input)) refl h' x' t' y' u' n part
-        (rw line_read at head_is) (rw line_read at length_is) (rw line_read at buys_is) (rw line_read at sells_is) (rw line_read at part_is) same)
+        (feeding_turn room (at + l.digits) place_is (omega (arith, is_line)) (take (at + l.digits + 1 - at) (drop at input)) refl b' n part
+        read.0 read.1 read.2 part_long)

@@ -14,7 +14,7 @@ use Rattle.rules.specs.EventLines.{refusal_line}
 use Rattle.rules.specs.Refusals.{first_of, line_refusals, refusals}
 use Rattle.rules.specs.Step.{answer, answer_to}
 use Rattle.rules.proofs.LawsWriting.{length_line_of, form_of_short}
-use Rattle.std.specs.Prelude.{Some, None}
+use Rattle.std.specs.Prelude.{None}
 
 -- ── A line over the longest ──
 

@@ -1,31 +1,76 @@
 -- What is printed of one line, by its reading and its answer: a refusal's line with the book as it was, or the lines of the events.
 -- Assumes nothing.
-use Prim.Native.Nat.{ℕ}
-use mathlib.Core.List.{List}
+use Prim.Native.Nat.{ℕ, zero, suc, ◌+◌, ◌≤◌}
+use mathlib.Core.Bool.{Bool, true, ◌&&◌}
+use mathlib.Core.List.{List, [], ◌∷◌}
 use mathlib.Core.Logic.{◌≢◌}
-use mathlib.Core.Path.{◌≡◌, sym, ap, subst, ◌∙◌}
+use mathlib.Core.Path.{◌≡◌, refl, sym, ap, ◌∙◌}
+use lib.Dec.{eqb}
+use lib.ListN.{length, get_or}
 use native.Mathlib.Omega.{arith}
-use borrow.Author.Tests.{ne_eqb}
+use borrow.Author.Tests.{eqb-true, ne_eqb}
+use Rattle.std.proofs.lemmas.Option.{slice_get-get_or}
+use Rattle.std.specs.Prelude.{Option, Some, None, Result, Ok, Err, slice_get}
 use Rattle.basics.specs.Bytes.{onto}
 use Rattle.basics.proofs.LawsBytes.{onto_none}
-use Rattle.side.specs.Table.{Shows}
-use Rattle.side.proofs.rows.LawsShown.{holds_shows}
+use Rattle.basics.proofs.LawsChoice.{and_left, and_right}
 use Rattle.rules.specs.declared.Command.{Command}
+use Rattle.rules.specs.declared.Refusal.{Refusal}
+use Rattle.rules.specs.declared.Refusal.TheVariants.{NoRoom, NoCommand}
 use Rattle.rules.specs.CommandLines.{Reading}
 use Rattle.rules.specs.Book.{Book}
 use Rattle.rules.specs.Day.{printed}
 use Rattle.rules.specs.EventLines.{event_lines, refusal_line}
-use Rattle.rules.specs.Refusals.{first_of, line_refusals, refusals}
+use Rattle.rules.specs.Refusals.{least_room, first_of, line_refusals, refusals, last_refusal}
+use Rattle.rules.specs.Refusing.{number_of, in_order, refusal_numbered, unless_refused, or_refused}
 use Rattle.rules.specs.Step.{Answer, answer}
 use Rattle.rules.proofs.LawsEvents.{refusal_length}
-use Rattle.side.specs.declared.tables.Head.{Head}
-use Rattle.side.specs.declared.tables.Step.{Step}
-use Rattle.side.specs.Answers.{answer_of, Left, Stands}
-use Rattle.side.specs.Tables.{book_on}
-use Rattle.side.proofs.tables.LawsAnswers.{head_same, refused_with}
-use Rattle.day.specs.declared.replay.Printed.{Printed}
-use Rattle.day.specs.Feed.{answer_for, printed_step}
-use Rattle.std.specs.Prelude.{Some, None}
+use Rattle.rules.proofs.LawsRefusals.{first_numbered, table_numbered}
+use Rattle.side.specs.Answers.{answer_of}
+use Rattle.side.proofs.tables.LawsAnswers.{refused_with, numbered_back}
+use Rattle.day.specs.Feed.{answer_for}
+
+-- ── The number of a refusal ──
+
+-- refusals whose numbers follow one another, from one on
+abbrev follow : ℕ → List Refusal → Bool
+follow k [] = true
+follow k (r ∷ rs) = eqb (number_of r) k && follow (suc k) rs
+
+number_at : (k n : ℕ) (rs : List Refusal) (refusal : Refusal) → follow k rs ≡ true → slice_get rs n ≡ Some refusal → number_of refusal ≡ k + n
+number_at k n [] refusal f e = let z : ⊥ = cc in absurd z
+number_at k zero (r ∷ rs) refusal f e =
+    let same : r ≡ refusal = cc in
+    let own : number_of r ≡ k = eqb-true (number_of r) k (and_left (eqb (number_of r) k) (follow (suc k) rs) f) in
+    omega (arith, own, ap number_of same)
+number_at k (suc n) (r ∷ rs) refusal f e =
+    omega (arith, number_at (suc k) n rs refusal (and_right (eqb (number_of r) k) (follow (suc k) rs) f) e)
+
+-- a number that gives a refusal is the refusal's own
+own_number : (n : ℕ) (refusal : Refusal) → refusal_numbered n ≡ Some refusal → number_of refusal ≡ n
+own_number zero refusal e = let z : ⊥ = cc in absurd z
+own_number (suc n) refusal e = omega (arith, number_at 1 n in_order refusal refl e)
+
+-- of the table's numbers only 0 gives none
+none_given : (n : ℕ) → n ≤ last_refusal → refusal_numbered n ≡ None → n ≡ 0
+none_given zero l e = refl
+none_given (suc n) l e =
+    let some : slice_get in_order n ≡ Some (get_or in_order n NoRoom) = slice_get-get_or in_order n NoRoom (omega arith) in
+    let z : ⊥ = cc in
+    absurd z
+
+-- so it is where a value is returned, and where a refusal is
+ok_is : (given : Option Refusal) (a m : ℕ) → unless_refused given a ≡ Ok m → (given ≡ None) × (m ≡ a)
+ok_is None a m e = (refl, cc)
+ok_is (Some refusal) a m e = let z : ⊥ = cc in absurd z
+
+err_is : (given : Option Refusal) (a : ℕ) (refusal : Refusal) → unless_refused given a ≡ Err refusal → given ≡ Some refusal
+err_is None a refusal e = let z : ⊥ = cc in absurd z
+err_is (Some given) a refusal e = cc
+
+-- no refusal is numbered 0
+some_number : (refusal : Refusal) → number_of refusal ≢ 0
+some_number refusal e = let z : ⊥ = cc (numbered_back refusal, ap refusal_numbered e) in absurd z
 
 -- ── The answer to a reading ──
 
@@ -46,54 +91,48 @@ refused_as c b e = rw (ne_eqb _ 0 e)
 -- ── What is printed of it ──
 
 -- an answer stands, and its lines are printed, in what a line leaves
-abbrev pub Shown : Printed → List ℕ → List (List ℕ) → List ℕ → List (List ℕ) → List ℕ → List ℕ → Answer → Type 0
-Shown r x t y u out' out a =
-    (r ≡ printed_step a) × (Shows a.book.buys x t × (Shows a.book.sells y u × (out' ≡ onto (printed a) out)))
+abbrev Shown : ℕ → Book → List ℕ → List ℕ → Answer → Type 0
+Shown n b' out' out a = (n ≡ length (printed a)) × (b' ≡ a.book) × (out' ≡ onto (printed a) out)
 
-abbrev leaving : Head → ℕ → Printed
-leaving h n = record { head = h; length = n }
-
-module _ (h : Head) (x : List ℕ) (t : List (List ℕ)) (y : List ℕ) (u : List (List ℕ)) (stands : Stands h x t y u) (r : Reading) (out : List ℕ) where
-  shown_refused : (k n : ℕ) (x' : List ℕ) (t' : List (List ℕ)) (y' : List ℕ) (u' : List (List ℕ)) (out' : List ℕ) (a : Answer) → a ≡ refused_with k (book_on h x t y u) → k ≢ 0 → n ≡ 5
-      → Shows (book_on h x t y u).buys x' t' → Shows (book_on h x t y u).sells y' u' → out' ≡ onto (refusal_line k) out
-      → Shown (leaving h n) x' t' y' u' out' out a
+module _ (b : Book) (r : Reading) (out : List ℕ) where
+  shown_refused : (k n : ℕ) (b' : Book) (out' : List ℕ) (a : Answer) → a ≡ refused_with k b → k ≢ 0 → n ≡ 5 → b' ≡ b
+      → out' ≡ onto (refusal_line k) out → Shown n b' out' out a
   unfolding printed
-  shown_refused k n x' t' y' u' out' a e some five buys sells wrote =
-      rw (e, ne_eqb k 0 some, refusal_length k, five)
-      (ap (λ (g : Head). leaving g 5) (head_same h x t y u), (buys, (sells, wrote)))
+  shown_refused k n b' out' a e some five same wrote = rw (e, ne_eqb k 0 some, refusal_length k) (five, same, wrote)
 
   -- refusal 3
-  pub shown_bad : r ≡ None → (n : ℕ) (out' : List ℕ) → n ≡ 5 → out' ≡ onto (refusal_line 3) out
-      → Shown (leaving h n) x t y u out' out (answer_for (book_on h x t y u) r)
-  shown_bad bad n out' five wrote =
-      shown_refused 3 n x t y u out' _ (answer_bad (book_on h x t y u) r bad) (λ z. omega arith) five (holds_shows h.buys x t stands.buys) (holds_shows h.sells y u stands.sells) wrote
+  pub shown_bad : r ≡ None → (k n : ℕ) (out' : List ℕ) → k ≡ number_of NoCommand → n ≡ 5 → out' ≡ onto (refusal_line k) out
+      → Shown n b out' out (answer_for b r)
+  shown_bad bad k n out' three five wrote =
+      shown_refused k n b out' _ (answer_bad b r bad ∙ ap (λ (x : ℕ). refused_with x b) (sym three)) (λ z. omega (arith, three, z)) five refl wrote
 
-  -- a command, after its step
-  module _ (c : Command) (is : r ≡ Some c) (s : Step) (x' : List ℕ) (t' : List (List ℕ)) (y' : List ℕ) (u' : List (List ℕ)) (out' : List ℕ)
-      (stepped : Left s x' t' y' u' out' out (answer_of c (book_on h x t y u))) where
+  -- a command, after it was applied
+  module _ (c : Command) (is : r ≡ Some c) (applied : Result ℕ Refusal) (b' : Book) (out' : List ℕ)
+      (value : applied ≡ or_refused (length (event_lines (answer_of c b).events)) (answer_of c b).refusal)
+      (book_after : b' ≡ (answer_of c b).book) (out_after : out' ≡ onto (event_lines (answer_of c b).events) out) where
     it : Answer
-    it = answer_of c (book_on h x t y u)
+    it = answer_of c b
 
-    refusal_is : s.refusal ≡ it.refusal
-    unfolding it
-    refusal_is = ap (λ (x : Step). x.refusal) stepped.0
+    -- its refusal is one of the table
+    in_table : it.refusal ≤ last_refusal
+    unfolding it answer
+    in_table = rw (← answer_command b r c is) (first_numbered last_refusal (refusals least_room true b r) (table_numbered least_room true b r))
 
-    pub shown_refusal : s.refusal ≢ 0 → (n : ℕ) (out'' : List ℕ) → n ≡ 5 → out'' ≡ onto (refusal_line s.refusal) out'
-        → Shown (leaving h n) x' t' y' u' out'' out (answer_for (book_on h x t y u) r)
-    unfolding it event_lines
-    shown_refusal some n out'' five wrote =
-        let some' : it.refusal ≢ 0 = λ z. some (refusal_is ∙ z) in
-        let e : it ≡ refused_with it.refusal (book_on h x t y u) = refused_as c (book_on h x t y u) some' in
-        let e' : it ≡ refused_with s.refusal (book_on h x t y u) = e ∙ ap (λ (k : ℕ). refused_with k (book_on h x t y u)) (sym refusal_is) in
-        let same : out' ≡ out = stepped.1.1.1 ∙ ap (λ (a : Answer). onto (event_lines a.events) out) e ∙ sym (onto_none out) in
-        shown_refused s.refusal n x' t' y' u' out'' _ (answer_command (book_on h x t y u) r c is ∙ e') some five
-        (subst (λ (a : Answer). Shows a.book.buys x' t') e stepped.1.0)
-        (subst (λ (a : Answer). Shows a.book.sells y' u') e stepped.1.1.0)
-        (wrote ∙ ap (onto (refusal_line s.refusal)) same)
-
-    pub shown_done : s.refusal ≡ 0 → Shown (leaving s.head s.length) x' t' y' u' out' out (answer_for (book_on h x t y u) r)
+    pub shown_done : (n : ℕ) → applied ≡ Ok n → Shown n b' out' out (answer_for b r)
     unfolding it printed
-    shown_done accepted =
-        let zero : it.refusal ≡ 0 = sym refusal_is ∙ accepted in
-        rw (answer_command (book_on h x t y u) r c is, zero)
-        (ap (λ (x : Step). leaving x.head x.length) stepped.0, stepped.1)
+    shown_done n done =
+        let given = ok_is (refusal_numbered it.refusal) (length (event_lines it.events)) n (sym value ∙ done) in
+        let zero_lem : it.refusal ≡ 0 = none_given it.refusal in_table given.0 in
+        rw (answer_command b r c is, zero_lem) (given.1, book_after, out_after)
+
+    pub shown_refusal : (refusal : Refusal) → applied ≡ Err refusal → (k n : ℕ) (out'' : List ℕ) → k ≡ number_of refusal → n ≡ 5
+        → out'' ≡ onto (refusal_line k) out' → Shown n b' out'' out (answer_for b r)
+    unfolding it event_lines
+    shown_refusal refusal refused k n out'' number five wrote =
+        let given = err_is (refusal_numbered it.refusal) (length (event_lines it.events)) refusal (sym value ∙ refused) in
+        let k_is : k ≡ it.refusal = number ∙ own_number it.refusal refusal given in
+        let some : k ≢ 0 = λ z. some_number refusal (sym number ∙ z) in
+        let e : it ≡ refused_with k b = rw k_is (refused_as c b (λ z. some (k_is ∙ z))) in
+        let same : out' ≡ out = out_after ∙ ap (λ (a : Answer). onto (event_lines a.events) out) e ∙ sym (onto_none out) in
+        shown_refused k n b' out'' _ (answer_command b r c is ∙ e) some five (book_after ∙ ap (λ (a : Answer). a.book) e)
+        (wrote ∙ ap (onto (refusal_line k)) same)

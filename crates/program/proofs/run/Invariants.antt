@@ -1,12 +1,7 @@
--- `program::run`: what its loop keeps, and its measure.
+-- `program::run`: what its loop keeps.
 use Prim.Native.Nat.{◌≤◌}
 use lib.ListN.{length}
-use Rattle.side.specs.Answers.{Stands}
 use Rattle.program.proofs.run.Given as goal
 
--- the book stands from turn to turn
-abbrev pub invariant-loop-turns : goal.invariant-loop-turns
-invariant-loop-turns g l = Stands l.head l.x l.buys l.y l.sells × (l.have ≤ length l.input)
-
-abbrev pub decreases-loop-turns : goal.decreases-loop-turns
-decreases-loop-turns g l = l.turns
+abbrev pub invariant-loop : goal.invariant-loop
+invariant-loop g l = l.have ≤ length l.input

@@ -23,10 +23,14 @@ some_part (b ∷ part) n = refl
 pub returns-then-part-eq0 : goal.returns-then-part-eq0
 returns-then-part-eq0 c =
     let a = c.args in
-    rw (no_part a.part.now c.if-part-eq0.true) (record { value = refl; out_after = onto_none a.out.now })
+    rw (no_part a.part.now c.if-part-eq0.true) (record { value = refl; fits = omega arith; out_after = onto_none a.out.now })
 
 pub returns : goal.returns
 returns c =
     let a = c.args in
     let w = c.write_refusal in
-    rw (some_part a.part.now c.if-part-eq0.false) (record { value = w.ensures.value ∙ sym (refusal_length 3); out_after = w.ensures.out_after })
+    rw (some_part a.part.now c.if-part-eq0.false) (record {
+      value = w.ensures.value ∙ sym (refusal_length 3);
+      fits = omega (arith, w.ensures.value, w.auto.out, c.requires);
+      out_after = rw c.from.ensures at w.ensures.out_after;
+    })

@@ -1,28 +1,17 @@
 -- `day::night::take_turn` meets its contract. Assumes nothing.
 use Prim.Native.Nat.{◌-◌}
 use mathlib.Core.Bool.{Bool, true, false}
-use mathlib.Core.Path.{◌≡◌, sym}
+use mathlib.Core.Path.{◌≡◌}
 use lib.Dec.{ltb}
 use lib.ListN.{length}
-use lib.Seq.{length-take-le}
-use native.Mathlib.Omega.{arith}
 use borrow.Author.Tests.{lt-ltb, le-ltb}
 use Rattle.std.specs.Prelude.{if◌then◌else◌}
 use Rattle.command_lines.specs.Pieces.{part_kept}
 use Rattle.rules.specs.Refusals.{least_room}
-use Rattle.side.specs.Tables.{book_on}
 use Rattle.day.specs.Turns.{turned}
 use Rattle.day.proofs.night.LawsTurn.{turn_is}
 use Rattle.day.proofs.night.take_turn.Goals as goal
 use Rattle.day.proofs.night.take_turn.Goals.{then-is_short, else-is_short}
-
-pub slice_bounds-feed-end-2 : goal.slice_bounds-feed-end-2
-slice_bounds-feed-end-2 c = sym (length-take-le c.args.have c.args.input.now c.requires.1)
-
-pub carry-left-requires : goal.carry-left-requires
-carry-left-requires c =
-    let long = length-take-le c.args.have c.args.input.now c.requires.1 in
-    (omega (arith, long, c.feed-fed.ensures.1.1.1.1.0.0), c.requires.1)
 
 pub returns : goal.returns
 unfolding turned
@@ -31,7 +20,6 @@ returns c =
     let f = c.feed-fed in
     let k = c.carry-left in
     let j = c.if-is_short in
-    let b = book_on a.h a.x.now a.buys.now a.y.now a.sells.now in
     let room = length a.out.now in
     let long : length f.new.out ≡ room = f.auto.out in
     let is_short : Bool = ltb (room - f.result.length) least_room in
@@ -41,6 +29,6 @@ returns c =
       | else-is_short w ↦ (let t : is_short ≡ false = rw long at (le-ltb _ _ w.if-is_short.false) in rw t w.most-is)
     ] in
     let (turn, input, left) =
-    turn_is room b a.input.now a.have f.result f.ensures.0 j.most most k.result k.new.input k.ensures.value k.ensures.input_after in
-    let (_, (buys, (sells, (out, ((_, printed), stands))))) = f.ensures in
-    (rw long turn, (buys, (sells, (input, (out, (stands, left, printed))))))
+    turn_is room a.book.now a.input.now a.have f.result f.ensures.0 j.most most k.result k.new.input k.ensures.value k.ensures.input_after in
+    let (_, book, out, _, printed) = f.ensures in
+    (rw long turn, book, input, out, left, printed)

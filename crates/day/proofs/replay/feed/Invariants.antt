@@ -1,12 +1,11 @@
 -- `day::replay::feed`: what its loop keeps, and its measure.
 use Prim.Native.Nat.{◌-◌}
 use lib.ListN.{length}
-use Rattle.side.specs.Tables.{book_on}
 use Rattle.day.proofs.replay.LawsFeed.{Feeding}
 use Rattle.day.proofs.replay.feed.Given as goal
 
 abbrev pub invariant-loop-out : goal.invariant-loop-out
-invariant-loop-out l = Feeding l.input l.initial.out (book_on l.initial.head l.initial.x l.initial.buys l.initial.y l.initial.sells) l.x l.buys l.y l.sells l.out l.head l.at l.length
+invariant-loop-out l = Feeding l.input l.initial.out l.initial.book l.book l.out l.at l.length
 
 abbrev pub decreases-loop-out : goal.decreases-loop-out
 decreases-loop-out l = length l.input - l.at

@@ -1,6 +1,5 @@
--- `day::replay::print_line` meets its contract: a line that is no command is refused with 3, and a command prints the lines of its step
--- or of its refusal. Assumes nothing.
-use native.Mathlib.Omega.{arith}
+-- `day::replay::print_line` meets its contract: a line that is no command is refused with 3, and a command prints the lines that it tells
+-- or the line of its refusal. Assumes nothing.
 use Rattle.day.proofs.replay.LawsPrinted.{shown_bad, shown_refusal, shown_done}
 use Rattle.day.proofs.replay.print_line.Goals as goal
 
@@ -8,29 +7,24 @@ use Rattle.day.proofs.replay.print_line.Goals as goal
 pub returns-in_default : goal.returns-in_default
 returns-in_default c =
     let a = c.args in
-    let w = c.write_refusal-length in
-    shown_bad a.h a.x.now a.buys.now a.y.now a.sells.now c.requires.0 a.reading a.out.now c.in_default.is
-    w.result w.new.out w.ensures.value w.ensures.out_after
-
-pub apply-step-requires : goal.apply-step-requires
-apply-step-requires c = c.requires
+    let w = c.write_refusal in
+    shown_bad a.book.now a.reading a.out.now c.in_default.is c.from.result w.result w.new.out c.from.ensures w.ensures.value w.ensures.out_after
 
 -- an accepted command
-pub returns-then-step-eq0 : goal.returns-then-step-eq0
-returns-then-step-eq0 c =
+pub returns-in-Ok : goal.returns-in-Ok
+returns-in-Ok c =
     let a = c.args in
-    let s = c.apply-step in
-    shown_done a.h a.x.now a.buys.now a.y.now a.sells.now c.requires.0 a.reading a.out.now _ c.in-Some.is
-    s.result _ _ _ _ _ s.ensures (omega (arith, c.if-step-eq0.true))
-
-pub write_refusal-length-requires-2 : goal.write_refusal-length-requires-2
-write_refusal-length-requires-2 c = omega (arith, c.apply-step.auto.out, c.requires.1)
+    let p = c.apply in
+    shown_done a.book.now a.reading a.out.now c.in-Some.c c.in-Some.is p.result p.new.book p.new.out
+    p.ensures.value p.ensures.book_after p.ensures.out_after c.in-Ok.length c.in-Ok.is
 
 -- a refused command
-pub returns : goal.returns
-returns c =
+pub returns-in-Err : goal.returns-in-Err
+returns-in-Err c =
     let a = c.args in
-    let s = c.apply-step in
-    let w = c.write_refusal-length-2 in
-    shown_refusal a.h a.x.now a.buys.now a.y.now a.sells.now c.requires.0 a.reading a.out.now _ c.in-Some.is
-    s.result _ _ _ _ _ s.ensures (λ z. omega (arith, z, c.if-step-eq0.false)) w.result w.new.out w.ensures.value w.ensures.out_after
+    let p = c.apply in
+    let k = c.from-in-Err in
+    let w = c.write_refusal-in-Err in
+    shown_refusal a.book.now a.reading a.out.now c.in-Some.c c.in-Some.is p.result p.new.book p.new.out
+    p.ensures.value p.ensures.book_after p.ensures.out_after c.in-Err.refusal c.in-Err.is
+    k.result w.result w.new.out k.ensures w.ensures.value w.ensures.out_after
