@@ -86,6 +86,7 @@ pub fn carry(input: &mut [u8], from: usize, end: usize, most: usize) -> usize
 }
 
 // What a read leaves behind the bytes that stood in a buffer: it failed, or the input has ended, or bytes stand up to a place.
+// An enum of its own, and of every `isize`: `after_read_says` of `promises` speaks of both.
 #[derive(Clone, Copy)]
 pub enum Read {
     Failed,

@@ -42,8 +42,16 @@ impl fmt::Display for Stop {
             Stop::BadLine(NoEvent::Short) => write!(f, "short"),
             Stop::BadLine(NoEvent::TrailingBytes) => write!(f, "trailing bytes"),
             Stop::BadLine(NoEvent::BadDigitOrEnding) => write!(f, "bad digit or ending"),
-            Stop::ExecutedPasses => write!(f, "the sum of executed shares passes {}", kinds::LARGEST),
-            Stop::CancelledPasses => write!(f, "the sum of cancelled shares passes {}", kinds::LARGEST),
+            Stop::ExecutedPasses => write!(
+                f,
+                "the sum of executed shares passes {}",
+                kinds::LARGEST
+            ),
+            Stop::CancelledPasses => write!(
+                f,
+                "the sum of cancelled shares passes {}",
+                kinds::LARGEST
+            ),
         }
     }
 }
@@ -184,7 +192,7 @@ pub fn take_line(t: Tally, number: Number, line: &[u8]) -> Tally
 
 // ── A piece ──
 
-// The whole lines of a piece, of any bytes, one after the other.
+// The whole lines of a piece, of any bytes, one after the other. The loop keeps its place, since how far it came is a part of the answer.
 pub fn feed(t: Tally, number: Number, input: &[u8]) -> TalliedPiece
     ensures { result ≡ fed_on number t input.now }
 {
