@@ -20,7 +20,7 @@ use Rattle.rules.specs.declared.Order.{Order}
 use Rattle.rules.specs.declared.Resting.{Resting}
 use Rattle.rules.specs.Book.{places_a_side}
 use Rattle.rules.specs.EventLines.{event_lines}
-use Rattle.rules.specs.Refusals.{is_rest, least_room}
+use Rattle.rules.specs.Refusals.{least_room}
 use Rattle.rules.specs.Holdings.{holdings, executions, after}
 use Rattle.rules.specs.Settling.{first_move, told, settled_side}
 use Rattle.rules.specs.Working.{buying, Met, execution_price, takings, ending, last_line, refill_fate}
@@ -33,7 +33,6 @@ use Rattle.orders.specs.Locks.{locked_price, executes_at}
 use Rattle.orders.specs.Matching.{is_full, rests_below, Ready}
 use Rattle.orders.specs.Refills.{MayRefill}
 use Rattle.orders.specs.Reports.{execution_of}
-use Rattle.orders.specs.Walk.{is_below}
 use Rattle.orders.specs.Walking.{met_with, Walkable, walk_bound, walk_for, takings_for, takings_by, Walks, ending_by_best}
 use Rattle.orders.proofs.fills.LawsTakenOff.{all_keep, after_long}
 use Rattle.orders.proofs.matching.LawsMatched.{ending_below, refused, ended_is, may_refill}
