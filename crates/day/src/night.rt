@@ -45,7 +45,7 @@ pub fn take_turn(
     let left = lines::carry(input, fed.at, have, most);
     Turn {
         have: left,
-        length: length,
+        length,
         reads: !is_short,
     }
 }

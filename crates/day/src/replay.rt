@@ -20,7 +20,7 @@ pub struct Fed {
     pub length: usize,
 }
 
-// A fresh book.
+// A fresh book. `book::Book::fresh` has the same header, by value: one for both would be a constant of its own, and no plainer.
 pub fn begin() -> SoundBook
     ensures { result ≡ fresh }
 {
@@ -31,11 +31,11 @@ pub fn begin() -> SoundBook
     let held = Held {
         last: Number(0),
         time: judge::OPENING,
-        away: away,
+        away,
         closed: false,
     };
     SoundBook {
-        held: held,
+        held,
         buys: Table::empty(),
         sells: Table::empty(),
     }
@@ -82,8 +82,5 @@ pub fn feed(book: &mut SoundBook, input: &[u8], took: &mut Takings, out: &mut [u
         length += printed;
         at += line.digits + 1;
     }
-    Fed {
-        at: at,
-        length: length,
-    }
+    Fed { at, length }
 }

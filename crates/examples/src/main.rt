@@ -67,7 +67,7 @@ fn copy_on(day: &[u8], at: usize, input: &mut [u8], have: usize, reads: bool) ->
     n
 }
 
-// Writes what a turn handed over.
+// Writes what a turn handed over. This and `end_day` are those of `program`: a crate for the two would be no plainer.
 fn hand_over(to: &mut impl io::Write, bytes: &[u8]) -> Result<()> {
     to.write_all(bytes)
         .context("yarvotem: writing standard output")

@@ -6,17 +6,16 @@ use mathlib.Core.List.{List, [], ◌∷◌}
 use mathlib.Core.Logic.{◌≢◌}
 use mathlib.Core.Path.{◌≡◌, refl, sym, ap, ◌∙◌}
 use lib.Dec.{eqb}
-use lib.ListN.{length, get_or}
+use lib.ListN.{length}
 use native.Mathlib.Omega.{arith}
 use borrow.Author.Tests.{eqb-true, ne_eqb}
-use Rattle.std.proofs.lemmas.Option.{slice_get-get_or}
 use Rattle.std.specs.Prelude.{Option, Some, None, Result, Ok, Err, slice_get}
 use Rattle.basics.specs.Bytes.{onto}
 use Rattle.basics.proofs.LawsBytes.{onto_none}
 use Rattle.basics.proofs.LawsChoice.{and_left, and_right}
 use Rattle.rules.specs.declared.Command.{Command}
 use Rattle.rules.specs.declared.Refusal.{Refusal}
-use Rattle.rules.specs.declared.Refusal.TheVariants.{NoRoom, NoCommand}
+use Rattle.rules.specs.declared.Refusal.TheVariants.{NoCommand}
 use Rattle.rules.specs.CommandLines.{Reading}
 use Rattle.rules.specs.Book.{Book}
 use Rattle.rules.specs.Day.{printed}
@@ -26,8 +25,9 @@ use Rattle.rules.specs.Refusing.{number_of, in_order, refusal_numbered, unless_r
 use Rattle.rules.specs.Step.{Answer, answer}
 use Rattle.rules.proofs.LawsEvents.{refusal_length}
 use Rattle.rules.proofs.LawsRefusals.{first_numbered, table_numbered}
+use Rattle.rules.proofs.LawsRefusing.{passed_zero, refused_above}
 use Rattle.side.specs.Answers.{answer_of}
-use Rattle.side.proofs.tables.LawsAnswers.{refused_with, numbered_back}
+use Rattle.side.proofs.tables.LawsAnswers.{refused_with}
 use Rattle.day.specs.Feed.{answer_for}
 
 -- ── The number of a refusal ──
@@ -51,26 +51,9 @@ own_number : (n : ℕ) (refusal : Refusal) → refusal_numbered n ≡ Some refus
 own_number zero refusal e = let z : ⊥ = cc in absurd z
 own_number (suc n) refusal e = omega (arith, number_at 1 n in_order refusal refl e)
 
--- of the table's numbers only 0 gives none
-none_given : (n : ℕ) → n ≤ last_refusal → refusal_numbered n ≡ None → n ≡ 0
-none_given zero l e = refl
-none_given (suc n) l e =
-    let some : slice_get in_order n ≡ Some (get_or in_order n NoRoom) = slice_get-get_or in_order n NoRoom (omega arith) in
-    let z : ⊥ = cc in
-    absurd z
-
--- so it is where a value is returned, and where a refusal is
-ok_is : (given : Option Refusal) (a m : ℕ) → unless_refused given a ≡ Ok m → (given ≡ None) × (m ≡ a)
-ok_is None a m e = (refl, cc)
-ok_is (Some refusal) a m e = let z : ⊥ = cc in absurd z
-
 err_is : (given : Option Refusal) (a : ℕ) (refusal : Refusal) → unless_refused given a ≡ Err refusal → given ≡ Some refusal
 err_is None a refusal e = let z : ⊥ = cc in absurd z
 err_is (Some given) a refusal e = cc
-
--- no refusal is numbered 0
-some_number : (refusal : Refusal) → number_of refusal ≢ 0
-some_number refusal e = let z : ⊥ = cc (numbered_back refusal, ap refusal_numbered e) in absurd z
 
 -- ── The answer to a reading ──
 
@@ -121,17 +104,21 @@ module _ (b : Book) (r : Reading) (out : List ℕ) where
     pub shown_done : (n : ℕ) → applied ≡ Ok n → Shown n b' out' out (answer_for b r)
     unfolding it printed
     shown_done n done =
-        let given = ok_is (refusal_numbered it.refusal) (length (event_lines it.events)) n (sym value ∙ done) in
-        let zero_lem : it.refusal ≡ 0 = none_given it.refusal in_table given.0 in
-        rw (answer_command b r c is, zero_lem) (given.1, book_after, out_after)
+        let answered = sym value ∙ done in
+        let zero_lem : it.refusal ≡ 0 = passed_zero (length (event_lines it.events)) n it.refusal in_table answered in
+        let passed = rw zero_lem at answered in
+        let long : n ≡ length (event_lines it.events) = cc in
+        rw (answer_command b r c is, zero_lem) (long, book_after, out_after)
 
     pub shown_refusal : (refusal : Refusal) → applied ≡ Err refusal → (k n : ℕ) (out'' : List ℕ) → k ≡ number_of refusal → n ≡ 5
         → out'' ≡ onto (refusal_line k) out' → Shown n b' out'' out (answer_for b r)
     unfolding it event_lines
     shown_refusal refusal refused k n out'' number five wrote =
-        let given = err_is (refusal_numbered it.refusal) (length (event_lines it.events)) refusal (sym value ∙ refused) in
+        let answered = sym value ∙ refused in
+        let given = err_is (refusal_numbered it.refusal) (length (event_lines it.events)) refusal answered in
         let k_is : k ≡ it.refusal = number ∙ own_number it.refusal refusal given in
-        let some : k ≢ 0 = λ z. some_number refusal (sym number ∙ z) in
+        let above = refused_above (length (event_lines it.events)) it.refusal refusal answered in
+        let some : k ≢ 0 = λ z. omega (arith, k_is, above, z) in
         let e : it ≡ refused_with k b = rw k_is (refused_as c b (λ z. some (k_is ∙ z))) in
         let same : out' ≡ out = out_after ∙ ap (λ (a : Answer). onto (event_lines a.events) out) e ∙ sym (onto_none out) in
         shown_refused k n b' out'' _ (answer_command b r c is ∙ e) some five (book_after ∙ ap (λ (a : Answer). a.book) e)
