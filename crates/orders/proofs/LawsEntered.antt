@@ -4,9 +4,8 @@ use Prim.Native.Nat.{ℕ}
 use mathlib.Core.Bool.{Bool, true, false}
 use mathlib.Core.List.{List, []}
 use mathlib.Core.Logic.{⊎_elim}
-use mathlib.Core.Path.{◌≡◌, refl, ap, subst, ◌∙◌}
+use mathlib.Core.Path.{◌≡◌, ◌∙◌}
 use native.Mathlib.Omega.{arith}
-use Rattle.basics.specs.Bytes.{onto}
 use Rattle.std.specs.Prelude.{if◌then◌else◌, Result}
 use Rattle.basics.proofs.LawsChoice.{holds_or_not}
 use Rattle.kinds.specs.declared.Number.{Number}
@@ -16,9 +15,7 @@ use Rattle.rules.specs.declared.Order.{Order}
 use Rattle.rules.specs.declared.Refusal.{Refusal}
 use Rattle.rules.specs.declared.Resting.{Resting}
 use Rattle.rules.specs.Book.{Book}
-use Rattle.rules.specs.EventLines.{event_lines}
 use Rattle.rules.specs.Refusals.{first_of, body_refusals, order_lawful, order_in_range, rests_on_full_side}
-use Rattle.rules.specs.Step.{Answer}
 use Rattle.rules.specs.Commands.{with_accepted, carried_out, does}
 use Rattle.rules.specs.Settling.{own_side, opposite_side}
 use Rattle.rules.proofs.LawsCommands.{order_does}

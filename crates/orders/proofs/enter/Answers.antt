@@ -7,7 +7,6 @@ use Rattle.rules.specs.declared.Refusal.TheVariants.{UnlawfulWord, OutOfRange}
 use Rattle.rules.specs.Book.{Book}
 use Rattle.rules.specs.Instructions.{displayed, reserve, has, needs as needs_of, lawful}
 use Rattle.rules.specs.Refusals.{carries_floor, carries_minimum, order_lawful, order_in_range}
-use Rattle.rules.specs.Working.{buying}
 use Rattle.side.proofs.tables.LawsAnswers.{left_refused}
 use Rattle.orders.proofs.LawsEntered.{unlawful, out_of_range, left_entered}
 use Rattle.orders.proofs.LawsReady.{ready}

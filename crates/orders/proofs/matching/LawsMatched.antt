@@ -1,20 +1,18 @@
 -- What an order's walk takes and what becomes of the order together are 01's match. Assumes nothing.
-use Prim.Native.Nat.{ℕ, zero, suc, ◌+◌, ◌-◌, ◌≤◌, ◌<◌}
-use mathlib.Core.Bool.{Bool, true, false, not, ◌&&◌, ◌||◌, true≢false}
+use Prim.Native.Nat.{ℕ, zero, suc, ◌-◌, ◌≤◌, ◌<◌}
+use mathlib.Core.Bool.{Bool, true, false, not, ◌&&◌, ◌||◌}
 use mathlib.Core.List.{List, [], ◌∷◌, ◌++◌}
 use mathlib.Core.Logic.{⊎_elim}
-use mathlib.Core.Path.{◌≡◌, refl, sym, ap, subst, ◌∙◌}
+use mathlib.Core.Path.{◌≡◌, sym, ap, subst, ◌∙◌}
 use lib.Dec.{eqb}
 use lib.ListN.{length, drop}
 use native.Mathlib.Omega.{arith}
-use borrow.Author.Tests.{le-leb, lt-leb}
 use Rattle.std.specs.Prelude.{if◌then◌else◌}
 use Rattle.basics.proofs.LawsChoice.{holds_or_not}
 use Rattle.kinds.specs.declared.HalfCents.{HalfCents}
 use Rattle.kinds.specs.declared.Number.{Number}
 use Rattle.kinds.specs.Kinds.{resting_price_in_range}
 use Rattle.kinds.proofs.LawsRanges.{resting_highest}
-use Rattle.side.proofs.places.LawsPlaced.{length_insert}
 use Rattle.rules.specs.declared.Away.{Away}
 use Rattle.rules.specs.declared.Ending.{Ending}
 use Rattle.rules.specs.declared.Ending.TheVariants.{Filled, Rests, Cancels}
@@ -33,8 +31,7 @@ use Rattle.orders.specs.Walk.{is_below}
 use Rattle.orders.specs.Walking.{Workable, rests_unless_best_meets, unless_best_meets, ending_by_best}
 use Rattle.orders.proofs.fills.LawsTakenOff.{all_keep, after_unreached}
 use Rattle.rules.specs.Instructions.{ioc, fok, displayed, cancel_back, post_only, iso, has}
-use Rattle.rules.specs.Refusals.{is_rest}
-use Rattle.rules.specs.Working.{buying, limit_of, locking_price, Met, execution_price, absent, beyond, one_cent_less_aggressive, reaches, meets_or_passes, adjusted, seeks, takings, remainder, ending, last_line, remainder_of, with_remainder, refill_fate}
+use Rattle.rules.specs.Working.{buying, limit_of, locking_price, Met, execution_price, absent, beyond, one_cent_less_aggressive, reaches, meets_or_passes, adjusted, seeks, takings, remainder, ending, last_line, with_remainder, refill_fate}
 use Rattle.rules.specs.Holdings.{holdings, executions, after}
 use Rattle.rules.specs.Settling.{first_move, told, settled_side}
 use Rattle.side.specs.Looking.{price_bound}

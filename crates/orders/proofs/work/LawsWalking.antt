@@ -1,6 +1,6 @@
 -- The walk of an order as it is made, over the parts that a cursor gives, with one bound for limit and away price and with Post Only and
 -- Fill-or-Kill told by what is left, takes what 01 takes. Assumes nothing.
-use Prim.Native.Nat.{ℕ, ◌*◌, ◌-◌, ◌≤◌, ◌<◌}
+use Prim.Native.Nat.{ℕ, ◌*◌, ◌-◌, ◌≤◌}
 use mathlib.Core.Bool.{Bool, true, false, not}
 use mathlib.Core.List.{List, [], ◌∷◌, map}
 use mathlib.Core.Logic.{⊎_elim}
@@ -22,9 +22,7 @@ use Rattle.rules.specs.Working.{buying, least_of, Met, half_a_cent_the_incoming_
 use Rattle.rules.proofs.LawsBest.{HoldingsBest, ranked_best, holdings_best}
 use Rattle.rules.proofs.LawsTakings.{nothing_total, walk_at_most}
 use Rattle.orders.specs.Locks.{locked_price, executes_at}
-use Rattle.orders.specs.declared.walk.Walked.{Walked}
 use Rattle.orders.specs.declared.cursor.Part.{Part}
-use Rattle.orders.specs.declared.takings.Taking.{Taking}
 use Rattle.orders.specs.Cursor.{parts, Placed, part_of, placed_from}
 use Rattle.orders.specs.Walk.{is_within, part_is_skipped, part_gives, takings_from, takings_of}
 use Rattle.orders.specs.Walking.{Walkable, untouched, bound_walk, is_idle, walk_for, takings_for, walk_bound, takings_by, Walks}

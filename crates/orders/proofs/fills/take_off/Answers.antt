@@ -1,5 +1,4 @@
 -- `orders::fills::take_off` meets its contract: the takings are taken off the orders, then those leave that have nothing left. Assumes nothing.
-use Prim.Native.Nat.{ℕ}
 use mathlib.Core.List.{List}
 use mathlib.Core.Path.{◌≡◌, sym, ap, ◌∙◌}
 use lib.ListN.{length, get_or, take}

@@ -1,11 +1,9 @@
 -- `orders::matching::finish` meets its contract: the order's last line, and behind it those of the refills. Assumes nothing.
 use Prim.Native.Nat.{ℕ, ◌+◌, ◌-◌, ◌*◌, ◌≤◌}
-use mathlib.Core.List.{List, ◌++◌}
-use mathlib.Core.Path.{◌≡◌}
+use mathlib.Core.List.{List}
 use lib.ListN.{length, take, drop, length-take, length-drop, length-append}
 use native.Mathlib.Omega.{arith}
 use Rattle.rules.specs.declared.Event.{Event}
-use Rattle.rules.specs.EventLines.{event_lines}
 use Rattle.rules.specs.Settling.{told}
 use Rattle.rules.specs.Working.{last_line, refill_fate}
 use Rattle.rules.proofs.LawsEvents.{event_lines_append, lines_behind, last_long, told_long}

@@ -20,7 +20,7 @@ use Rattle.rules.specs.declared.Order.{Order}
 use Rattle.rules.specs.declared.Resting.{Resting}
 use Rattle.rules.specs.Book.{places_a_side}
 use Rattle.rules.specs.EventLines.{event_lines}
-use Rattle.rules.specs.Refusals.{is_rest, least_room}
+use Rattle.rules.specs.Refusals.{least_room}
 use Rattle.rules.specs.Holdings.{holdings, executions, after}
 use Rattle.rules.specs.Settling.{first_move, told, settled_side}
 use Rattle.rules.specs.Working.{buying, Met, execution_price, takings, ending, last_line, refill_fate}
@@ -33,7 +33,6 @@ use Rattle.orders.specs.Locks.{locked_price, executes_at}
 use Rattle.orders.specs.Matching.{is_full, rests_below, Ready}
 use Rattle.orders.specs.Refills.{MayRefill}
 use Rattle.orders.specs.Reports.{execution_of}
-use Rattle.orders.specs.Walk.{is_below}
 use Rattle.orders.specs.Walking.{met_with, Walkable, walk_bound, walk_for, takings_for, takings_by, Walks, ending_by_best}
 use Rattle.orders.proofs.fills.LawsTakenOff.{all_keep, after_long}
 use Rattle.orders.proofs.matching.LawsMatched.{ending_below, refused, ended_is, may_refill}
@@ -55,7 +54,6 @@ record Known : Type 0 where
   pub bound : HalfCents
   pub walk : Walked
   pub took : List Taking
-  pub kept : ℕ
   pub end : Ending
   pub fits : length opposite ≤ places_a_side
   -- the limit and the Locking Price are numbers that four bytes hold
@@ -64,9 +62,8 @@ record Known : Type 0 where
   pub bound_is : bound ≡ bound_under (buying o) locked (bound_of o away)
   pub walk_is : walk ≡ walk_for o bound opposite
   pub took_is : took ≡ takings_for o bound opposite
-  -- the rank of the best of those that the walk leaves
-  pub kept_is : kept ≡ min walk.skipped walk.at
-  pub end_is : end ≡ ending_by_best walk.left.0 o away locked (drop kept opposite)
+  -- at the rank of the best of those that the walk leaves
+  pub end_is : end ≡ ending_by_best walk.left.0 o away locked (drop (min walk.skipped walk.at) opposite)
 
 abbrev known : After-ending_of-end → Known
 known c =
@@ -81,7 +78,6 @@ known c =
       bound = c.bound_under-bound.result;
       walk = c.walk_of-w.result;
       took = c.walk_of-w.new.took;
-      kept = c.min-kept.result;
       end = c.ending_of-end.result;
       fits = c.len.ensures.fits;
       walkable = c.requires.ready.walkable;
@@ -89,8 +85,7 @@ known c =
       bound_is = c.bound_under-bound.ensures;
       walk_is = c.walk_of-w.ensures.value;
       took_is = c.walk_of-w.ensures.took_after;
-      kept_is = c.min-kept.ensures;
-      end_is = c.ending_of-end.ensures;
+      end_is = cc;
     }
 
 -- of the walk and the ending
@@ -110,11 +105,14 @@ module _ (k : Known) where
   walks : Walks k.o met k.walk k.took
   walks = rw (walk_for_lem, took_for) (walks_bound k.o met k.walkable)
 
-  kept_best : k.kept ≡ best_left k.o met
-  kept_best = k.kept_is ∙ ap (λ (w : Walked). min w.skipped w.at) walk_for_lem
+  abbrev kept : ℕ
+  kept = min k.walk.skipped k.walk.at
 
-  ends_by_best : k.end ≡ ending_by_best k.walk.left.0 k.o k.away (locked_price k.own) (drop k.kept k.opposite)
-  ends_by_best = k.end_is ∙ ap (λ (p : HalfCents). ending_by_best k.walk.left.0 k.o k.away p (drop k.kept k.opposite)) k.locked_is
+  kept_best : kept ≡ best_left k.o met
+  kept_best = ap (λ (w : Walked). min w.skipped w.at) walk_for_lem
+
+  ends_by_best : k.end ≡ ending_by_best k.walk.left.0 k.o k.away (locked_price k.own) (drop kept k.opposite)
+  ends_by_best = k.end_is ∙ ap (λ (p : HalfCents). ending_by_best k.walk.left.0 k.o k.away p (drop kept k.opposite)) k.locked_is
 
   ends : k.end ≡ ending k.o met
   ends =
@@ -227,7 +225,7 @@ finish-more-requires-clause-may_rest c =
     let k = known (goal.at.finish-more-requires-clause-may_rest c).After-ending_of-end in
     let ready = c.requires.ready in
     record {
-      priced = subst rests_below (sym (ends_by_best k)) (ending_below k.o k.away k.walkable.limited k.walk.left.0 (locked_price k.own) (drop k.kept k.opposite));
+      priced = subst rests_below (sym (ends_by_best k)) (ending_below k.o k.away k.walkable.limited k.walk.left.0 (locked_price k.own) (drop (kept k) k.opposite));
       ranked = ready.own_ranked;
       older = ready.older;
     }

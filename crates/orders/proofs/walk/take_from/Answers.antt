@@ -1,5 +1,5 @@
 -- `orders::walk::take_from` meets its contract. Assumes nothing.
-use mathlib.Core.List.{[], append-nil}
+use mathlib.Core.List.{append-nil}
 use mathlib.Core.Path.{◌≡◌, sym, ap, ◌∙◌}
 use Rattle.kinds.specs.declared.Shares.{Shares}
 use Rattle.orders.specs.Walk.{part_gives}

@@ -1,18 +1,13 @@
 -- `orders::work::rest_unless_meets` meets its contract: the tests come in the definition's order. Assumes nothing.
 use Prim.Native.Nat.{ℕ, zero, suc}
-use mathlib.Core.Bool.{true, false, not, ◌&&◌}
 use mathlib.Core.List.{List, [], ◌∷◌}
 use mathlib.Core.Path.{◌≡◌, refl, sym, ap, ◌∙◌}
-use lib.Dec.{eqb}
 use lib.ListN.{drop}
 use Rattle.std.specs.List.{slice_get}
 use Rattle.std.specs.Prelude.{Some, None}
 use Rattle.std.proofs.lemmas.Grind.{common_steps}
 use native.Mathlib.Omega.{arith}
 use Rattle.rules.specs.declared.Resting.{Resting}
-use Rattle.rules.specs.Instructions.{has, post_only}
-use Rattle.rules.specs.Working.{buying, reaches, meets_or_passes}
-use Rattle.rules.proofs.LawsRank.{reaches_is}
 use Rattle.orders.specs.Walking.{rests_unless_best_meets}
 use Rattle.orders.proofs.work.rest_unless_meets.Goals as goal
 use Rattle.orders.proofs.work.rest_unless_meets.Goals.{In-Some}
