@@ -3,10 +3,11 @@ use Rattle.std.specs.Prelude.{ℕ, List, get_or, Option, Some, None}
 use Rattle.kinds.specs.declared.Number.{Number}
 use Rattle.rules.specs.declared.Event.{Event}
 use Rattle.rules.specs.declared.Event.TheVariants.{Cancelled}
+use Rattle.rules.specs.declared.Reason.TheVariants.{ByCommand}
 use Rattle.rules.specs.declared.Resting.{Resting}
 use Rattle.kinds.specs.Kinds.{shares}
 use Rattle.rules.specs.Book.{unused, shares_left}
-use Rattle.rules.specs.EventLines.{by_command}
+use Rattle.rules.specs.Reasons.{number_of_reason}
 use Rattle.side.specs.Looking.{rank_of}
 use Rattle.commands.specs.declared.cancels.Found.{Found}
 use Rattle.commands.specs.declared.cancels.Found.TheVariants.{AmongBuys, AmongSells}
@@ -25,4 +26,4 @@ where_is of buys sells = among_both (rank_of of buys) (rank_of of sells)
 
 -- the line of the order at a rank
 abbrev pub off_line : ℕ → List Resting → Event
-off_line at s = let h = get_or s at unused in Cancelled h.number (shares (shares_left h)) by_command
+off_line at s = let h = get_or s at unused in Cancelled h.number (shares (shares_left h)) (number_of_reason ByCommand)

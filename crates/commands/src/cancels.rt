@@ -11,7 +11,7 @@ ghost use Rattle.commands.specs.Sides.{AreSound, Cancels};
 
 use event_lines::writer;
 use kinds::Number;
-use rules::Refusal;
+use rules::{Reason, Refusal};
 use side::rows;
 use side::table::Table;
 
@@ -61,7 +61,7 @@ fn take_off(t: &mut Table, rank: usize, out: &mut [u8]) -> usize
     let o = t.at(rank);
     let left = rows::shares_left(o);
     t.remove(rank);
-    writer::write_cancelled(out, o.number, left, 1)
+    writer::write_cancelled(out, o.number, left, u8::from(Reason::ByCommand))
 }
 
 pub(crate) fn cancel(

@@ -17,20 +17,20 @@ ghost use Rattle.commands.specs.Sides.{AreSound, Closes, held_after};
 
 use orders::reports;
 use orders::takings::Takings;
-use rules::{Body, Command, Held, Refusal};
+use rules::{Body, Command, Held, Reason, Refusal};
 use side::table::Table;
 use side::tables::SoundBook;
 
 // ── A close ──
 
-// Every order is cancelled, reason 7; the length of the lines.
+// Every order is cancelled; the length of the lines.
 fn close(buys: &mut Table, sells: &mut Table, out: &mut [u8]) -> usize
     requires sides { AreSound buys.old sells.old }
     requires room { least_room ≤ length out.old }
     ensures { Closes buys.old sells.old out.old result buys.new sells.new out.new }
 {
-    let length = reports::report_cancelled(buys, 7, out);
-    let more = reports::report_cancelled(sells, 7, &mut out[length..]);
+    let length = reports::report_cancelled(buys, Reason::AtClose, out);
+    let more = reports::report_cancelled(sells, Reason::AtClose, &mut out[length..]);
     buys.clear();
     sells.clear();
     length + more

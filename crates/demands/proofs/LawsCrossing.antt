@@ -12,9 +12,9 @@ use Rattle.basics.proofs.LawsChoice.{holds_or_not, and_left}
 use Rattle.kinds.specs.declared.Cents.{Cents}
 use Rattle.kinds.specs.Kinds.{in_half_cents}
 use Rattle.rules.specs.declared.Away.{Away}
+use Rattle.rules.specs.declared.Reason.TheVariants.{CancelledBack}
 use Rattle.rules.specs.declared.Resting.{Resting}
 use Rattle.rules.specs.Commands.{would_now_cross, quote_fate}
-use Rattle.rules.specs.EventLines.{cancelled_back}
 use Rattle.rules.specs.declared.Fate.{Fate}
 use Rattle.rules.specs.declared.Fate.TheVariants.{Stays, IsCancelled, IsSet}
 use Rattle.rules.specs.Settling.{set_at}
@@ -90,7 +90,7 @@ module _ {away : Away} {h : Resting} {buy : Bool} (crosses : Crosses away h buy)
   pub set_anew_lem : h.back ≡ false → quote_fate away buy h ≡ IsSet (set_at (locking_price buy away) h)
   set_anew_lem b = rw (crosses_would crosses, b) refl
 
-  pub gone_back : h.back ≡ true → quote_fate away buy h ≡ IsCancelled cancelled_back
+  pub gone_back : h.back ≡ true → quote_fate away buy h ≡ IsCancelled CancelledBack
   gone_back b = rw (crosses_would crosses, b) refl
 
 -- ── The places of those that are set anew ──

@@ -33,6 +33,7 @@ use Rattle.rules.specs.Settling.{told_by, told}
 use Rattle.rules.specs.Step.{answer_to}
 use Rattle.rules.specs.Holdings.{Holding, holdings, nothing, executions, after}
 use Rattle.rules.specs.Working.{Met, buying, met_by, execution_price, walked, takings, remainder, ending, last_line}
+use Rattle.rules.specs.Reasons.{number_of_reason}
 use Rattle.rules.proofs.LawsCommands.{fate_by}
 use Rattle.rules.proofs.LawsWalkOrder.{holdings_there}
 use Rattle.soundness.proofs.LawsSides.{sides_of}
@@ -43,7 +44,7 @@ use Rattle.demands.proofs.LawsExecutes.{acts_accepted, acts_order, acts_lines, o
 use Rattle.demands.proofs.LawsLinesTell.{every_refill}
 use Rattle.demands.proofs.LawsShareOut.{priced_at, takings_lawful}
 use Rattle.demands.proofs.LawsWalked.{taken}
-use Rattle.std.specs.Prelude.{Some, None}
+use Rattle.std.specs.Prelude.{Some}
 
 -- ── Lines of one kind ──
 
@@ -68,7 +69,7 @@ every_told {P = P} gone moved c b = all_both (of_side (fate_by c true) b.buys) (
   where
     by_fate : (f : Fate) (h : Resting) → All P (told_by f h)
     by_fate Stays h = none
-    by_fate (IsCancelled reason) h = also (gone h.number (shares (shares_left h)) reason) none
+    by_fate (IsCancelled reason) h = also (gone h.number (shares (shares_left h)) (number_of_reason reason)) none
     by_fate (IsSet new) h = also (moved new.number new.price new.shares) none
 
     of_side : (fate : Resting → Fate) (s : List Resting) → All P (told fate s)
@@ -78,7 +79,7 @@ pub every_last : {P : Event → Type 0} (n : Number) → ((price : HalfCents) (k
     → ((k : Shares) (reason : ℕ) → P (Cancelled n k reason)) → (left : ℕ) (e : Ending) → All P (last_line n left e)
 every_last n rested gone left Filled = none
 every_last n rested gone left (Rests price) = also (rested price (shares left)) none
-every_last n rested gone left (Cancels reason) = also (gone (shares left) reason) none
+every_last n rested gone left (Cancels reason) = also (gone (shares left) (number_of_reason reason)) none
 
 -- ── Executions ──
 

@@ -22,14 +22,15 @@ use Rattle.rules.specs.declared.Event.{Event}
 use Rattle.rules.specs.declared.Event.TheVariants.{Executed, Moved}
 use Rattle.rules.specs.declared.Fate.{Fate}
 use Rattle.rules.specs.declared.Order.{Order}
+use Rattle.rules.specs.declared.Reason.TheVariants.{FokKilled}
 use Rattle.rules.specs.declared.Resting.{Resting}
 use Rattle.rules.specs.Book.{numbers, ranks_before, in_rank_order}
 use Rattle.rules.specs.Commands.{is_number}
-use Rattle.rules.specs.EventLines.{fok_killed}
 use Rattle.rules.specs.Holdings.{Holding, nothing, executions}
 use Rattle.rules.specs.Instructions.{ioc, fok, has}
 use Rattle.rules.specs.Settling.{told_by, told}
 use Rattle.rules.specs.Working.{ending_with, last_line, refill_fate}
+use Rattle.rules.specs.Reasons.{number_of_reason}
 use Rattle.rules.proofs.LawsRank.{ranks_not_itself, ranked_first, ranked_rest, ranks_transitive}
 use Rattle.soundness.proofs.LawsEndings.{chosen, sought_is}
 use Rattle.soundness.proofs.LawsNumbers.{one_if, fewer_distinct}
@@ -213,7 +214,7 @@ last_gives_none n m left (Cancels reason) = refl
 abbrev pub is_kill : Ending → Bool
 is_kill Filled = false
 is_kill (Rests price) = false
-is_kill (Cancels reason) = eqb reason fok_killed
+is_kill (Cancels reason) = eqb (number_of_reason reason) (number_of_reason FokKilled)
 
 -- the last line kills exactly by that ending, and none behind it does
 pub last_kills : (m : Number) (left : ℕ) (e : Ending) (s : List Resting) → is_killed m (last_line m left e ++ told refill_fate s) ≡ is_kill e
@@ -222,9 +223,9 @@ last_kills m left Filled s = refills_kill_none m s
 last_kills m left (Rests price) s = refills_kill_none m s
 last_kills m left (Cancels reason) s =
     ⊎_elim
-    (λ (t : eqb reason fok_killed ≡ true). rw (eq-eqb m.0 m.0 refl, t) refl)
-    (λ (t : eqb reason fok_killed ≡ false). rw (eq-eqb m.0 m.0 refl, t) (refills_kill_none m s))
-    (holds_or_not (eqb reason fok_killed))
+    (λ (t : eqb (number_of_reason reason) (number_of_reason FokKilled) ≡ true). rw (eq-eqb m.0 m.0 refl, t) refl)
+    (λ (t : eqb (number_of_reason reason) (number_of_reason FokKilled) ≡ false). rw (eq-eqb m.0 m.0 refl, t) (refills_kill_none m s))
+    (holds_or_not (eqb (number_of_reason reason) (number_of_reason FokKilled)))
 
 -- .. and then cancels what is left
 pub kill_cancels : (m : Number) (left : ℕ) (e : Ending) → is_kill e ≡ true → cancelled_in m (last_line m left e) ≡ left

@@ -22,17 +22,18 @@ use Rattle.rules.specs.declared.Ending.{Ending}
 use Rattle.rules.specs.declared.Ending.TheVariants.{Filled, Rests, Cancels}
 use Rattle.rules.specs.declared.Event.TheVariants.{Rested, Cancelled}
 use Rattle.rules.specs.declared.Order.{Order}
+use Rattle.rules.specs.declared.Reason.TheVariants.{WouldStillMeet}
 use Rattle.rules.specs.declared.Resting.{Resting}
 use Rattle.rules.specs.Book.{Book, BookRecord, in_rank_order, apart, sound, book_in, record_sound}
 use Rattle.rules.specs.CommandLines.{command_in}
 use Rattle.rules.specs.Day.{printed}
-use Rattle.rules.specs.EventLines.{would_still_meet}
 use Rattle.rules.specs.Holdings.{Holding, holdings, nothing, executions, after}
 use Rattle.rules.specs.Instructions.{fok, ioc, has, iso, market, post_only, displayed, cancel_back}
 use Rattle.rules.specs.Settling.{own_side, told}
 use Rattle.rules.specs.Step.{answer_to}
 use Rattle.rules.specs.Working.{Met, buying, met_by, refill_fate, execution_price, takings, remainder, ending, ending_with, last_line, adjusted, seeks, meets_or_passes, still_meets, unless_it_meets}
 use Rattle.rules.specs.Working.{limit_of, locking_price, absent, beyond, one_cent_less_aggressive}
+use Rattle.rules.specs.Reasons.{number_of_reason}
 use Rattle.rules.proofs.LawsTakings.{nothing_total}
 use Rattle.rules.proofs.LawsWalkOrder.{refill_not_due}
 use Rattle.soundness.proofs.LawsApart.{clear, apart_all, apart_best}
@@ -52,7 +53,7 @@ use Rattle.demands.proofs.LawsLinesTell.{every_refill}
 use Rattle.demands.proofs.LawsOrigins.{one_number, opposite_own}
 use Rattle.demands.proofs.LawsPriceHere.{sells, sells_other}
 use Rattle.demands.proofs.LawsTold.{line_told}
-use Rattle.std.specs.Prelude.{Some, None}
+use Rattle.std.specs.Prelude.{Some}
 
 -- ── The price of an execution ──
 
@@ -176,13 +177,13 @@ none_passes test {s = y ∷ s} e (later p) t =
 abbrev EndsAsItMeets : Order → Book → Ending → Type 0
 EndsAsItMeets o b Filled = Unit {0}
 EndsAsItMeets o b (Rests price) = has o.word post_only ≡ true → any (meets_or_passes (buying o) price) (met_by o b).opposite ≡ false
-EndsAsItMeets o b (Cancels reason) = reason ≡ 6 → PostOnlyMeets o b
+EndsAsItMeets o b (Cancels reason) = number_of_reason reason ≡ 6 → PostOnlyMeets o b
 
 -- what a remainder seeks is cancelled with reason 4 or 5 only
 abbrev pub BelowSix : Ending → Type 0
 BelowSix Filled = Unit {0}
 BelowSix (Rests price) = Unit {0}
-BelowSix (Cancels reason) = reason < 6
+BelowSix (Cancels reason) = number_of_reason reason < 6
 
 adjusted_below_six : (o : Order) (price : HalfCents) → BelowSix (adjusted o price)
 adjusted_below_six o price =
@@ -221,7 +222,7 @@ module _ (o : Order) (b : Book) (is_side : o.side ≤ 1) (left : List Resting)
       (λ t also-post. t)))
       (λ other.
       by_choice (EndsAsItMeets o b) (still_meets o (met_by o b).own left price)
-      (λ t (r : would_still_meet ≡ 6). let z : ⊥ = omega (arith, r) in absurd z)
+      (λ t (r : number_of_reason WouldStillMeet ≡ 6). let z : ⊥ = omega (arith, r) in absurd z)
       (λ t post. absurd (true≢false (sym post ∙ other))))
   sought_ends (Cancels reason) is = λ r. let z : ⊥ = omega (arith, r, subst BelowSix is (seeks_below_six o b.held.away)) in absurd z
 
@@ -240,7 +241,7 @@ module _ (o : Order) (b : Book) where
   last_says n left Filled ends = none
   last_says n left (Rests price) ends =
       also {x = Rested n price (shares left)} (λ post h p m. none_passes (meets_or_passes (buying o) price) (ends post) p (is_met o price h m)) none
-  last_says n left (Cancels reason) ends = also {x = Cancelled n (shares left) reason} ends none
+  last_says n left (Cancels reason) ends = also {x = Cancelled n (shares left) (number_of_reason reason)} ends none
 
 -- Post Only leaves the side that it meets as it stood
 pub post_only_leaves : (o : Order) (b : Book) → sound b ≡ true → has o.word post_only ≡ true

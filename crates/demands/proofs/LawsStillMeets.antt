@@ -23,6 +23,7 @@ use Rattle.rules.specs.declared.Ending.TheVariants.{Filled, Rests, Cancels}
 use Rattle.rules.specs.declared.Event.{Event}
 use Rattle.rules.specs.declared.Event.TheVariants.{Executed, Rested, Cancelled, Moved}
 use Rattle.rules.specs.declared.Order.{Order}
+use Rattle.rules.specs.declared.Reason.TheVariants as reason
 use Rattle.rules.specs.declared.Resting.{Resting}
 use Rattle.rules.specs.Book.{Book, stamp, sound}
 use Rattle.rules.specs.CommandLines.{command_in}
@@ -33,6 +34,7 @@ use Rattle.rules.specs.Settling.{stamped_as, settled_side, first_move, told}
 use Rattle.rules.specs.Step.{answer_to}
 use Rattle.rules.specs.Working.{Met, buying, met_by, refill_fate, execution_price, half_a_cent_the_incoming_way, is_locked, is_displayed_at, may_touch, least_of, walked, takings, remainder, reaches, beyond}
 use Rattle.rules.specs.Working.{seeks, meets_or_passes, still_meets, unless_it_meets, ending_with, ending, last_line}
+use Rattle.rules.specs.Reasons.{number_of_reason}
 use Rattle.rules.proofs.LawsRank.{reaches_is}
 use Rattle.rules.proofs.LawsWalkOrder.{RefillSays, refill_says, refill_due, refill_not_due}
 use Rattle.soundness.proofs.LawsEndings.{chosen}
@@ -53,7 +55,7 @@ use Rattle.demands.proofs.LawsRefilled.{opposite_left}
 use Rattle.demands.proofs.LawsShareOut.{walked_leaves}
 use Rattle.demands.proofs.LawsTold.{line_told}
 use Rattle.demands.proofs.LawsWalked.{takes_all}
-use Rattle.std.specs.Prelude.{Some, None}
+use Rattle.std.specs.Prelude.{Some}
 
 -- ── The tests of the rules, in words ──
 
@@ -121,7 +123,7 @@ EndsAsItStillMeets o b left Filled = Unit {0}
 EndsAsItStillMeets o b left (Rests price) =
     has o.word post_only ≡ false
     → AtALock (own o b) price ⊎ ((h : Resting) → OneOf h (opposite o left) → EqualsOrPasses o price h → ⊥)
-EndsAsItStillMeets o b left (Cancels reason) = reason ≡ 8 → StillMeets o b left
+EndsAsItStillMeets o b left (Cancels reason) = number_of_reason reason ≡ 8 → StillMeets o b left
 
 -- with the side that the walk leaves, and the book after it, whose prices are the same
 module _ (o : Order) (b afterwards : Book) (is_side : o.side ≤ 1) (left : List Resting)
@@ -167,7 +169,7 @@ module _ (o : Order) (b afterwards : Book) (is_side : o.side ≤ 1) (left : List
       by_choice (EndsAsItStillMeets o b afterwards) (has o.word post_only)
       (λ post.
       by_choice (EndsAsItStillMeets o b afterwards) (any (meets_or_passes (buying o) price) left)
-      (λ t (r : 6 ≡ 8). let z : ⊥ = omega (arith, r) in absurd z)
+      (λ t (r : number_of_reason reason.PostOnlyMeets ≡ 8). let z : ⊥ = omega (arith, r) in absurd z)
       (λ t other. absurd (true≢false (sym post ∙ other))))
       (λ other.
       by_choice (EndsAsItStillMeets o b afterwards) (still_meets o mine left price)
@@ -191,7 +193,7 @@ last_says : (o : Order) (b left : Book) (n : Number) (remains : ℕ) (e : Ending
     → All (SaysOfReason8 o b left) (last_line n remains e)
 last_says o b left n remains Filled says = none
 last_says o b left n remains (Rests price) says = also {x = Rested n price (shares remains)} says none
-last_says o b left n remains (Cancels reason) says = also {x = Cancelled n (shares remains) reason} says none
+last_says o b left n remains (Cancels reason) says = also {x = Cancelled n (shares remains) (number_of_reason reason)} says none
 
 -- ── An accepted order ──
 
@@ -252,7 +254,7 @@ reason_8_given b line c o s t e f some m =
     (λ (y : any (is_displayed_at m.price) met.own ≡ false). y)
     (holds_or_not (any (is_displayed_at m.price) met.own)) in
     let is_left : eqb (o.shares.0 - total ts) 0 ≡ false = ne_eqb (o.shares.0 - total ts) 0 (λ z. omega (arith, z, some, told_is)) in
-    let ends : ending o met ≡ Cancels 8 = rw (is_left, m.not_fok, m.not_ioc, m.sought, m.not_post_only, reaching, free) refl in
+    let ends : ending o met ≡ Cancels reason.WouldStillMeet = rw (is_left, m.not_fok, m.not_ioc, m.sought, m.not_post_only, reaching, free) refl in
     let line_is_lem = Cancelled n (shares (o.shares.0 - total ts)) 8 in
     let last : OneOf line_is_lem (last_line n (remainder o met) (ending o met)) =
     subst (λ (y : Ending). OneOf line_is_lem (last_line n (remainder o met) y)) (sym ends) first in
@@ -272,32 +274,30 @@ record StillBy (o : Order) (m : Met) : Type 0 where
   sought : seeks o m.away ≡ Rests price
   still : still_meets o m.own (after m.opposite (takings o m)) price ≡ true
 
-reason_of : Ending → ℕ
+abbrev reason_of : Ending → ℕ
 reason_of Filled = 0
 reason_of (Rests price) = 0
-reason_of (Cancels reason) = reason
+reason_of (Cancels reason) = number_of_reason reason
 
-other_reason : {P : Type 0} (e : Ending) → reason_of e ≢ 8 → e ≡ Cancels 8 → P
-unfolding reason_of
-other_reason e n is = absurd (n (ap reason_of is))
+other_reason : {P : Type 0} (e : Ending) → reason_of e ≢ 8 → reason_of e ≡ 8 → P
+other_reason e n is = absurd (n is)
 
 module _ (o : Order) (m : Met) where
   abbrev leaves : List Resting
   leaves = after m.opposite (takings o m)
 
   still_at : total (takings o m) < o.shares.0 → has o.word fok ≡ false → has o.word ioc ≡ false → (e : Ending)
-      → seeks o m.away ≡ e → unless_it_meets o m.own leaves e ≡ Cancels 8 → StillBy o m
-  unfolding reason_of
+      → seeks o m.away ≡ e → reason_of (unless_it_meets o m.own leaves e) ≡ 8 → StillBy o m
   still_at l k i Filled sought q = other_reason Filled (λ (e : 0 ≡ 8). omega (arith, e)) q
   still_at l k i (Cancels reason) sought q =
-      let below : reason < 6 = subst BelowSix sought (seeks_below_six o m.away) in
-      other_reason (Cancels reason) (λ (e : reason ≡ 8). omega (arith, e, below)) q
+      let below : number_of_reason reason < 6 = subst BelowSix sought (seeks_below_six o m.away) in
+      other_reason (Cancels reason) (λ (e : number_of_reason reason ≡ 8). omega (arith, e, below)) q
   still_at l k i (Rests price) sought q =
       ⊎_elim
       (λ (post : has o.word post_only ≡ true).
       ⊎_elim
       (λ (t : any (meets_or_passes (buying o) price) leaves ≡ true).
-      other_reason (Cancels 6) (λ (e : 6 ≡ 8). omega (arith, e)) (rw (post, t) at q))
+      other_reason (Cancels reason.PostOnlyMeets) (λ (e : 6 ≡ 8). omega (arith, e)) (rw (post, t) at q))
       (λ (t : any (meets_or_passes (buying o) price) leaves ≡ false).
       other_reason (Rests price) (λ (e : 0 ≡ 8). omega (arith, e)) (rw (post, t) at q))
       (holds_or_not (any (meets_or_passes (buying o) price) leaves)))
@@ -310,18 +310,18 @@ module _ (o : Order) (m : Met) where
       (holds_or_not (still_meets o m.own leaves price)))
       (holds_or_not (has o.word post_only))
 
-  still_by : ending o m ≡ Cancels 8 → StillBy o m
-  unfolding ending ending_with remainder reason_of
+  still_by : reason_of (ending o m) ≡ 8 → StillBy o m
+  unfolding ending ending_with remainder
   still_by is =
       let left = o.shares.0 - total (takings o m) in
       ⊎_elim
       (λ (z : eqb left 0 ≡ true). other_reason Filled (λ (e : 0 ≡ 8). omega (arith, e)) (rw z at is))
       (λ (z : eqb left 0 ≡ false).
       ⊎_elim
-      (λ (k : has o.word fok ≡ true). other_reason (Cancels 3) (λ (e : 3 ≡ 8). omega (arith, e)) (rw (z, k) at is))
+      (λ (k : has o.word fok ≡ true). other_reason (Cancels reason.FokKilled) (λ (e : 3 ≡ 8). omega (arith, e)) (rw (z, k) at is))
       (λ (k : has o.word fok ≡ false).
       ⊎_elim
-      (λ (i : has o.word ioc ≡ true). other_reason (Cancels 2) (λ (e : 2 ≡ 8). omega (arith, e)) (rw (z, k, i) at is))
+      (λ (i : has o.word ioc ≡ true). other_reason (Cancels reason.IocRemainder) (λ (e : 2 ≡ 8). omega (arith, e)) (rw (z, k, i) at is))
       (λ (i : has o.word ioc ≡ false). still_at (omega (arith, eqb-false left 0 z)) k i (seeks o m.away) refl (rw (z, k, i) at is))
       (holds_or_not (has o.word ioc)))
       (holds_or_not (has o.word fok)))
@@ -393,5 +393,5 @@ no_reason_8 b line c o s t e f no_minimum n left p =
     last_not left Filled is = none
     last_not left (Rests price) is = also {x = Rested c.number price (shares left)} tt none
     last_not left (Cancels reason) is =
-        also {x = Cancelled c.number (shares left) reason}
-        (λ eight. never_still (still_by o (met_by o b) (is ∙ ap Cancels eight))) none
+        also {x = Cancelled c.number (shares left) (number_of_reason reason)}
+        (λ eight. never_still (still_by o (met_by o b) (ap reason_of is ∙ eight))) none

@@ -27,12 +27,14 @@ use Rattle.rules.specs.declared.Ending.TheVariants.{Filled, Rests, Cancels}
 use Rattle.rules.specs.declared.Event.{Event}
 use Rattle.rules.specs.declared.Order.{Order}
 use Rattle.rules.specs.CommandLines.{Reading}
+use Rattle.rules.specs.declared.Reason.{Reason}
+use Rattle.rules.specs.declared.Reason.TheVariants.{ByCommand, IocRemainder, FokKilled, CancelledBack, NoPriceInRange, PostOnlyMeets, AtClose, WouldStillMeet}
 use Rattle.rules.specs.declared.Resting.{Resting}
 use Rattle.rules.specs.Book.{Book, shares_left, away_in_range, sound}
 use Rattle.rules.specs.CommandLines.{Fitting, empty, fits, header_form, order_form_of, carried_numbers, command_in}
 use Rattle.rules.specs.Commands.{does}
 use Rattle.rules.specs.Day.{cut, unended_line, lines_in, printed, printed_of}
-use Rattle.rules.specs.EventLines.{FitsEvent, event_lines, executed_kind, rested_kind, cancelled_kind, moved_kind, ioc_remainder, fok_killed, cancelled_back, no_price_in_range, post_only_meets, would_still_meet}
+use Rattle.rules.specs.EventLines.{FitsEvent, event_lines, executed_kind, rested_kind, cancelled_kind, moved_kind}
 use Rattle.rules.specs.Instructions.{ioc, fok, market, has}
 use Rattle.rules.specs.Refusals.{first_of, order_price_in_range, carried_in_range, order_in_range, body_refusals}
 use Rattle.rules.specs.declared.Fate.{Fate}
@@ -41,7 +43,8 @@ use Rattle.rules.specs.Settling.{told_by, told, opposite_side}
 use Rattle.rules.specs.Step.{done_by, answer, answer_to}
 use Rattle.rules.specs.Holdings.{Holding, size, executions, after}
 use Rattle.rules.specs.Working.{Met, buying, met_by, limit_of, locking_price, is_locked, execution_price, takings, remainder, ending_with, ending, last_line, refill_fate}
-use Rattle.rules.proofs.LawsCommands.{fate_by, cancel_fate_lem, quote_fate_lem, order_does, does_tells}
+use Rattle.rules.specs.Reasons.{number_of_reason}
+use Rattle.rules.proofs.LawsCommands.{fate_by, IfSet, if_set, order_does, does_tells}
 use Rattle.rules.proofs.LawsFloors.{shown_at_most}
 use Rattle.rules.proofs.LawsLines.{command_in_is}
 use Rattle.rules.proofs.LawsTakings.{takings_within}
@@ -103,20 +106,26 @@ executions_fit n o met l (also {x = h} r a) (with {y = t} m e) =
 
 -- ── Cancels and moves ──
 
--- a reason fits in one byte, and so do the fields of whoever is set anew in four
-abbrev SmallFate : Fate → Type 0
-SmallFate Stays = Unit {0}
-SmallFate (IsCancelled reason) = reason < 2 ^ 8
-SmallFate (IsSet new) = Small new
+-- a reason fits in one byte
+reason_small : (reason : Reason) → number_of_reason reason < 2 ^ 8
+reason_small ByCommand = omega arith
+reason_small IocRemainder = omega arith
+reason_small FokKilled = omega arith
+reason_small CancelledBack = omega arith
+reason_small NoPriceInRange = omega arith
+reason_small PostOnlyMeets = omega arith
+reason_small AtClose = omega arith
+reason_small WouldStillMeet = omega arith
 
-told_fits : (fate : Resting → Fate) → ((h : Resting) → Small h → SmallFate (fate h)) → {s : List Resting} → All Small s → All FitsEvent (told fate s)
+-- and so do the fields of whoever is set anew in four
+told_fits : (fate : Resting → Fate) → ((h : Resting) → Small h → IfSet Small (fate h)) → {s : List Resting} → All Small s → All FitsEvent (told fate s)
 unfolding told
 told_fits fate small a = gathered_all (λ (h : Resting). told_by (fate h) h) (all_alike (λ h r. by_fate (fate h) h r (small h r)) a)
   where
-    by_fate : (f : Fate) (h : Resting) → Small h → SmallFate f → All FitsEvent (told_by f h)
+    by_fate : (f : Fate) (h : Resting) → Small h → IfSet Small f → All FitsEvent (told_by f h)
     by_fate Stays h r i = none
     by_fate (IsCancelled reason) h r i =
-        also (fits 1 cancelled_kind (omega arith) (fits 4 h.number.0 r.number (fits 4 (shares_left h) r.left (fits 1 reason i empty)))) none
+        also (fits 1 cancelled_kind (omega arith) (fits 4 h.number.0 r.number (fits 4 (shares_left h) r.left (fits 1 (number_of_reason reason) (reason_small reason) empty)))) none
     by_fate (IsSet new) h r i =
         let fields = fits 4 new.number.0 i.number (fits 4 new.price.0 (omega (arith, i.price))
         (fits 4 new.shares.0 (omega (arith, i.left)) empty)) in
@@ -135,44 +144,42 @@ locking_small buy away a = away_small (if buy then away.offer else away.bid) (lo
         (holds_or_not (eqb p.0 0))
 
 -- so are the fates that an accepted command gives
-fates_small : (b : Book) (c : Body) → first_of (body_refusals b c) ≡ 0 → (buy : Bool) (h : Resting) → Small h → SmallFate (fate_by c buy h)
-fates_small b (body.Order o) accepted buy h r = tt
-fates_small b (body.Cancel of) accepted buy h r = cancel_fate_lem SmallFate of h (omega arith) (λ t. tt)
-fates_small b (body.Quote away) accepted buy h r =
-    quote_fate_lem SmallFate away buy h (λ t. tt) (λ t back. omega arith)
-    (λ t back. record { number = r.number; price = locking_small buy away (accepted_quote b away accepted); left = r.left })
-fates_small b body.Close accepted buy h r = omega arith
+fates_small : (b : Book) (c : Body) → first_of (body_refusals b c) ≡ 0 → (buy : Bool) (h : Resting) → Small h → IfSet Small (fate_by c buy h)
+fates_small b c accepted buy h r =
+    if_set Small c buy h
+    (λ away is t. record { number = r.number; price = locking_small buy away (accepted_quote b away (rw is at accepted)); left = r.left })
 
 -- and so is that of a refill
-refill_small : (h : Resting) → Small h → SmallFate (refill_fate h)
+refill_small : (h : Resting) → Small h → IfSet Small (refill_fate h)
 refill_small h r =
-    by_choice SmallFate (eqb h.shares.0 0)
+    by_choice (IfSet Small) (eqb h.shares.0 0)
     (λ t. record { number = r.number; price = r.price; left = omega (arith, r.left, shown_at_most h.floor.0 (shares_left h)) }) (λ t. tt)
 
 -- ── The ending of an order ──
 
--- the price at which it rests fits in four bytes, the reason for which it is cancelled in one
+-- the price at which it rests fits in four bytes
 pub data FitsEnding : Ending → Type 0 where
   filled : FitsEnding Filled
   rests : (p : HalfCents) → p.0 < 2 ^ 32 → FitsEnding (Rests p)
-  cancelled : (reason : ℕ) → reason < 2 ^ 8 → FitsEnding (Cancels reason)
+  cancelled : (reason : Reason) → FitsEnding (Cancels reason)
 
--- so the price at which an order rests is its limit or one in range, and the reasons are 2 to 6, and 8
+-- so the price at which an order rests is its limit or one in range
 pub ending_fits : (o : Order) (met : Met) → (limit_of o).0 < 2 ^ 32 → FitsEnding (ending o met)
 unfolding ending ending_with
 ending_fits o met l =
     chosen FitsEnding (eqb (remainder o met) 0) filled
-    (chosen FitsEnding (has o.word fok) (cancelled fok_killed (omega arith))
-    (chosen FitsEnding (has o.word ioc) (cancelled ioc_remainder (omega arith))
-    (sought_is FitsEnding (λ p e. rests p (omega (arith, price_small p e))) (cancelled cancelled_back (omega arith))
-    (cancelled no_price_in_range (omega arith)) (cancelled post_only_meets (omega arith)) (cancelled would_still_meet (omega arith))
+    (chosen FitsEnding (has o.word fok) (cancelled FokKilled)
+    (chosen FitsEnding (has o.word ioc) (cancelled IocRemainder)
+    (sought_is FitsEnding (λ p e. rests p (omega (arith, price_small p e))) (cancelled CancelledBack)
+    (cancelled NoPriceInRange) (cancelled PostOnlyMeets) (cancelled WouldStillMeet)
     o met.away met.own (after met.opposite (takings o met)) (rests (limit_of o) l))))
 
 -- the last line of an order, of what is left of it
 pub last_line_fits : (n : Number) (left : ℕ) → n.0 < 2 ^ 32 → left < 2 ^ 32 → {e : Ending} → FitsEnding e → All FitsEvent (last_line n left e)
 last_line_fits n left l m filled = none
 last_line_fits n left l m (rests p k) = also (fits 1 rested_kind (omega arith) (fits 4 n.0 l (fits 4 p.0 k (fits 4 left m empty)))) none
-last_line_fits n left l m (cancelled reason k) = also (fits 1 cancelled_kind (omega arith) (fits 4 n.0 l (fits 4 left m (fits 1 reason k empty)))) none
+last_line_fits n left l m (cancelled reason) =
+    also (fits 1 cancelled_kind (omega arith) (fits 4 n.0 l (fits 4 left m (fits 1 (number_of_reason reason) (reason_small reason) empty)))) none
 
 -- the price and the shares of an order that was read have four bytes
 pub order_small : (side word price size : ℕ) (x : Carried) → Fitting (order_form_of x) (side ∷ word ∷ price ∷ size ∷ carried_numbers x)

@@ -24,18 +24,19 @@ use Rattle.rules.specs.declared.Ending.TheVariants.{Filled, Rests, Cancels}
 use Rattle.rules.specs.declared.Event.{Event}
 use Rattle.rules.specs.declared.Event.TheVariants.{Executed, Rested, Cancelled}
 use Rattle.rules.specs.declared.Order.{Order}
+use Rattle.rules.specs.declared.Reason.TheVariants.{ByCommand}
 use Rattle.rules.specs.declared.Resting.{Resting}
 use Rattle.rules.specs.Book.{Book, shares_left, sound}
 use Rattle.rules.specs.CommandLines.{command_in}
 use Rattle.rules.specs.Commands.{is_number, cancel_fate, cancel, quote, close_fate, close, carried_out, does}
 use Rattle.rules.specs.Day.{printed}
-use Rattle.rules.specs.EventLines.{by_command}
 use Rattle.rules.specs.Refusals.{first_of, is_resting, body_refusals}
 use Rattle.rules.specs.declared.Fate.{Fate}
 use Rattle.rules.specs.Settling.{shown_of, insert, kept_by, told_by, staying, told, own_side, opposite_side, settled, both_settled}
 use Rattle.rules.specs.Step.{answer_to}
 use Rattle.rules.specs.Holdings.{Holding, holdings, executions, after}
 use Rattle.rules.specs.Working.{Met, buying, met_by, execution_price, takings, remainder, ending, last_line, floor_of, minimum_of, remainder_of, with_remainder, worked, refill_fate, accept}
+use Rattle.rules.specs.Reasons.{number_of_reason}
 use Rattle.rules.proofs.LawsCommands.{cancel_fate_lem, order_does, cancel_does, quote_does, close_does, does_tells, does_number_and_time}
 use Rattle.rules.proofs.LawsFloors.{shown_at_most}
 use Rattle.rules.proofs.LawsRefusals.{none_given}
@@ -59,7 +60,7 @@ use Rattle.demands.proofs.LawsRows.{NoneHas, has_other, either_holds}
 use Rattle.demands.proofs.LawsRun.{accepted_does}
 use Rattle.demands.proofs.LawsPriceHere.{given_here}
 use Rattle.demands.proofs.LawsTold.{line_told}
-use Rattle.std.specs.Prelude.{Some, None}
+use Rattle.std.specs.Prelude.{Some}
 
 -- ── An accepted command of a known body ──
 
@@ -102,7 +103,7 @@ last_line_is n o executed left (Rests price) side f all new =
     subst (λ (k : ℕ). LastLine n o executed (insert (buying o) x side) (Rested n price (shares k) ∷ [])) whole
     (rests x (added_new (added_insert (buying o) x side)) refl refl (ap (min (minimum_of o.carried)) (sym whole))
     (ap (shown_of (floor_of o.carried)) (sym whole)) (omega (arith, whole, all)))
-last_line_is n o executed left (Cancels reason) side f all new = is_cancelled (shares left) reason all new
+last_line_is n o executed left (Cancels reason) side f all new = is_cancelled (shares left) (number_of_reason reason) all new
 
 -- the other orders of its side stay, and none but itself is new
 remainder_others : (n : Number) (o : Order) (left : ℕ) (e : Ending) (side : List Resting) (h : Resting)
@@ -208,7 +209,7 @@ unfolding told gathered
 told_none n none = refl
 told_none n (also {x = h} other a) = rw (ne_eqb h.number.0 n.0 (λ e. other (sym e))) (told_none n a)
 
-told_one : {h : Resting} {s : List Resting} → once_each s ≡ true → OneOf h s → told (cancel_fate h.number) s ≡ Cancelled h.number (shares (shares_left h)) by_command ∷ []
+told_one : {h : Resting} {s : List Resting} → once_each s ≡ true → OneOf h s → told (cancel_fate h.number) s ≡ Cancelled h.number (shares (shares_left h)) (number_of_reason ByCommand) ∷ []
 unfolding told gathered
 told_one {h = h} d (first {s = s}) = rw (eq-eqb h.number.0 h.number.0 refl, told_none h.number (once_first h s d)) refl
 told_one {h = h} d (later {y = y} {s = s} p) = rw (ne_eqb y.number.0 h.number.0 (one_of_all (once_first y s d) p)) (told_one (once_rest y s d) p)
@@ -221,7 +222,7 @@ cancel_leaves of s d h p e = record {
   gone = h;
   stood = p;
   named = e;
-  told = subst (λ (n : Number). told (cancel_fate n) s ≡ Cancelled n (shares (shares_left h)) by_command ∷ []) e (told_one d p);
+  told = subst (λ (n : Number). told (cancel_fate n) s ≡ Cancelled n (shares (shares_left h)) (number_of_reason ByCommand) ∷ []) e (told_one d p);
   off =
       gathered_all (λ (x : Resting). kept_by (cancel_fate of x) x)
       (all_alike

@@ -8,11 +8,12 @@ use Rattle.rules.specs.declared.Event.{Event}
 use Rattle.rules.specs.declared.Event.TheVariants.{Executed, Rested, Cancelled, Moved}
 use Rattle.rules.specs.EventReading.{EventReading}
 use Rattle.rules.specs.declared.NoEvent.TheVariants.{UnknownKind, Short, TrailingBytes, BadDigitOrEnding}
+use Rattle.rules.specs.declared.Reason.TheVariants.{FokKilled}
 use Rattle.rules.specs.declared.Resting.{Resting}
 use Rattle.rules.specs.Book.{Book, shares_left}
 use Rattle.rules.specs.Day.{lines_in}
-use Rattle.rules.specs.EventLines.{fok_killed}
 use Rattle.rules.specs.EventReading.{event_in}
+use Rattle.rules.specs.Reasons.{number_of_reason}
 
 -- ── Reading event lines ──
 
@@ -73,7 +74,7 @@ cancelled_in n es = sum_of (cancelled_by n) es
 abbrev pub kills : Number → Event → Bool
 kills n (Executed incoming resting price shares) = false
 kills n (Rested m price shares) = false
-kills n (Cancelled m shares reason) = eqb n.0 m.0 && eqb reason fok_killed
+kills n (Cancelled m shares reason) = eqb n.0 m.0 && eqb reason (number_of_reason FokKilled)
 kills n (Moved m price shares) = false
 
 abbrev pub is_killed : Number → List Event → Bool

@@ -8,6 +8,7 @@ use Rattle.orders.specs.Fills.{MinimumRemains}
 use Rattle.orders.specs.Locks.{locked_price, ToldByPrice}
 use Rattle.orders.specs.Cursor.{parts, part_of, placed_from}
 use Rattle.rules.specs.declared.Order.{Order}
+use Rattle.rules.specs.declared.Reason.TheVariants.{IocRemainder, FokKilled, PostOnlyMeets, WouldStillMeet}
 use Rattle.rules.specs.declared.Resting.{Resting}
 use Rattle.side.specs.Looking.{price_bound}
 use Rattle.side.specs.Shifts.{Countable}
@@ -15,7 +16,6 @@ use Rattle.rules.specs.declared.Away.{Away}
 use Rattle.rules.specs.declared.Ending.{Ending}
 use Rattle.rules.specs.declared.Ending.TheVariants.{Filled, Rests, Cancels}
 use Rattle.rules.specs.Book.{in_rank_order}
-use Rattle.rules.specs.EventLines.{ioc_remainder, fok_killed, post_only_meets, would_still_meet}
 use Rattle.rules.specs.Instructions.{ioc, fok, post_only, has}
 use Rattle.rules.specs.Working.{buying, limit_of, locking_price, reaches, is_displayed_at, meets_or_passes, least_of, Met, takings, remainder, seeks}
 use Rattle.orders.specs.declared.takings.Taking.{Taking}
@@ -91,8 +91,8 @@ pub record Walks (o : Order) (met : Met) (w : Walked) (took : List Taking) : Typ
 unfoldable pub rests_unless_best_meets : Order → HalfCents → List Resting → HalfCents → Ending
 rests_unless_best_meets o locked [] price = Rests price
 rests_unless_best_meets o locked (best ∷ s) price =
-    if has o.word post_only then (if meets_or_passes (buying o) price best then Cancels post_only_meets else Rests price)
-    else if reaches (buying o) price best.price && not (eqb price.0 locked.0) then Cancels would_still_meet
+    if has o.word post_only then (if meets_or_passes (buying o) price best then Cancels PostOnlyMeets else Rests price)
+    else if reaches (buying o) price best.price && not (eqb price.0 locked.0) then Cancels WouldStillMeet
     else Rests price
 
 abbrev pub unless_best_meets : Order → HalfCents → List Resting → Ending → Ending
@@ -103,6 +103,6 @@ unless_best_meets o locked left (Cancels reason) = Cancels reason
 unfoldable pub ending_by_best : ℕ → Order → Away → HalfCents → List Resting → Ending
 ending_by_best left o away locked opposite =
     if eqb left 0 then Filled
-    else if has o.word fok then Cancels fok_killed
-    else if has o.word ioc then Cancels ioc_remainder
+    else if has o.word fok then Cancels FokKilled
+    else if has o.word ioc then Cancels IocRemainder
     else unless_best_meets o locked opposite (seeks o away)

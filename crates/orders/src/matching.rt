@@ -79,7 +79,7 @@ fn conclude(
 {
     match end {
         Ending::Filled => 0,
-        Ending::Cancels(reason) => writer::write_cancelled(out, number, left, reason),
+        Ending::Cancels(reason) => writer::write_cancelled(out, number, left, u8::from(reason)),
         Ending::Rests(price) => {
             own.rest(o.side == 0, remainder_of(number, o, left, price));
             writer::write_rested(out, number, price, left)

@@ -8,7 +8,7 @@ ghost use Rattle.orders.specs.Locks.{locked_price, executes_at};
 
 use judge::instructions;
 use kinds::HalfCents;
-use rules::{Away, Ending, Order};
+use rules::{Away, Ending, Order, Reason};
 use side::prices;
 use side::table::Table;
 
@@ -109,12 +109,12 @@ fn adjust(o: Order, price: HalfCents) -> Ending
     ensures { result ≡ adjusted o price }
 {
     if instructions::has(o.word, rules::CANCEL_BACK) {
-        return Ending::Cancels(4);
+        return Ending::Cancels(Reason::CancelledBack);
     }
     if price.in_range() {
         return Ending::Rests(price);
     }
-    Ending::Cancels(5)
+    Ending::Cancels(Reason::NoPriceInRange)
 }
 
 #[tactic(auto, unfolding(rules::specs::Working::seeks))]

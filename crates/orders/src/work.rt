@@ -10,7 +10,7 @@ use crate::walk::Walked;
 use crate::{pricing, walk};
 use judge::instructions;
 use kinds::{HalfCents, Shares};
-use rules::{Away, Carried, Ending, Order, Resting};
+use rules::{Away, Carried, Ending, Order, Reason, Resting};
 use side::prices;
 use side::table::Table;
 
@@ -88,13 +88,13 @@ fn rest_unless_meets(
     let buy = o.side == 0;
     if instructions::has(o.word, rules::POST_ONLY) {
         if meets(buy, price, best) {
-            return Ending::Cancels(6);
+            return Ending::Cancels(Reason::PostOnlyMeets);
         }
         return Ending::Rests(price);
     }
     let still_meets = prices::within(buy, price, best.price) & (price != locked);
     if still_meets {
-        return Ending::Cancels(8);
+        return Ending::Cancels(Reason::WouldStillMeet);
     }
     Ending::Rests(price)
 }
@@ -117,10 +117,10 @@ pub(crate) fn ending_of(
         return Ending::Filled;
     }
     if instructions::has(o.word, rules::FOK) {
-        return Ending::Cancels(3);
+        return Ending::Cancels(Reason::FokKilled);
     }
     if instructions::has(o.word, rules::IOC) {
-        return Ending::Cancels(2);
+        return Ending::Cancels(Reason::IocRemainder);
     }
     let sought = pricing::seek(o, away);
     let Ending::Rests(price) = sought else {

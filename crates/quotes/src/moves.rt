@@ -15,7 +15,7 @@ ghost use Rattle.quotes.specs.Moves.{goes_on, fate_at};
 ghost use Rattle.settling.specs.OneByOne.{settled_in};
 
 use kinds::{HalfCents, Number};
-use rules::{Away, Fate, Resting};
+use rules::{Away, Fate, Reason, Resting};
 use settling::Settling;
 use side::prices;
 use side::table::Table;
@@ -38,7 +38,7 @@ fn fate_beyond(o: Resting, locking: HalfCents) -> Fate
     ensures { result ≡ fate_at locking o }
 {
     if o.back {
-        return Fate::IsCancelled(4);
+        return Fate::IsCancelled(Reason::CancelledBack);
     }
     Fate::IsSet(Resting {
         price: locking,

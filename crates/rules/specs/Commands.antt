@@ -5,9 +5,9 @@ use Rattle.rules.specs.declared.Away.{Away}
 use Rattle.rules.specs.declared.Body.{Body}
 use Rattle.rules.specs.declared.Body.TheVariants as body
 use Rattle.rules.specs.declared.Held.{Held}
+use Rattle.rules.specs.declared.Reason.TheVariants.{ByCommand, CancelledBack, AtClose}
 use Rattle.rules.specs.declared.Resting.{Resting}
 use Rattle.rules.specs.Book.{Book}
-use Rattle.rules.specs.EventLines.{by_command, cancelled_back, at_close}
 use Rattle.rules.specs.declared.Fate.{Fate}
 use Rattle.rules.specs.declared.Fate.TheVariants.{Stays, IsCancelled, IsSet}
 use Rattle.rules.specs.Settling.{set_at, Done, on_held, both_settled}
@@ -33,7 +33,7 @@ is_number n h = eqb h.number.0 n.0
 
 -- a cancel takes the order of that number off the book, reason 1
 abbrev pub cancel_fate : Number → Resting → Fate
-cancel_fate of h = if is_number of h then IsCancelled by_command else Stays
+cancel_fate of h = if is_number of h then IsCancelled ByCommand else Stays
 
 unfoldable pub cancel : Number → Done → Done
 cancel of d = both_settled (λ (buy : Bool). cancel_fate of) d
@@ -50,7 +50,7 @@ would_now_cross buy away h =
 abbrev pub quote_fate : Away → Bool → Resting → Fate
 quote_fate away buy h =
     if not (would_now_cross buy away h) then Stays
-    else if h.back then IsCancelled cancelled_back
+    else if h.back then IsCancelled CancelledBack
     else IsSet (set_at (locking_price buy away) h)
 
 unfoldable pub quote : Away → Done → Done
@@ -58,7 +58,7 @@ quote away d = both_settled (quote_fate away) (on_held (with_away away) d)
 
 -- "Close cancels all buys in rank order, then all sells, and closes."
 abbrev pub close_fate : Resting → Fate
-close_fate h = IsCancelled at_close
+close_fate h = IsCancelled AtClose
 
 unfoldable pub close : Done → Done
 close d = both_settled (λ (buy : Bool). close_fate) (on_held shut d)

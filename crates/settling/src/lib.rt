@@ -68,7 +68,12 @@ impl Settling {
             Fate::IsCancelled(reason) => {
                 t.remove(at);
                 let left = rows::shares_left(o);
-                let more = writer::write_cancelled(&mut out[self.length..], o.number, left, reason);
+                let more = writer::write_cancelled(
+                    &mut out[self.length..],
+                    o.number,
+                    left,
+                    u8::from(reason),
+                );
                 Settling {
                     length: self.length + more,
                     ..self

@@ -12,8 +12,8 @@ use Rattle.rules.specs.declared.Away.{Away}
 use Rattle.rules.specs.declared.Ending.{Ending}
 use Rattle.rules.specs.declared.Ending.TheVariants.{Filled, Rests, Cancels}
 use Rattle.rules.specs.declared.Order.{Order}
+use Rattle.rules.specs.declared.Reason.TheVariants.{CancelledBack, NoPriceInRange, PostOnlyMeets, WouldStillMeet}
 use Rattle.rules.specs.declared.Resting.{Resting}
-use Rattle.rules.specs.EventLines.{cancelled_back, no_price_in_range, post_only_meets, would_still_meet}
 use Rattle.rules.specs.Instructions.{displayed, cancel_back, post_only, iso, has}
 use Rattle.rules.specs.Working.{buying, beyond, locking_price, absent, adjusted, one_cent_less_aggressive, seeks, limit_of, meets_or_passes, still_meets, unless_it_meets}
 
@@ -22,13 +22,13 @@ pub chosen : (P : Ending → Type 0) (t : Bool) {e f : Ending} → P e → P f �
 chosen P true p q = p
 chosen P false p q = q
 
-module _ (P : Ending → Type 0) (in_range : (price : HalfCents) → resting_price_in_range price ≡ true → P (Rests price)) (back : P (Cancels cancelled_back))
-    (out : P (Cancels no_price_in_range)) (meets : P (Cancels post_only_meets)) (still : P (Cancels would_still_meet)) where
+module _ (P : Ending → Type 0) (in_range : (price : HalfCents) → resting_price_in_range price ≡ true → P (Rests price)) (back : P (Cancels CancelledBack))
+    (out : P (Cancels NoPriceInRange)) (meets : P (Cancels PostOnlyMeets)) (still : P (Cancels WouldStillMeet)) where
   -- "An adjusted price outside 100 to 200,000: cancelled, reason 5."
   adjusted_is : (o : Order) (price : HalfCents) → P (adjusted o price)
   adjusted_is o price = chosen P (has o.word cancel_back) back (tested (resting_price_in_range price) refl)
     where
-      tested : (t : Bool) → resting_price_in_range price ≡ t → P (if t then Rests price else Cancels no_price_in_range)
+      tested : (t : Bool) → resting_price_in_range price ≡ t → P (if t then Rests price else Cancels NoPriceInRange)
       tested true e = in_range price e
       tested false e = out
 

@@ -14,6 +14,7 @@ use Rattle.kinds.specs.declared.HalfCents.{HalfCents}
 use Rattle.rules.specs.declared.Ending.{Ending}
 use Rattle.rules.specs.declared.Ending.TheVariants.{Filled, Rests, Cancels}
 use Rattle.rules.specs.declared.Order.{Order}
+use Rattle.rules.specs.declared.Reason.TheVariants.{IocRemainder, FokKilled, PostOnlyMeets, WouldStillMeet}
 use Rattle.rules.specs.declared.Resting.{Resting}
 use Rattle.rules.specs.Instructions.{ioc, fok, post_only, has}
 use Rattle.rules.specs.Refusals.{is_rest}
@@ -139,10 +140,10 @@ rests_by o m p e =
     (λ (z : eqb (o.shares.0 - total (takings o m)) 0 ≡ false).
     let n = eqb-false (o.shares.0 - total (takings o m)) 0 z in
     ⊎_elim
-    (λ (k : has o.word fok ≡ true). no_rest {e = Cancels 3} (rw (z, k) at e) refl)
+    (λ (k : has o.word fok ≡ true). no_rest {e = Cancels FokKilled} (rw (z, k) at e) refl)
     (λ (k : has o.word fok ≡ false).
     ⊎_elim
-    (λ (i : has o.word ioc ≡ true). no_rest {e = Cancels 2} (rw (z, k, i) at e) refl)
+    (λ (i : has o.word ioc ≡ true). no_rest {e = Cancels IocRemainder} (rw (z, k, i) at e) refl)
     (λ (i : has o.word ioc ≡ false). record { left = omega (arith, n); no_kill_lem = k; no_cancel_lem = i; seeking = rw (z, k, i) at e })
     (holds_or_not (has o.word ioc)))
     (holds_or_not (has o.word fok)))
@@ -154,7 +155,7 @@ module _ (o : Order) (own left : List Resting) (p : HalfCents) (shown : Bool)
   post_only_clear : (q : HalfCents) → has o.word post_only ≡ true → rests_unless_it_meets o own left q ≡ Rests p → Clear (buying o) shown p left
   post_only_clear q t e =
       ⊎_elim
-      (λ (m : any (meets_or_passes (buying o) q) left ≡ true). no_rest {e = Cancels 6} (rw (t, m) at e) refl)
+      (λ (m : any (meets_or_passes (buying o) q) left ≡ true). no_rest {e = Cancels PostOnlyMeets} (rw (t, m) at e) refl)
       (λ (m : any (meets_or_passes (buying o) q) left ≡ false).
       let same : q ≡ p = rests_at q p (rw (t, m) at e) in
       none_met (buying o) shown p left (rw (← same) m))
@@ -164,7 +165,7 @@ module _ (o : Order) (own left : List Resting) (p : HalfCents) (shown : Bool)
   other_clear : (q : HalfCents) → has o.word post_only ≡ false → rests_unless_it_meets o own left q ≡ Rests p → Clear (buying o) shown p left
   other_clear q t e =
       ⊎_elim
-      (λ (m : still_meets o own left q ≡ true). no_rest {e = Cancels 8} (rw (t, m) at e) refl)
+      (λ (m : still_meets o own left q ≡ true). no_rest {e = Cancels WouldStillMeet} (rw (t, m) at e) refl)
       (λ (m : still_meets o own left q ≡ false).
       let same : q ≡ p = rests_at q p (rw (t, m) at e) in
       let free : still_meets o own left p ≡ false = rw (← same) m in

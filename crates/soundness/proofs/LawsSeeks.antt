@@ -1,6 +1,6 @@
 -- The price that a remainder seeks is never beyond the bound of its walk: an order that the walk may not touch is beyond that
 -- price. Assumes nothing.
-use Prim.Native.Nat.{ℕ, ◌+◌, ◌-◌, ◌≤◌, ◌<◌}
+use Prim.Native.Nat.{◌+◌, ◌-◌, ◌≤◌, ◌<◌}
 use mathlib.Core.Bool.{Bool, true, false, not, ◌&&◌, ◌||◌, true≢false}
 use mathlib.Core.Logic.{◌⊎◌, inl, inr, ⊎_elim}
 use mathlib.Core.Path.{◌≡◌, refl, sym, ap, ◌∙◌}
@@ -14,6 +14,8 @@ use Rattle.rules.specs.declared.Away.{Away}
 use Rattle.rules.specs.declared.Ending.{Ending}
 use Rattle.rules.specs.declared.Ending.TheVariants.{Filled, Rests, Cancels}
 use Rattle.rules.specs.declared.Order.{Order}
+use Rattle.rules.specs.declared.Reason.{Reason}
+use Rattle.rules.specs.declared.Reason.TheVariants.{CancelledBack, NoPriceInRange}
 use Rattle.rules.specs.Instructions.{displayed, cancel_back, iso, market, has}
 use Rattle.rules.specs.Refusals.{is_rest}
 use Rattle.rules.specs.Working.{buying, beyond, limit_of, locking_price, absent, may_touch, adjusted, one_cent_less_aggressive, seeks}
@@ -30,18 +32,18 @@ pub rests_at : (p q : HalfCents) → Rests p ≡ Rests q → p ≡ q
 unfolding price_in
 rests_at p q e = ap (λ (x : Ending). price_in x p) e
 
-not_cancelled : (reason : ℕ) (p : HalfCents) → Cancels reason ≡ Rests p → ⊥
+not_cancelled : (reason : Reason) (p : HalfCents) → Cancels reason ≡ Rests p → ⊥
 not_cancelled reason p e = true≢false (sym (ap is_rest e))
 
 -- an adjusted order rests at the price that it is adjusted to, or not at all
 adjusted_rests : (o : Order) (price p : HalfCents) → adjusted o price ≡ Rests p → price ≡ p
 adjusted_rests o price p e =
     ⊎_elim
-    (λ (b : has o.word cancel_back ≡ true). absurd (not_cancelled 4 p (rw b at e)))
+    (λ (b : has o.word cancel_back ≡ true). absurd (not_cancelled CancelledBack p (rw b at e)))
     (λ (b : has o.word cancel_back ≡ false).
     ⊎_elim
     (λ (r : resting_price_in_range price ≡ true). rests_at price p (rw (b, r) at e))
-    (λ (r : resting_price_in_range price ≡ false). absurd (not_cancelled 5 p (rw (b, r) at e)))
+    (λ (r : resting_price_in_range price ≡ false). absurd (not_cancelled NoPriceInRange p (rw (b, r) at e)))
     (holds_or_not (resting_price_in_range price)))
     (holds_or_not (has o.word cancel_back))
 

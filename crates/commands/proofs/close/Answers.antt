@@ -10,9 +10,11 @@ use Rattle.orders.specs.Reports.{cancelled_for}
 use Rattle.orders.proofs.LawsReady.{all_countable}
 use Rattle.orders.proofs.reports.LawsReports.{lines_length}
 use Rattle.rules.specs.declared.Event.{Event}
+use Rattle.rules.specs.declared.Reason.TheVariants.{AtClose}
 use Rattle.rules.specs.declared.Resting.{Resting}
 use Rattle.rules.specs.Book.{Book, shares_left, places_a_side}
-use Rattle.rules.specs.EventLines.{event_lines, at_close}
+use Rattle.rules.specs.EventLines.{event_lines}
+use Rattle.rules.specs.Reasons.{number_of_reason}
 use Rattle.rules.proofs.LawsEvents.{cancelled_length, event_lines_append, lines_behind}
 use Rattle.side.proofs.tables.LawsAnswers.{left_done}
 use Rattle.soundness.proofs.LawsSound.{sound_is}
@@ -22,10 +24,10 @@ use Rattle.commands.proofs.close.Goals.{Start}
 
 -- the lines of a side
 abbrev events : List Resting → List Event
-events s = map (cancelled_for at_close) s
+events s = map (cancelled_for AtClose) s
 
 events_length : (s : List Resting) → length (event_lines (events s)) ≡ 21 * length s
-events_length s = lines_length (cancelled_for at_close) 21 (λ h. cancelled_length h.number (shares (shares_left h)) at_close) s
+events_length s = lines_length (cancelled_for AtClose) 21 (λ h. cancelled_length h.number (shares (shares_left h)) (number_of_reason AtClose)) s
 
 -- both sides have room for their lines
 fits : (c : Start) → (length c.args.buys.now ≤ places_a_side) × (length c.args.sells.now ≤ places_a_side)

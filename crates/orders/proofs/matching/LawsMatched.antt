@@ -17,6 +17,7 @@ use Rattle.rules.specs.declared.Away.{Away}
 use Rattle.rules.specs.declared.Ending.{Ending}
 use Rattle.rules.specs.declared.Ending.TheVariants.{Filled, Rests, Cancels}
 use Rattle.rules.specs.declared.Order.{Order}
+use Rattle.rules.specs.declared.Reason.TheVariants.{IocRemainder, FokKilled, CancelledBack, NoPriceInRange, PostOnlyMeets, WouldStillMeet}
 use Rattle.rules.specs.declared.Resting.{Resting}
 use Rattle.basics.specs.Lists.{All, none, also}
 use Rattle.basics.proofs.LawsLists.{all_alike}
@@ -29,7 +30,6 @@ use Rattle.orders.specs.Refills.{MayRefill}
 use Rattle.orders.specs.Walk.{is_below}
 use Rattle.orders.specs.Walking.{Workable, rests_unless_best_meets, unless_best_meets, ending_by_best}
 use Rattle.orders.proofs.fills.LawsTakenOff.{all_keep, after_unreached}
-use Rattle.rules.specs.EventLines.{ioc_remainder, fok_killed, cancelled_back, no_price_in_range, post_only_meets, would_still_meet}
 use Rattle.rules.specs.Instructions.{ioc, fok, displayed, cancel_back, post_only, iso, has}
 use Rattle.rules.specs.Working.{buying, limit_of, locking_price, Met, execution_price, absent, beyond, one_cent_less_aggressive, reaches, meets_or_passes, adjusted, seeks, takings, remainder, ending, last_line, with_remainder, refill_fate}
 use Rattle.rules.specs.Holdings.{holdings, executions, after}
@@ -45,7 +45,7 @@ below_either false a b p q = q
 
 adjusted_below : (o : Order) (price : HalfCents) → rests_below (adjusted o price)
 adjusted_below o price =
-    below_either (has o.word cancel_back) (Cancels cancelled_back) (if resting_price_in_range price then Rests price else Cancels no_price_in_range) tt
+    below_either (has o.word cancel_back) (Cancels CancelledBack) (if resting_price_in_range price then Rests price else Cancels NoPriceInRange) tt
     (⊎_elim
     (λ (t : resting_price_in_range price ≡ true). rw t (omega (arith, resting_highest price t)))
     (λ (t : resting_price_in_range price ≡ false). rw t tt)
@@ -69,12 +69,12 @@ module _ (o : Order) (away : Away) (limited : (limit_of o).0 < price_bound) wher
   unless_below locked left Filled b = tt
   unless_below locked [] (Rests price) b = b
   unless_below locked (best ∷ s) (Rests price) b =
-      let post = if meets_or_passes (buying o) price best then Cancels post_only_meets else Rests price in
+      let post = if meets_or_passes (buying o) price best then Cancels PostOnlyMeets else Rests price in
       let still = reaches (buying o) price best.price && not (eqb price.0 locked.0) in
-      let other = if still then Cancels would_still_meet else Rests price in
+      let other = if still then Cancels WouldStillMeet else Rests price in
       below_either (has o.word post_only) post other
-      (below_either (meets_or_passes (buying o) price best) (Cancels post_only_meets) (Rests price) tt b)
-      (below_either still (Cancels would_still_meet) (Rests price) tt b)
+      (below_either (meets_or_passes (buying o) price best) (Cancels PostOnlyMeets) (Rests price) tt b)
+      (below_either still (Cancels WouldStillMeet) (Rests price) tt b)
   unless_below locked left (Cancels reason) b = tt
 
   -- an order rests at its limit, or at a price in range
@@ -82,10 +82,10 @@ module _ (o : Order) (away : Away) (limited : (limit_of o).0 < price_bound) wher
   unfolding ending_by_best
   ending_below left locked opposite =
       let rests = unless_best_meets o locked opposite (seeks o away) in
-      let else_ioc = if has o.word ioc then Cancels ioc_remainder else rests in
-      below_either (eqb left 0) Filled (if has o.word fok then Cancels fok_killed else else_ioc) tt
-      (below_either (has o.word fok) (Cancels fok_killed) else_ioc tt
-      (below_either (has o.word ioc) (Cancels ioc_remainder) rests tt (unless_below locked opposite (seeks o away) seeks_below)))
+      let else_ioc = if has o.word ioc then Cancels IocRemainder else rests in
+      below_either (eqb left 0) Filled (if has o.word fok then Cancels FokKilled else else_ioc) tt
+      (below_either (has o.word fok) (Cancels FokKilled) else_ioc tt
+      (below_either (has o.word ioc) (Cancels IocRemainder) rests tt (unless_below locked opposite (seeks o away) seeks_below)))
 
 -- ── The refills that are due then ──
 

@@ -19,9 +19,9 @@ use Rattle.rules.specs.declared.Away.{Away}
 use Rattle.rules.specs.declared.Ending.{Ending}
 use Rattle.rules.specs.declared.Ending.TheVariants.{Filled, Rests, Cancels}
 use Rattle.rules.specs.declared.Order.{Order}
+use Rattle.rules.specs.declared.Reason.TheVariants.{PostOnlyMeets}
 use Rattle.rules.specs.declared.Resting.{Resting}
 use Rattle.rules.specs.Book.{unused, in_rank_order}
-use Rattle.rules.specs.EventLines.{post_only_meets}
 use Rattle.rules.specs.Holdings.{after}
 use Rattle.rules.specs.Instructions.{ioc, fok, post_only, displayed, cancel_back, iso, has}
 use Rattle.rules.specs.Working.{buying, beyond, reaches, meets_or_passes, limit_of, locking_price, absent, one_cent_less_aggressive, adjusted, seeks}
@@ -67,7 +67,7 @@ first_of_drop zero (h ∷ s) l = refl
 first_of_drop (suc k) (h ∷ s) l = first_of_drop k s (omega (arith, l))
 
 best_meets : (o : Order) (locked price : HalfCents) (s : List Resting) → has o.word post_only ≡ true → in_rank_order (not (buying o)) s ≡ true
-    → (if any (meets_or_passes (buying o) price) s then Cancels post_only_meets else Rests price) ≡ rests_unless_best_meets o locked s price
+    → (if any (meets_or_passes (buying o) price) s then Cancels PostOnlyMeets else Rests price) ≡ rests_unless_best_meets o locked s price
 unfolding rests_unless_best_meets any
 best_meets o locked price [] post ranked = refl
 best_meets o locked price (best ∷ s) post ranked =

@@ -5,7 +5,8 @@ use Rattle.basics.proofs.LawsLists.{all_at}
 use Rattle.kinds.specs.Kinds.{shares}
 use Rattle.side.specs.Shifts.{Countable}
 use Rattle.rules.specs.Book.{unused, shares_left}
-use Rattle.rules.specs.EventLines.{by_command}
+use Rattle.rules.specs.declared.Reason.TheVariants.{ByCommand}
+use Rattle.rules.specs.Reasons.{number_of_reason}
 use Rattle.rules.proofs.LawsEvents.{cancelled_length}
 use Rattle.commands.proofs.cancels.take_off.Goals as goal
 
@@ -18,4 +19,4 @@ pub returns-clause-value : goal.returns-clause-value
 returns-clause-value c =
     let a = c.args in
     let h = get_or a.t.now a.rank unused in
-    c.write_cancelled.ensures.value ∙ sym (cancelled_length h.number (shares (shares_left h)) by_command)
+    c.write_cancelled.ensures.value ∙ sym (cancelled_length h.number (shares (shares_left h)) (number_of_reason ByCommand))

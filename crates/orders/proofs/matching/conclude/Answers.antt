@@ -9,6 +9,7 @@ use Rattle.rules.specs.declared.Event.{Event}
 use Rattle.rules.specs.declared.Event.TheVariants.{Cancelled, Rested}
 use Rattle.rules.specs.declared.Resting.{Resting}
 use Rattle.rules.specs.EventLines.{event_lines}
+use Rattle.rules.specs.Reasons.{number_of_reason}
 use Rattle.rules.specs.Settling.{insert}
 use Rattle.rules.specs.Working.{buying}
 use Rattle.rules.proofs.LawsEvents.{cancelled_length, rested_length, event_lines_one}
@@ -24,11 +25,12 @@ pub returns-in-Cancels : goal.returns-in-Cancels
 returns-in-Cancels c =
     let a = c.args in
     let w = c.write_cancelled in
-    let e : Event = Cancelled a.number a.left c.in-Cancels.reason in
+    let reason = number_of_reason c.in-Cancels.reason in
+    let e : Event = Cancelled a.number a.left reason in
     rw c.in-Cancels.is (record {
-      value = w.ensures.value ∙ sym (ap length (event_lines_one e) ∙ cancelled_length a.number a.left c.in-Cancels.reason);
+      value = w.ensures.value ∙ sym (ap length (event_lines_one e) ∙ cancelled_length a.number a.left reason);
       own_after = refl;
-      out_after = w.ensures.out_after ∙ ap (λ (l : List ℕ). onto l a.out.now) (sym (event_lines_one e));
+      out_after = rw c.from.ensures at w.ensures.out_after ∙ ap (λ (l : List ℕ). onto l a.out.now) (sym (event_lines_one e));
     })
 
 -- the rest of it rests
