@@ -1,6 +1,6 @@
 // The book as a small header by value and its two sides in place: the form in which commands are worked. The places of a side are loaded
 // once, and saved once.
-ghost use Rattle.std.specs.Prelude.{◌≡◌, ◌≤◌, ◌<◌, take};
+ghost use Rattle.std.specs.Prelude.{◌≡◌, ◌≤◌, ◌<◌, length, take};
 ghost use Rattle.rules.specs.Book.{places_a_side, places_of, orders_in};
 ghost use Rattle.side.specs.Tables.{numbered_at, Numbered};
 ghost use Rattle.side.specs.Sides.{places_on};
