@@ -33,7 +33,7 @@ use Rattle.demands.proofs.LawsStanding as standing
 use Rattle.demands.proofs.LawsTraded as traded
 use Rattle.lent.specs.Lent.{no_places, places_lent, side_of, with_places, fits, lent_step}
 use Rattle.lent.proofs.LawsPromised as lent
-use Rattle.std.specs.Prelude.{Some, None}
+use Rattle.std.specs.Prelude.{Some}
 
 -- ── A day ──
 

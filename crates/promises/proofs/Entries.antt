@@ -289,7 +289,7 @@ pub finish_asks : (κs : _) (a : _) → finish.Pre κs a ≡ (5 ≤ length a.1.0
 finish_asks κs a = refl
 
 pub finish_says : (κs : _) (a : _) (r : ℕ) (s : _) → finish.Post κs a r s
-    ≡ ((r ≡ length (printed_at_end a.0.now)) × (r ≤ length s.1.0.now) × (s.1.0.now ≡ onto (printed_at_end a.0.now) a.1.0.now))
+    ≡ ((r ≡ length (printed_at_end a.0.now)) × ((r ≤ length s.1.0.now) × (s.1.0.now ≡ onto (printed_at_end a.0.now) a.1.0.now)))
 finish_says κs a r s = refl
 
 -- `tally::feed(t, number, input)`: the whole lines of a piece, tallied (02, W1)

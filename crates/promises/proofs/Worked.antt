@@ -47,7 +47,7 @@ use Rattle.promises.proofs.Promises.{executes_in_rank, who_gives_nothing_stays, 
 use Rattle.promises.specs.Night.{night, night_struck_out, night_events, reserved_rests, locked_night, locked_events, locked_sell, locking_buy, sweeping, the_sweeping}
 use Rattle.promises.specs.Night.{minimum_night, minimum_events, large_rests, small, choosy, the_small, the_choosy}
 use Rattle.promises.specs.Night.{killed, greedy, resting, reserved, taking, the_killed, the_greedy, the_resting, the_reserved, the_taking}
-use Rattle.std.specs.Prelude.{Some, None}
+use Rattle.std.specs.Prelude.{Some}
 
 -- ── What the night is computed by ──
 
