@@ -8,7 +8,7 @@ use Rattle.rules.specs.declared.Refusal.{Refusal}
 use Rattle.rules.specs.declared.Resting.{Resting}
 use Rattle.rules.specs.Book.{sound}
 use Rattle.rules.specs.Commands.{with_away, shut}
-use Rattle.side.specs.Answers.{body_answer, Left}
+use Rattle.side.specs.Answers.{LeftBy}
 
 -- the two sides of a sound book
 pub record AreSound (buys sells : List Resting) : Type 0 where
@@ -18,14 +18,12 @@ pub record AreSound (buys sells : List Resting) : Type 0 where
 -- the answer to a cancel, from any command with any header
 abbrev pub Cancels : Number → List Resting → List Resting → List ℕ → Result ℕ Refusal → List Resting → List Resting → List ℕ → Type 0
 Cancels of buys sells out r buys' sells' out' =
-    (n : Number) (time : ℕ) (held : Held)
-    → Left r buys' sells' out' out (body_answer n time (body.Cancel of) (record { held = held; buys = buys; sells = sells }))
+    (n : Number) → LeftBy n (body.Cancel of) buys sells out r buys' sells' out'
 
 -- the answer to a close, likewise
 abbrev pub Closes : List Resting → List Resting → List ℕ → ℕ → List Resting → List Resting → List ℕ → Type 0
 Closes buys sells out len buys' sells' out' =
-    (n : Number) (time : ℕ) (held : Held)
-    → Left (Ok len) buys' sells' out' out (body_answer n time body.Close (record { held = held; buys = buys; sells = sells }))
+    (n : Number) → LeftBy n body.Close buys sells out (Ok len) buys' sells' out'
 
 -- what a body changes of the header
 abbrev pub held_after : Body → Held → Held

@@ -56,7 +56,7 @@ fn carry_out(
     match c.body {
         Body::Order(o) => orders::enter(held, c.number, o, buys, sells, took, out),
         Body::Cancel(of) => cancels::cancel(buys, sells, of, out),
-        Body::Quote(away) => quotes::quote(held, c.number, away, buys, sells, out),
+        Body::Quote(away) => quotes::quote(c.number, away, buys, sells, out),
         Body::Close => Ok(close(buys, sells, out)),
     }
 }

@@ -1,35 +1,29 @@
-// A quote on a sound book whose header and sides are lent: the orders that would now cross the away prices are moved or cancelled (02, W2),
-// buys first.
+// A quote on the two sides of a sound book: the orders that would now cross the away prices are moved or cancelled (02, W2), buys first.
+// The header, where the away prices are kept, is the caller's to write.
 
 #![tactic(auto)]
 
 mod moves;
 
-ghost use Rattle.std.specs.Prelude.{true, ◌≡◌, ◌≤◌, ◌<◌, length};
-ghost use Rattle.rules.specs.Book.{sound};
+ghost use Rattle.std.specs.Prelude.{◌≤◌, length};
 ghost use Rattle.rules.specs.Refusals.{least_room};
 ghost use Rattle.rules.specs.declared.Body.TheVariants as body;
-ghost use Rattle.side.specs.Answers.{body_answer, Left};
+ghost use Rattle.side.specs.Answers.{AreSoundBelow, LeftBy};
 
 use kinds::Number;
-use rules::{Away, Held, Refusal};
+use rules::{Away, Refusal};
 use side::table::Table;
 
-// Of the header only the clauses speak: the caller writes the new one.
 pub fn quote(
-    held: &Held,
     number: Number,
     away: Away,
     buys: &mut Table,
     sells: &mut Table,
     out: &mut [u8],
 ) -> Result<usize, Refusal>
-    requires is_sound { sound (record { held = held.now; buys = buys.old; sells = sells.old }) ≡ true }
+    requires sides { AreSoundBelow number buys.old sells.old }
     requires room { least_room ≤ length out.old }
-    requires next { held.now.last.0 < number.0 }
-    ensures { Left result buys.new sells.new out.new out.old
-        (body_answer number held.now.time (body.Quote away)
-        (record { held = held.now; buys = buys.old; sells = sells.old })) }
+    ensures { LeftBy number (body.Quote away) buys.old sells.old out.old result buys.new sells.new out.new }
 {
     if !(judge::away_in_range(away.bid) & judge::away_in_range(away.offer)) {
         return Err(Refusal::OutOfRange);

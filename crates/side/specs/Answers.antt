@@ -1,12 +1,13 @@
 -- A command to a sound book, with room for its lines: the answer of 01, and what it leaves of the two sides and the output.
-use Rattle.std.specs.Prelude.{ℕ, List, ◌≡◌, length, Some, Result}
+use Rattle.std.specs.Prelude.{ℕ, ◌<◌, true, List, ◌≡◌, length, Some, Result}
 use Rattle.basics.specs.Bytes.{onto}
 use Rattle.kinds.specs.declared.Number.{Number}
 use Rattle.rules.specs.declared.Body.{Body}
 use Rattle.rules.specs.declared.Command.{Command}
+use Rattle.rules.specs.declared.Held.{Held}
 use Rattle.rules.specs.declared.Refusal.{Refusal}
 use Rattle.rules.specs.declared.Resting.{Resting}
-use Rattle.rules.specs.Book.{Book}
+use Rattle.rules.specs.Book.{Book, sound}
 use Rattle.rules.specs.EventLines.{event_lines}
 use Rattle.rules.specs.Refusals.{first_of, body_refusals, line_refusals}
 use Rattle.rules.specs.Refusing.{or_refused}
@@ -28,3 +29,14 @@ Left r buys sells out' out a =
     × (buys ≡ a.book.buys)
     × (sells ≡ a.book.sells)
     × (out' ≡ onto (event_lines a.events) out)
+
+-- two sides are those of a sound book whose last number is below n: those that the command of that number finds
+pub record AreSoundBelow (n : Number) (buys sells : List Resting) : Type 0 where
+  pub held : Held
+  pub is_sound : sound (record { held = held; buys = buys; sells = sells }) ≡ true
+  pub next : held.last.0 < n.0
+
+-- what the body of a command leaves of them, whatever the time is and the header of the book
+abbrev pub LeftBy : Number → Body → List Resting → List Resting → List ℕ → Result ℕ Refusal → List Resting → List Resting → List ℕ → Type 0
+LeftBy n by buys sells out r buys' sells' out' =
+    (time : ℕ) (held : Held) → Left r buys' sells' out' out (body_answer n time by (record { held = held; buys = buys; sells = sells }))

@@ -32,16 +32,16 @@ free = record { order = unused; buy_level = 0; sell_level = 0 }
 
 -- ── A side ──
 
--- The index has a byte for each place, a byte more so that a turn may look one ahead, and then the hints, of which nothing is said.
+-- The index has a byte for each place, and then the hints, of which nothing is said.
 abbrev pub hints : ℕ
 hints = 4096
 
 abbrev pub index_size : ℕ
-index_size = places_a_side + 1 + hints
+index_size = places_a_side + hints
 
 -- where the hint of an order's number stands
 abbrev pub hint_of : ℕ → ℕ
-hint_of n = places_a_side + 1 + n % hints
+hint_of n = places_a_side + n % hints
 
 -- a loop over an index passes parts of so many places
 abbrev pub places_a_part : ℕ

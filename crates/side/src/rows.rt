@@ -14,8 +14,8 @@ pub const PLACES: usize = 256;
 // How many hints an index has, from an order's number to its row.
 pub(crate) const HINTS: usize = 4096;
 
-// How many bytes an index has: one for each place, one more so that a turn may look one ahead, and the hints.
-pub(crate) const INDEX: usize = PLACES + 1 + HINTS;
+// How many bytes an index has: one for each place, and the hints.
+pub(crate) const INDEX: usize = PLACES + HINTS;
 
 // A loop over an index passes as many parts of so many places as the orders need: the length of a part is known, so the compiler makes
 // vectors of it, and a side of few orders is not passed as one of many.
@@ -106,7 +106,7 @@ pub(crate) fn row_of(o: Resting) -> Row
 pub(crate) fn hint_of(number: Number) -> usize
     ensures { result ≡ hint_of number.0 }
 {
-    PLACES + 1 + (number.0 as usize) % HINTS
+    PLACES + (number.0 as usize) % HINTS
 }
 
 // The row of the order at a rank.

@@ -1,73 +1,13 @@
 // Orders moved in and out of one side, in place: the index is turned, and the rows stay where they are.
-ghost use Rattle.std.specs.Prelude.{true, ◌&&◌, ◌≡◌, ◌+◌, ◌-◌, ◌≤◌, ◌<◌, min, ltb, leb, length, drop, get_or, set, if◌then◌else◌};
+ghost use Rattle.std.specs.Prelude.{true, ◌≡◌, ◌+◌, ◌≤◌, ◌<◌, min, length, drop, get_or, set};
 ghost use Rattle.basics.specs.Lists.{every, insert_at, remove_at};
-ghost use Rattle.side.specs.Table.{places_a_part, rotated};
 ghost use Rattle.rules.specs.Book.{places_a_side, unused};
 ghost use Rattle.side.specs.Shifts.{keeps, keepers, less_by};
 
 use crate::rows;
-use crate::rows::{Index, PART};
 use crate::table::Table;
 use kinds::Shares;
 use rules::Resting;
-
-// ── The index turned, with no branch on what it holds ──
-
-// A place of the index within the part that begins at `part`: 0 where it is no later than that, PART where it is behind the part.
-fn within(place: usize, part: usize) -> u8
-    ensures { result ≡ min (place - part) places_a_part }
-{
-    place.saturating_sub(part).min(PART) as u8
-}
-
-// What stands at place `j` once those from `lo` on, before `hi`, have each taken a neighbour's: the neighbour's, or its own.
-fn turned(lo: u8, hi: u8, j: u8, neighbour: u8, own: u8) -> u8
-    ensures { result ≡ (if leb lo j && ltb j hi then neighbour else own) }
-{
-    if (lo <= j) & (j < hi) { neighbour } else { own }
-}
-
-// The byte at place `from` comes to stand at place `to`, which is no later, and those between move one up.
-fn raise(x: &mut Index, from: usize, to: usize)
-    requires { (to ≤ from) × (from < places_a_side) }
-    ensures { x.new ≡ rotated from to x.old }
-{
-    let v = x[from];
-    let steps = rows::STEPS;
-    let mut last: u8 = 0;
-    for part in (0..from + 1).step_by(PART) {
-        let lo = within(to + 1, part);
-        let hi = within(from + 1, part);
-        for i in 0..PART {
-            let b = x[part + i];
-            let j = steps[i];
-            x[part + i] = turned(lo, hi, j, last, b);
-            last = b;
-        }
-    }
-    x[to] = v;
-}
-
-// The same to a place that is no earlier: those between move one down.
-fn lower(x: &mut Index, from: usize, to: usize)
-    requires { (from ≤ to) × (to < places_a_side) }
-    ensures { x.new ≡ rotated from to x.old }
-{
-    let v = x[from];
-    let steps = rows::STEPS;
-    let mut b = x[0];
-    for part in (0..to + 1).step_by(PART) {
-        let lo = within(from, part);
-        let hi = within(to, part);
-        for i in 0..PART {
-            let next = x[part + i + 1];
-            let j = steps[i];
-            x[part + i] = turned(lo, hi, j, next, b);
-            b = next;
-        }
-    }
-    x[to] = v;
-}
 
 // ── Orders ──
 
@@ -95,7 +35,7 @@ impl Table {
     {
         let n = self.held;
         let slot = self.index[n];
-        raise(&mut self.index, n, n - at);
+        self.index[n - at..n + 1].rotate_right(1);
         let hint = rows::hint_of(o.number);
         self.index[hint] = slot;
         self.rows[usize::from(slot)] = rows::row_of(o);
@@ -110,7 +50,7 @@ impl Table {
         ensures room { length self.new < places_a_side }
     {
         let last = self.held - 1;
-        lower(&mut self.index, last - at, last);
+        self.index[last - at..last + 1].rotate_left(1);
         self.held = last;
     }
 

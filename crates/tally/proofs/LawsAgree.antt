@@ -34,7 +34,7 @@ use Rattle.demands.proofs.LawsOnce.{refused_events}
 use Rattle.demands.proofs.LawsRun.{run_read}
 use Rattle.demands.proofs.LawsSums.{conserved}
 use Rattle.demands.proofs.LawsTold.{order_small, acting_fits}
-use Rattle.tally.specs.declared.Stop.TheVariants as stop
+use Rattle.std.specs.Prelude.{None}
 use Rattle.tally.specs.declared.Tally.{Tally}
 use Rattle.tally.specs.Tally.{none_counted, executed_shares, passed_over, added, going_on, turn, tally_of}
 use Rattle.tally.proofs.LawsParties.{same_sums, line_two}
@@ -43,7 +43,7 @@ use Rattle.tally.proofs.LawsParties.{same_sums, line_two}
 pub record Has (t : Tally) (executed cancelled : ℕ) : Type 0 where
   pub executed_are : t.executed.0 ≡ executed
   pub cancelled_are : t.cancelled.0 ≡ cancelled
-  pub going : t.stop ≡ stop.Going
+  pub going : t.stop ≡ None
 
 -- ── One line ──
 
@@ -56,11 +56,11 @@ unfolding refusal_line
 refusal_first code rest = line_first refusal_form (refusal_kind ∷ code ∷ []) rest
 
 module _ (n : Number) where
-  event_turn : (t : Tally) (e : Event) → t.stop ≡ stop.Going → FitsEvent e → turn n t (event_line e) ≡ added (executed_shares n e) (cancelled_by n e) t
+  event_turn : (t : Tally) (e : Event) → t.stop ≡ None → FitsEvent e → turn n t (event_line e) ≡ added (executed_shares n e) (cancelled_by n e) t
   unfolding turn going_on
   event_turn t e g f = rw (g, event_kind e f, event_in_event_line e f) refl
 
-  refusal_turn : (t : Tally) (code : ℕ) → t.stop ≡ stop.Going → turn n t (refusal_line code) ≡ passed_over t
+  refusal_turn : (t : Tally) (code : ℕ) → t.stop ≡ None → turn n t (refusal_line code) ≡ passed_over t
   unfolding turn going_on
   refusal_turn t code g = rw (g, refusal_kind_lem code) refl
 
@@ -89,7 +89,7 @@ module _ (n : Number) where
   has_led {x = x} {y = y} e h = subst (λ (v : Tally). Has v x y) (sym e) h
 
   -- the line of an event is the first of what it begins, and is counted
-  line_leads : (t : Tally) (e : Event) (rest : List ℕ) → t.stop ≡ stop.Going → FitsEvent e
+  line_leads : (t : Tally) (e : Event) (rest : List ℕ) → t.stop ≡ None → FitsEvent e
       → after_lines (turn n) t (lines_in (event_line e ++ rest)) ≡ after_lines (turn n) (added (executed_shares n e) (cancelled_by n e) t) (lines_in rest)
   unfolding after_lines
   line_leads t e rest g f =

@@ -1,12 +1,12 @@
 -- The tally (02, W1): "a tally that takes a day's lines and gives, for one order number, shares executed and cancelled. The tally passes
 -- over `1f` lines, stops with the reader's refusal at any other bad line .. A sum that would pass 4,294,967,295 is refused by name."
-use Rattle.std.specs.Prelude.{ℕ, ◌+◌, ◌-◌, Bool, true, false, ◌||◌, List, [], eqb, ltb, length, if◌then◌else◌, Ok, Err}
+use Rattle.std.specs.Prelude.{ℕ, ◌+◌, ◌-◌, ◌||◌, List, [], eqb, ltb, length, if◌then◌else◌, Some, None, Result, Ok, Err}
+use Rattle.std.specs.Option.{is_some}
 use Rattle.kinds.specs.declared.Number.{Number}
 use Rattle.kinds.specs.Kinds.{shares, largest}
 use Rattle.rules.specs.declared.Event.{Event}
 use Rattle.rules.specs.declared.Event.TheVariants.{Executed, Rested, Cancelled, Moved}
 use Rattle.rules.specs.EventReading.{EventReading}
-use Rattle.rules.specs.declared.NoEvent.TheVariants as no_event
 use Rattle.digits.specs.Digits.{number_at}
 use Rattle.rules.specs.Day.{cut, lines_in}
 use Rattle.rules.specs.EventLines.{refusal_kind}
@@ -20,7 +20,7 @@ use Rattle.tally.specs.declared.Tally.{Tally}
 
 -- nothing was counted yet
 abbrev pub none_counted : Tally
-none_counted = record { lines = 0; executed = shares 0; cancelled = shares 0; stop = stop.Going }
+none_counted = record { lines = 0; executed = shares 0; cancelled = shares 0; stop = None }
 
 -- ── One event ──
 
@@ -39,7 +39,12 @@ abbrev pub one_more : ℕ → ℕ
 one_more k = if ltb k 18446744073709551615 then k + 1 else k
 
 abbrev pub stopped_by : Stop → Tally → Tally
-stopped_by why t = record { lines = t.lines; executed = t.executed; cancelled = t.cancelled; stop = why }
+stopped_by why t = record { lines = t.lines; executed = t.executed; cancelled = t.cancelled; stop = Some why }
+
+-- where a line stops a tally, it says why
+abbrev pub or_stopped : Tally → Result Tally Stop → Tally
+or_stopped t (Ok counted) = counted
+or_stopped t (Err why) = stopped_by why t
 
 abbrev pub passed_over : Tally → Tally
 passed_over t = record { lines = one_more t.lines; executed = t.executed; cancelled = t.cancelled; stop = t.stop }
@@ -59,19 +64,7 @@ added executed cancelled t =
 -- what was read of a line, counted: what it cancels as demand 3 does; a line that is no event line stops it, with the reader's word
 abbrev pub counted : Number → EventReading → Tally → Tally
 counted n (Ok e) t = added (executed_shares n e) (cancelled_by n e) t
-counted n (Err no_event.UnknownKind) t = stopped_by stop.UnknownKind t
-counted n (Err no_event.Short) t = stopped_by stop.Short t
-counted n (Err no_event.TrailingBytes) t = stopped_by stop.TrailingBytes t
-counted n (Err no_event.BadDigitOrEnding) t = stopped_by stop.BadDigitOrEnding t
-
-abbrev pub is_going : Stop → Bool
-is_going stop.Going = true
-is_going stop.UnknownKind = false
-is_going stop.Short = false
-is_going stop.TrailingBytes = false
-is_going stop.BadDigitOrEnding = false
-is_going stop.ExecutedPasses = false
-is_going stop.CancelledPasses = false
+counted n (Err why) t = stopped_by (stop.BadLine why) t
 
 -- a line that begins with `1f` is passed over, whatever follows
 unfoldable pub going_on : Number → Tally → List ℕ → Tally
@@ -79,7 +72,7 @@ going_on n t line = if is_kind refusal_kind (number_at 1 0 line) then passed_ove
 
 -- a tally that has stopped stays
 unfoldable pub turn : Number → Tally → List ℕ → Tally
-turn n t line = if is_going t.stop then going_on n t line else t
+turn n t line = if is_some t.stop then t else going_on n t line
 
 -- ── A day ──
 

@@ -8,24 +8,30 @@ ghost use Rattle.demands.specs.Told.{cancelled_by};
 ghost use Rattle.digits.specs.Digits.{number_at};
 ghost use Rattle.rules.specs.EventLines.{refusal_kind};
 ghost use Rattle.rules.specs.EventReading.{is_kind};
-ghost use Rattle.tally.specs.Tally.{none_counted, executed_shares, one_more, stopped_by, passed_over, added, counted};
-ghost use Rattle.tally.specs.Tally.{is_going, turn, fed_on};
+ghost use Rattle.tally.specs.Tally.{none_counted, executed_shares, passed_over, or_stopped, added, going_on, turn, fed_on};
 
 use command_lines::lines;
 use event_lines::reader;
 use kinds::{Number, Shares};
 use rules::{Event, NoEvent};
 
-// What stopped a tally: nothing yet, a line that is no event line, or a sum that four bytes would not hold.
-#[derive(Clone, Copy)]
+// What stops a tally: a line that is no event line, or a sum that four bytes would not hold.
+#[derive(Clone, Copy, Debug, PartialEq, Eq)]
 pub enum Stop {
-    Going,
-    UnknownKind,
-    Short,
-    TrailingBytes,
-    BadDigitOrEnding,
+    BadLine(NoEvent),
     ExecutedPasses,
     CancelledPasses,
+}
+
+impl From<NoEvent> for Stop {
+    ghost use Rattle.std.specs.Prelude.{◌≡◌};
+    ghost use Rattle.tally.specs.declared.Stop.TheVariants.{BadLine};
+
+    ghost from_gives = { λ why stop. stop ≡ BadLine why };
+
+    fn from(why: NoEvent) -> Stop {
+        Stop::BadLine(why)
+    }
 }
 
 // The lines that were counted, the shares executed and cancelled on them, and what stopped it at the line behind these.
@@ -34,7 +40,7 @@ pub struct Tally {
     pub lines: u64,
     pub executed: Shares,
     pub cancelled: Shares,
-    pub stop: Stop,
+    pub stop: Option<Stop>,
 }
 
 // What the whole lines of a piece leave: the tally, and how many bytes they are.
@@ -52,7 +58,7 @@ pub fn begin() -> Tally
         lines: 0,
         executed: Shares(0),
         cancelled: Shares(0),
-        stop: Stop::Going,
+        stop: None,
     }
 }
 
@@ -69,15 +75,13 @@ fn executed_shares(number: Number, e: Event) -> u32
             shares,
             ..
         } => {
-            let named = (number.0 == incoming.0) | (number.0 == resting.0);
-            if named {
-                return shares.0;
+            if number == incoming || number == resting {
+                shares.0
+            } else {
+                0
             }
-            0
         }
-        Event::Rested { .. } => 0,
-        Event::Cancelled { .. } => 0,
-        Event::Moved { .. } => 0,
+        _ => 0,
     }
 }
 
@@ -85,114 +89,83 @@ fn cancelled_shares(number: Number, e: Event) -> u32
     ensures { result ≡ cancelled_by number e }
 {
     match e {
-        Event::Executed { .. } => 0,
-        Event::Rested { .. } => 0,
         Event::Cancelled {
             number: of,
             shares,
             ..
-        } => {
-            if number.0 == of.0 {
-                return shares.0;
-            }
-            0
-        }
-        Event::Moved { .. } => 0,
+        } => { if number == of { shares.0 } else { 0 } }
+        _ => 0,
     }
 }
 
 // ── One line ──
 
 // One line more; the largest number of eight bytes stays.
-fn one_more(k: u64) -> u64
-    ensures { result ≡ one_more k }
-{
-    if k < 18446744073709551615 {
-        return k + 1;
-    }
-    k
-}
-
-fn stop_by(t: Tally, why: Stop) -> Tally
-    ensures { result ≡ stopped_by why t }
-{
-    Tally { stop: why, ..t }
-}
-
 fn pass_over(t: Tally) -> Tally
     ensures { result ≡ passed_over t }
 {
     Tally {
-        lines: one_more(t.lines),
+        lines: t.lines.saturating_add(1),
         ..t
     }
 }
 
 // The two sums with what an event adds, each within the limit.
-fn add(t: Tally, executed: u32, cancelled: u32) -> Tally
-    ensures { result ≡ added executed cancelled t }
+#[tactic(auto, unfolding(crate::specs::Tally::added))]
+fn add(t: Tally, executed: u32, cancelled: u32) -> Result<Tally, Stop>
+    ensures { or_stopped t result ≡ added executed cancelled t }
 {
-    if kinds::LARGEST - t.executed.0 < executed {
-        return stop_by(t, Stop::ExecutedPasses);
-    }
-    if kinds::LARGEST - t.cancelled.0 < cancelled {
-        return stop_by(t, Stop::CancelledPasses);
-    }
-    Tally {
-        lines: one_more(t.lines),
-        executed: Shares(t.executed.0 + executed),
-        cancelled: Shares(t.cancelled.0 + cancelled),
-        ..t
-    }
-}
-
-fn is_going(stop: Stop) -> bool
-    ensures { result ≡ is_going stop }
-{
-    match stop {
-        Stop::Going => true,
-        Stop::UnknownKind => false,
-        Stop::Short => false,
-        Stop::TrailingBytes => false,
-        Stop::BadDigitOrEnding => false,
-        Stop::ExecutedPasses => false,
-        Stop::CancelledPasses => false,
-    }
+    let executed = t
+        .executed
+        .0
+        .checked_add(executed)
+        .ok_or(Stop::ExecutedPasses)?;
+    let cancelled = t
+        .cancelled
+        .0
+        .checked_add(cancelled)
+        .ok_or(Stop::CancelledPasses)?;
+    Ok(Tally {
+        executed: Shares(executed),
+        cancelled: Shares(cancelled),
+        ..pass_over(t)
+    })
 }
 
 // Whether a line begins with `1f`: it is passed over, whatever follows.
 fn tells_a_refusal(line: &[u8]) -> bool
     ensures { result ≡ is_kind refusal_kind (number_at 1 0 line.now) }
 {
-    let kind = digits::field_at(line, 0, 1);
-    kind.good & (kind.number == 0x1f)
+    digits::field_at(line, 0, 1) == Some(0x1f)
 }
 
-// What was read of a line, counted; a line that is no event line stops it, with the reader's word.
-fn count(t: Tally, number: Number, read: Result<Event, NoEvent>) -> Tally
-    ensures { result ≡ counted number read t }
+// A line counted by a tally that goes on, or what stops it there.
+#[tactic(auto, unfolding(crate::specs::Tally::going_on))]
+fn count(t: Tally, number: Number, line: &[u8]) -> Result<Tally, Stop>
+    ensures { or_stopped t result ≡ going_on number t line.now }
 {
-    match read {
-        Ok(e) => add(t, executed_shares(number, e), cancelled_shares(number, e)),
-        Err(NoEvent::UnknownKind) => stop_by(t, Stop::UnknownKind),
-        Err(NoEvent::Short) => stop_by(t, Stop::Short),
-        Err(NoEvent::TrailingBytes) => stop_by(t, Stop::TrailingBytes),
-        Err(NoEvent::BadDigitOrEnding) => stop_by(t, Stop::BadDigitOrEnding),
+    if tells_a_refusal(line) {
+        return Ok(pass_over(t));
     }
+    let e = reader::read_event(line)?;
+    add(t, executed_shares(number, e), cancelled_shares(number, e))
 }
 
 // One line, of any bytes; a tally that has stopped stays.
+#[tactic(auto, unfolding(crate::specs::Tally::turn))]
 pub fn take_line(t: Tally, number: Number, line: &[u8]) -> Tally
     ensures { result ≡ turn number t line.now }
 {
-    let stop = t.stop;
-    if !is_going(stop) {
+    if t.stop.is_some() {
         return t;
     }
-    if tells_a_refusal(line) {
-        return pass_over(t);
+    match count(t, number, line) {
+        Ok(counted) => counted,
+        Err(stop) => Tally {
+            stop: Some(stop),
+            ..t
+        },
     }
-    count(t, number, reader::read_event(line))
 }
 
 // ── A piece ──

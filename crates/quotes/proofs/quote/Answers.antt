@@ -31,12 +31,12 @@ tested away v bid offer is = ap not (rw (bid, offer) at is)
 
 -- where both are in range, both sides are ready for their moves
 sides_ready : (c : Else-not-away_in_range) (buy : Bool) (k : ℕ) → let a = c.args in
-    Ready buy (record { held = a.held.now; buys = a.buys.now; sells = a.sells.now }) a.number k a.away
+    Ready buy (record { held = c.requires.sides.held; buys = a.buys.now; sells = a.sells.now }) a.number k a.away
 sides_ready c buy k =
     let a = c.args in
-    let b : Book = record { held = a.held.now; buys = a.buys.now; sells = a.sells.now } in
+    let b : Book = record { held = c.requires.sides.held; buys = a.buys.now; sells = a.sells.now } in
     let accepted = tested a.away true c.away_in_range.ensures c.away_in_range-2.ensures c.if-not-away_in_range.false in
-    ready buy b c.requires.is_sound a.number k c.requires.next a.away accepted
+    ready buy b c.requires.sides.is_sound a.number k c.requires.sides.next a.away accepted
 
 -- what the moves of the buys leave
 module _ (c : After-move_side-bought) where
@@ -57,11 +57,11 @@ module _ (c : After-move_side-bought) where
 -- ── A refusal ──
 
 pub returns-then-not-away_in_range : goal.returns-then-not-away_in_range
-returns-then-not-away_in_range c =
+returns-then-not-away_in_range c time held =
     let a = c.args in
-    let b : Book = record { held = a.held.now; buys = a.buys.now; sells = a.sells.now } in
+    let b : Book = record { held = held; buys = a.buys.now; sells = a.sells.now } in
     let out_of_range = tested a.away false c.away_in_range.ensures c.away_in_range-2.ensures c.if-not-away_in_range.true in
-    left_refused OutOfRange b a.out.now (body_answer a.number a.held.now.time (body.Quote a.away) b) (quote_refused a.number a.held.now.time a.away b out_of_range)
+    left_refused OutOfRange b a.out.now (body_answer a.number time (body.Quote a.away) b) (quote_refused a.number time a.away b out_of_range)
 
 -- ── The buys ──
 
@@ -115,11 +115,11 @@ overflow_add-result c =
     record { fits = omega (arith, bought_long at.After-move_side-bought, long, bought, sold) }
 
 pub returns : goal.returns
-returns c =
+returns c time held =
     let at = goal.at.returns c in
     let here = at.After-move_side-bought in
     let a = c.args in
-    let b : Book = record { held = a.held.now; buys = a.buys.now; sells = a.sells.now } in
+    let b : Book = record { held = held; buys = a.buys.now; sells = a.sells.now } in
     let accepted = tested a.away true c.away_in_range.ensures c.away_in_range-2.ensures c.if-not-away_in_range.false in
     let bought = c.move_side-bought in
     let sold = c.move_side-sold in
@@ -133,6 +133,6 @@ returns c =
     sold.ensures.side_after ∙ ap (λ (k : ℕ). settled_side a.number k false (quote_fate a.away false) b.sells) (next_is here) in
     let written =
     lines_behind lines more bought.result.length bought.new.out a.out.now sold.new.out (bought_long here) bought.ensures.out_after sold.ensures.out_after in
-    left_done (quoted a.number a.held.now.time a.away b) len bought.new.t sold.new.t _ a.out.now
-    (body_answer a.number a.held.now.time (body.Quote a.away) b) (quote_done a.number a.held.now.time a.away b accepted) long
+    left_done (quoted a.number time a.away b) len bought.new.t sold.new.t _ a.out.now
+    (body_answer a.number time (body.Quote a.away) b) (quote_done a.number time a.away b accepted) long
     bought.ensures.side_after sells written
