@@ -40,7 +40,8 @@ pub fn header(h: Held, c: Command) -> Result<(), Refusal>
     if seen {
         return Err(Refusal::SeenAlready);
     }
-    if 1 < number.0 - h.last.0 {
+    let ahead = 1 < number.0 - h.last.0;
+    if ahead {
         return Err(Refusal::TooFarAhead);
     }
     if h.closed {

@@ -46,7 +46,7 @@ pub fn enter(
     if !judge::order_in_range(o) {
         return Err(Refusal::OutOfRange);
     }
-    if o.side == 0 {
+    if o.is_buy() {
         matching::match_order(o, number, held.away, buys, sells, took, out)
     } else {
         matching::match_order(o, number, held.away, sells, buys, took, out)

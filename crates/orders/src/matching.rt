@@ -81,7 +81,7 @@ fn conclude(
         Ending::Filled => 0,
         Ending::Cancels(reason) => writer::write_cancelled(out, number, left, u8::from(reason)),
         Ending::Rests(price) => {
-            own.rest(o.side == 0, remainder_of(number, o, left, price));
+            own.rest(o.is_buy(), remainder_of(number, o, left, price));
             writer::write_rested(out, number, price, left)
         }
     }
@@ -109,7 +109,7 @@ fn finish(
     ensures out_after { out.new ≡ onto (event_lines (last_line number left.0 end ++ told refill_fate opposite.old)) out.old }
 {
     let len = conclude(o, number, end, left, own, out);
-    let more = refills::refill(opposite, reached, o.side != 0, number, &mut out[len..]);
+    let more = refills::refill(opposite, reached, !o.is_buy(), number, &mut out[len..]);
     len + more
 }
 
@@ -138,7 +138,7 @@ pub(crate) fn match_order(
     if full {
         return Err(Refusal::FullSide);
     }
-    let length = reports::report(opposite, took, number, o.side == 0, locked, out);
+    let length = reports::report(opposite, took, number, o.is_buy(), locked, out);
     fills::take_off(opposite, w.at, took);
     let reached = opposite.len() - unreached;
     let more = finish(

@@ -56,7 +56,7 @@ fn limit_of(o: Order) -> HalfCents
     if !instructions::has(o.word, rules::MARKET) {
         return price.in_half_cents();
     }
-    if o.side == 0 {
+    if o.is_buy() {
         return HalfCents(kinds::LARGEST);
     }
     HalfCents(0)
@@ -68,7 +68,7 @@ fn bound_of(o: Order, away: Away) -> HalfCents
     requires { ((limit_of o).0 ≤ largest) × ((locking_price (buying o) away).0 ≤ largest) }
     ensures { result ≡ bound_of o away }
 {
-    let buy = o.side == 0;
+    let buy = o.is_buy();
     let limit = limit_of(o);
     let locking = prices::locking_price(buy, away);
     if instructions::has(o.word, rules::ISO) | (locking.0 == 0) {
@@ -87,7 +87,7 @@ pub(crate) fn bound_under(o: Order, away: Away, locked: HalfCents) -> HalfCents
 {
     let bound = bound_of(o, away);
     if bound == locked {
-        return half_a_cent(o.side != 0, bound);
+        return half_a_cent(!o.is_buy(), bound);
     }
     bound
 }
@@ -122,7 +122,7 @@ pub(crate) fn seek(o: Order, away: Away) -> Ending
     requires { ((limit_of o).0 ≤ largest) × ((locking_price (buying o) away).0 < largest - 1) }
     ensures { result ≡ seeks o away }
 {
-    let buy = o.side == 0;
+    let buy = o.is_buy();
     let price = o.price.in_half_cents();
     let locking = prices::locking_price(buy, away);
     if instructions::has(o.word, rules::ISO) | (locking.0 == 0) {

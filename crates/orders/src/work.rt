@@ -50,7 +50,7 @@ pub(crate) fn walk_of(o: Order, bound: HalfCents, t: &Table, took: &mut Takings)
         took.clear();
         return nothing;
     }
-    let w = walk::walk(t, o.side == 0, bound, o.shares, took);
+    let w = walk::walk(t, o.is_buy(), bound, o.shares, took);
     let too_few = o.shares.0 - w.left.0 < least_of(o).0;
     if too_few {
         took.clear();
@@ -85,7 +85,7 @@ fn rest_unless_meets(
     let Some(best) = t.get(kept) else {
         return Ending::Rests(price);
     };
-    let buy = o.side == 0;
+    let buy = o.is_buy();
     if instructions::has(o.word, rules::POST_ONLY) {
         if meets(buy, price, best) {
             return Ending::Cancels(Reason::PostOnlyMeets);

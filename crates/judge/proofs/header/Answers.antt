@@ -17,9 +17,9 @@ returns-then-seen c =
     let a = c.args in
     rw (le-leb a.c.number.0 a.h.last.0 c.if-seen.true)
 
-pub returns-then-number-h-gt1 : goal.returns-then-number-h-gt1
+pub returns-then-ahead : goal.returns-then-ahead
 unfolding first_of header_refusals
-returns-then-number-h-gt1 c =
+returns-then-ahead c =
     let a = c.args in
     let over : a.h.last.0 + 1 < a.c.number.0 = omega arith in
     rw (lt-leb _ _ c.if-seen.false, lt-ltb _ _ over)

@@ -1,7 +1,6 @@
 -- `orders::enter` meets its contract: the match of an order, on whichever side of the market, is what 01 does. Assumes nothing.
 use mathlib.Core.Bool.{true, false, not, ◌&&◌, beq}
 use mathlib.Core.Path.{◌≡◌, sym, ◌∙◌}
-use borrow.Author.Tests.{eq-eqb, ne_eqb}
 use Rattle.basics.proofs.LawsChoice.{and_left}
 use Rattle.rules.specs.declared.Refusal.TheVariants.{UnlawfulWord, OutOfRange}
 use Rattle.rules.specs.Book.{Book}
@@ -52,27 +51,27 @@ match_order-requires-clause-ready c =
     let p = c.requires in
     ready c.args.o c.args.number true (book (goal.at.match_order-requires-clause-ready c).Start) p.is_sound p.next
     (word_lawful (goal.at.match_order-requires-clause-ready c).Else-not-order_lawful)
-    (in_range (goal.at.match_order-requires-clause-ready c).Else-not-order_in_range) (eq-eqb _ _ c.if-o-eq0.true)
+    (in_range (goal.at.match_order-requires-clause-ready c).Else-not-order_in_range) (sym c.is_buy.ensures ∙ c.if-is_buy.true)
 
-pub returns-then-o-eq0 : goal.returns-then-o-eq0
-returns-then-o-eq0 c =
+pub returns-then-is_buy : goal.returns-then-is_buy
+returns-then-is_buy c =
     let a = c.args in
-    left_entered a.number a.held.now.time a.o (book (goal.at.returns-then-o-eq0 c).Start)
-    (is_lawful (goal.at.returns-then-o-eq0 c).Else-not-order_lawful) (in_range (goal.at.returns-then-o-eq0 c).Else-not-order_in_range)
-    true (eq-eqb _ _ c.if-o-eq0.true) _ _ _ _ _ c.match_order.ensures
+    left_entered a.number a.held.now.time a.o (book (goal.at.returns-then-is_buy c).Start)
+    (is_lawful (goal.at.returns-then-is_buy c).Else-not-order_lawful) (in_range (goal.at.returns-then-is_buy c).Else-not-order_in_range)
+    true (sym c.is_buy.ensures ∙ c.if-is_buy.true) _ _ _ _ _ c.match_order.ensures
 
 -- a sell
 
-pub match_order-requires-else-o-eq0-clause-ready : goal.match_order-requires-else-o-eq0-clause-ready
-match_order-requires-else-o-eq0-clause-ready c =
+pub match_order-requires-else-is_buy-clause-ready : goal.match_order-requires-else-is_buy-clause-ready
+match_order-requires-else-is_buy-clause-ready c =
     let p = c.requires in
-    ready c.args.o c.args.number false (book (goal.at.match_order-requires-else-o-eq0-clause-ready c).Start) p.is_sound p.next
-    (word_lawful (goal.at.match_order-requires-else-o-eq0-clause-ready c).Else-not-order_lawful)
-    (in_range (goal.at.match_order-requires-else-o-eq0-clause-ready c).Else-not-order_in_range) (ne_eqb _ _ c.if-o-eq0.false)
+    ready c.args.o c.args.number false (book (goal.at.match_order-requires-else-is_buy-clause-ready c).Start) p.is_sound p.next
+    (word_lawful (goal.at.match_order-requires-else-is_buy-clause-ready c).Else-not-order_lawful)
+    (in_range (goal.at.match_order-requires-else-is_buy-clause-ready c).Else-not-order_in_range) (sym c.is_buy.ensures ∙ c.if-is_buy.false)
 
-pub returns-else-o-eq0 : goal.returns-else-o-eq0
-returns-else-o-eq0 c =
+pub returns-else-is_buy : goal.returns-else-is_buy
+returns-else-is_buy c =
     let a = c.args in
-    left_entered a.number a.held.now.time a.o (book (goal.at.returns-else-o-eq0 c).Start)
-    (is_lawful (goal.at.returns-else-o-eq0 c).Else-not-order_lawful) (in_range (goal.at.returns-else-o-eq0 c).Else-not-order_in_range)
-    false (ne_eqb _ _ c.if-o-eq0.false) _ _ _ _ _ c.match_order-else-o-eq0.ensures
+    left_entered a.number a.held.now.time a.o (book (goal.at.returns-else-is_buy c).Start)
+    (is_lawful (goal.at.returns-else-is_buy c).Else-not-order_lawful) (in_range (goal.at.returns-else-is_buy c).Else-not-order_in_range)
+    false (sym c.is_buy.ensures ∙ c.if-is_buy.false) _ _ _ _ _ c.match_order-else-is_buy.ensures

@@ -7,11 +7,8 @@ use Rattle.basics.specs.Bytes.{onto}
 use Rattle.basics.proofs.LawsBytes.{onto_none}
 use Rattle.rules.specs.declared.Event.{Event}
 use Rattle.rules.specs.declared.Event.TheVariants.{Cancelled, Rested}
-use Rattle.rules.specs.declared.Resting.{Resting}
 use Rattle.rules.specs.EventLines.{event_lines}
 use Rattle.rules.specs.Reasons.{number_of_reason}
-use Rattle.rules.specs.Settling.{insert}
-use Rattle.rules.specs.Working.{buying}
 use Rattle.rules.proofs.LawsEvents.{cancelled_length, rested_length, event_lines_one}
 use Rattle.orders.proofs.matching.conclude.Goals as goal
 
@@ -41,6 +38,6 @@ returns-in-Rests c =
     let e : Event = Rested a.number c.in-Rests.price a.left in
     rw c.in-Rests.is (record {
       value = w.ensures.value ∙ sym (ap length (event_lines_one e) ∙ rested_length a.number c.in-Rests.price a.left);
-      own_after = c.rest.ensures ∙ ap (λ (o : Resting). insert (buying a.o) o a.own.now) c.remainder_of.ensures;
+      own_after = rw (sym c.is_buy.ensures, sym c.remainder_of.ensures) c.rest.ensures;
       out_after = w.ensures.out_after ∙ ap (λ (l : List ℕ). onto l a.out.now) (sym (event_lines_one e));
     })

@@ -1,4 +1,5 @@
 -- `orders::matching::finish` meets its contract: the order's last line, and behind it those of the refills. Assumes nothing.
+use mathlib.Core.Path.{sym}
 use Prim.Native.Nat.{ℕ, ◌+◌, ◌-◌, ◌*◌, ◌≤◌}
 use mathlib.Core.List.{List}
 use lib.ListN.{length, take, drop, length-take, length-drop, length-append}
@@ -56,6 +57,6 @@ returns c =
     record {
       value = rw (event_lines_append (last here) refills, length-append, l.ensures.value, f.ensures.value);
       own_after = l.ensures.own_after;
-      opposite_after = f.ensures.settles;
+      opposite_after = rw (sym c.is_buy.ensures) f.ensures.settles;
       out_after = lines_behind (last here) refills l.result (out here) a.out.now f.new.out l.ensures.value l.ensures.out_after f.ensures.out_after;
     }

@@ -279,7 +279,7 @@ returns c =
     rw (event_lines_append (executed k) rest) (omega (arith, length-append (event_lines (executed k)) (event_lines rest), len, more)) in
     let x = r.new.out in
     let wrote : x ≡ onto (event_lines (executed k)) a.out.now =
-    r.ensures.out_after ∙ ap (λ (es : List Event). onto (event_lines es) a.out.now) (executed_is k) in
+    (rw c.is_buy.ensures at r.ensures.out_after) ∙ ap (λ (es : List Event). onto (event_lines es) a.out.now) (executed_is k) in
     let behind : f.new.out ≡ onto (event_lines rest) (take (length x - r.result) (drop r.result x)) =
     f.ensures.out_after
     ∙ ap (λ (u : List Resting). onto (event_lines (last ++ told refill_fate u)) (take (length x - r.result) (drop r.result x))) left in
