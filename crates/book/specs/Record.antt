@@ -1,4 +1,6 @@
 -- The book by value and the book record of 01 are one thing, field by field; so are a reply and what a step returns.
+use Rattle.std.specs.Prelude.{ℕ, List, ◌≡◌, Result}
+use Rattle.rules.specs.declared.Refusal.{Refusal}
 use Rattle.rules.specs.Book.{BookRecord}
 use Rattle.rules.specs.Refusing.{or_refused}
 use Rattle.rules.specs.Step.{Returned}
@@ -22,3 +24,7 @@ book_with r = record {
 
 abbrev pub reply_of : Returned → Reply
 reply_of r = record { answer = or_refused r.length r.refusal; book = book_with r.book }
+
+-- what a step returns, as it is left in place: the book, the result and the output
+abbrev pub Answered : Book → Result ℕ Refusal → List ℕ → Returned → Type 0
+Answered book answer out r = (answer ≡ or_refused r.length r.refusal) × (book ≡ book_with r.book) × (out ≡ r.out)

@@ -3,12 +3,12 @@
 
 #![tactic(auto)]
 
-ghost use Rattle.std.specs.Prelude.{true, ◌≡◌, ◌≤◌, length, Err};
-ghost use Rattle.rules.specs.Book.{fresh, book_in, record_of, record_sound};
+ghost use Rattle.std.specs.Prelude.{true, ◌≡◌, ◌≤◌, length};
+ghost use Rattle.rules.specs.Book.{fresh, record_of, record_sound};
 ghost use Rattle.rules.specs.Refusals.{least_room};
 ghost use Rattle.rules.specs.Step.{step, step_on};
 ghost use Rattle.rules.specs.declared.Body.TheVariants as body;
-ghost use Rattle.book.specs.Record.{record_in, book_with, reply_of};
+ghost use Rattle.book.specs.Record.{record_in, book_with, reply_of, Answered};
 
 use command_lines::reader;
 use kinds::{Cents, Number};
@@ -91,115 +91,95 @@ impl Book {
     }
 
     // ── A command ──
+    // Within, a book is changed in place: for the stack's sake no copy of its 18 KB is made while a command is worked, and the sides are loaded
+    // where they stand.
 
-    // A sound book in place.
-    #[tactic(auto, using(crate::proofs::LawsRecord::buys_fit, crate::proofs::LawsRecord::sells_fit), unfolding(rules::specs::Book::book_in))]
-    fn load(&self) -> SoundBook
-        requires { record_sound (record_in self.now) ≡ true }
-        ensures { result ≡ book_in (record_in self.now) }
-    {
-        let mut buys = Table::empty();
-        let mut sells = Table::empty();
-        buys.load(&self.buys.places, self.buys.used);
-        sells.load(&self.sells.places, self.sells.used);
-        SoundBook {
-            held: self.held,
-            buys,
-            sells,
-        }
-    }
-
-    // A command to a sound book, with room for its lines. What is held in place is saved after a refusal too, for it is the book as it came:
-    // so no copy of that is alive while the command is worked.
-    #[tactic(auto, using(crate::proofs::LawsWork::step_left))]
-    fn work(self, c: Command, out: &mut [u8]) -> Reply
-        requires is_sound { record_sound (record_in self) ≡ true }
+    // A command to a sound book, with room for its lines. What is held in place is saved after a refusal too, for it is the book as it came.
+    #[tactic(auto, using(crate::proofs::LawsRecord::buys_fit, crate::proofs::LawsRecord::sells_fit))]
+    fn work(&mut self, c: Command, out: &mut [u8]) -> Result<usize, Refusal>
+        requires is_sound { record_sound (record_in self.old) ≡ true }
         requires room { least_room ≤ length out.old }
-        ensures value { result ≡ reply_of (step_on (record_in self) (Some c) out.old) }
-        ensures out_after { out.new ≡ (step_on (record_in self) (Some c) out.old).out }
+        ensures { Answered self.new result out.new (step_on (record_in self.old) (Some c) out.old) }
     {
-        let mut book = self.load();
+        let mut book = SoundBook {
+            held: self.held,
+            buys: Table::empty(),
+            sells: Table::empty(),
+        };
+        book.buys.load(&self.buys.places, self.buys.used);
+        book.sells.load(&self.sells.places, self.sells.used);
         let mut took = Takings::new();
         let answer = commands::apply(&mut book, c, &mut took, out);
-        let saved = Book::from(&book);
-        Reply {
-            answer,
-            book: saved,
-        }
-    }
-
-    // A refusal hands back the same book.
-    fn refuse(self, refusal: Refusal) -> Reply
-        ensures { result ≡ record { answer = Err refusal; book = self } }
-    {
-        Reply {
-            answer: Err(refusal),
-            book: self,
-        }
+        *self = Book::from(&book);
+        answer
     }
 
     // What was read of a line, whatever the book and the output: the refusals in 01's order, and then the command.
-    #[tactic(auto, using(crate::proofs::LawsStep::step_no_room, crate::proofs::LawsStep::step_unsound, crate::proofs::LawsStep::step_no_command))]
-    fn respond(self, reading: Option<Command>, out: &mut [u8]) -> Reply
-        ensures value { result ≡ reply_of (step_on (record_in self) reading out.old) }
-        ensures out_after { out.new ≡ (step_on (record_in self) reading out.old).out }
+    #[tactic(auto, using(crate::proofs::LawsStep::step_no_command))]
+    fn respond(&mut self, reading: Option<Command>, out: &mut [u8]) -> Result<usize, Refusal>
+        ensures { Answered self.new result out.new (step_on (record_in self.old) reading out.old) }
     {
         let short = out.len() < rules::LEAST_ROOM;
         if short {
-            return self.refuse(Refusal::NoRoom);
+            return Err(Refusal::NoRoom);
         }
         let sound = inspection::is_sound(&self.held, &self.buys, &self.sells);
         if !sound {
-            return self.refuse(Refusal::UnsoundBook);
+            return Err(Refusal::UnsoundBook);
         }
         let Some(c) = reading else {
-            return self.refuse(Refusal::NoCommand);
+            return Err(Refusal::NoCommand);
         };
         self.work(c, out)
     }
 
-    pub fn accept(self, number: Number, time: u32, order: Order, out: &mut [u8]) -> Reply
+    pub fn accept(mut self, number: Number, time: u32, order: Order, out: &mut [u8]) -> Reply
         ensures value { result ≡ reply_of (step_on (record_in self)
             (Some (record { number = number; time = time; body = body.Order order })) out.old) }
         ensures out_after { out.new ≡ (step_on (record_in self)
             (Some (record { number = number; time = time; body = body.Order order })) out.old).out }
     {
-        self.respond(command(number, time, Body::Order(order)), out)
+        let answer = self.respond(command(number, time, Body::Order(order)), out);
+        Reply { answer, book: self }
     }
 
-    pub fn cancel(self, number: Number, time: u32, of: Number, out: &mut [u8]) -> Reply
+    pub fn cancel(mut self, number: Number, time: u32, of: Number, out: &mut [u8]) -> Reply
         ensures value { result ≡ reply_of (step_on (record_in self)
             (Some (record { number = number; time = time; body = body.Cancel of })) out.old) }
         ensures out_after { out.new ≡ (step_on (record_in self)
             (Some (record { number = number; time = time; body = body.Cancel of })) out.old).out }
     {
-        self.respond(command(number, time, Body::Cancel(of)), out)
+        let answer = self.respond(command(number, time, Body::Cancel(of)), out);
+        Reply { answer, book: self }
     }
 
-    pub fn quote(self, number: Number, time: u32, away: Away, out: &mut [u8]) -> Reply
+    pub fn quote(mut self, number: Number, time: u32, away: Away, out: &mut [u8]) -> Reply
         ensures value { result ≡ reply_of (step_on (record_in self)
             (Some (record { number = number; time = time; body = body.Quote away })) out.old) }
         ensures out_after { out.new ≡ (step_on (record_in self)
             (Some (record { number = number; time = time; body = body.Quote away })) out.old).out }
     {
-        self.respond(command(number, time, Body::Quote(away)), out)
+        let answer = self.respond(command(number, time, Body::Quote(away)), out);
+        Reply { answer, book: self }
     }
 
-    pub fn close(self, number: Number, time: u32, out: &mut [u8]) -> Reply
+    pub fn close(mut self, number: Number, time: u32, out: &mut [u8]) -> Reply
         ensures value { result ≡ reply_of (step_on (record_in self) (Some (record { number = number; time = time; body = body.Close }))
             out.old) }
         ensures out_after { out.new ≡ (step_on (record_in self)
             (Some (record { number = number; time = time; body = body.Close })) out.old).out }
     {
-        self.respond(command(number, time, Body::Close), out)
+        let answer = self.respond(command(number, time, Body::Close), out);
+        Reply { answer, book: self }
     }
 
     // The entry: a line of any bytes to any book, with any output.
     #[tactic(auto, unfolding(rules::specs::Step::step))]
-    pub fn answer(self, line: &[u8], out: &mut [u8]) -> Reply
+    pub fn answer(mut self, line: &[u8], out: &mut [u8]) -> Reply
         ensures value { result ≡ reply_of (step (record_in self) line.now out.old) }
         ensures out_after { out.new ≡ (step (record_in self) line.now out.old).out }
     {
-        self.respond(reader::read_command(line), out)
+        let answer = self.respond(reader::read_command(line), out);
+        Reply { answer, book: self }
     }
 }

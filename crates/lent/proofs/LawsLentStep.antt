@@ -1,5 +1,5 @@
 -- The ways of a line to a book of which one side is lent: the table does not fit, or what the whole book answers is taken apart; and
--- what `answer` and `answer_lending` return, by those ways. Assumes nothing.
+-- what `work` and `lend` leave, by those ways. Assumes nothing.
 use Prim.Native.Nat.{ℕ}
 use mathlib.Core.Bool.{Bool, true, false}
 use mathlib.Core.List.{List}
@@ -10,15 +10,17 @@ use lib.ListN.{length}
 use borrow.Author.Tests.{eq-eqb, ne_eqb, eqb-true, eqb-false}
 use Rattle.basics.specs.Lists.{first_where}
 use Rattle.basics.proofs.LawsChoice.{holds_or_not}
+use Rattle.std.specs.Prelude.{Result}
+use Rattle.rules.specs.declared.Refusal.{Refusal}
 use Rattle.rules.specs.declared.Resting.{Resting}
-use Rattle.rules.specs.Book.{Places, BookRecord, places_a_side, is_unused}
+use Rattle.rules.specs.Book.{BookRecord, places_a_side, is_unused}
 use Rattle.rules.specs.Refusals.{first_of, fit_refusals}
 use Rattle.rules.specs.Refusing.{or_refused}
 use Rattle.rules.specs.Step.{Returned, step}
 use Rattle.book.specs.declared.Book as value
 use Rattle.book.specs.declared.Reply.{Reply}
-use Rattle.book.specs.Record.{record_in, book_with, reply_of}
-use Rattle.lent.specs.Lent.{Answered, places_lent, no_places, is_empty, is_counted, side_of, with_places, fits, lent_step}
+use Rattle.book.specs.Record.{record_in, book_with, reply_of, Answered}
+use Rattle.lent.specs.Lent.{Lent, LeftOf, places_lent, no_places, is_empty, is_counted, side_of, with_places, fits, lent_step}
 use Rattle.lent.proofs.LawsSame.{lent_is_answer, uncounted_refused, without_side, apart_is_lem, together_is}
 
 module _ (buys : Bool) (r : BookRecord) (table : List Resting) (line out : List ℕ) where
@@ -46,57 +48,49 @@ module _ (buys : Bool) (r : BookRecord) (table : List Resting) (line out : List 
 
 -- ── The same as the code has it ──
 
--- what `refuse` returns
-abbrev pub refused : value.Book → ℕ → Reply
-refused book room = record { answer = or_refused 0 (first_of (fit_refusals room false)); book = book }
-
--- a reply with another side in its book
-abbrev pub with_side_of : Bool → Places → Reply → Reply
-with_side_of buys p reply = record { answer = reply.answer; book = book_with (with_places buys p (record_in reply.book)) }
+-- what `refused` returns
+abbrev pub refusal_of : ℕ → Result ℕ Refusal
+refusal_of room = or_refused 0 (first_of (fit_refusals room false))
 
 module _ (buys : Bool) (book : value.Book) (table : List Resting) (line out : List ℕ) where
-  -- the table has not a record for each place, or that side of the book is not empty: all is left
-  pub answered_short : length table ≢ places_a_side → (reply : Reply) → reply ≡ refused book (length out)
-      → Answered buys (record_in book) table line out reply table out
-  answered_short n reply reply_is = rw (lent_short buys (record_in book) table line out n, reply_is) (refl, refl, refl)
+  abbrev it : Lent
+  it = lent_step buys (record_in book) table line out
 
-  pub answered_unfit : is_empty (side_of buys (record_in book)) ≡ false → (reply : Reply) → reply ≡ refused book (length out)
-      → Answered buys (record_in book) table line out reply table out
-  answered_unfit e reply reply_is = rw (lent_unfit buys (record_in book) table line out e, reply_is) (refl, refl, refl)
+  -- the table has not a record for each place, or that side of the book is not empty: all is left
+  pub left_short : length table ≢ places_a_side → LeftOf it book (refusal_of (length out)) table out
+  left_short n = rw (lent_short buys (record_in book) table line out n) (refl, refl, refl, refl)
+
+  pub left_unfit : is_empty (side_of buys (record_in book)) ≡ false → LeftOf it book (refusal_of (length out)) table out
+  left_unfit e = rw (lent_unfit buys (record_in book) table line out e) (refl, refl, refl, refl)
 
   -- the whole book's reply is taken apart
-  pub answered : length table ≡ places_a_side → is_empty (side_of buys (record_in book)) ≡ true
+  pub left_fit : length table ≡ places_a_side → is_empty (side_of buys (record_in book)) ≡ true
       → let s = step (with_places buys (places_lent table) (record_in book)) line out in
       (reply : Reply) → reply ≡ reply_of s → (out' : List ℕ) → out' ≡ s.out
-      → Answered buys (record_in book) table line out (with_side_of buys no_places reply) (side_of buys (record_in reply.book)).places out'
-  answered all empty reply reply_is out' out_is = rw (lent_fit buys (record_in book) table line out all empty, reply_is, out_is) (refl, refl, refl)
+      → LeftOf it (book_with (with_places buys no_places (record_in reply.book))) reply.answer (side_of buys (record_in reply.book)).places out'
+  left_fit all empty reply reply_is out' out_is =
+      rw (lent_fit buys (record_in book) table line out all empty, reply_is, out_is) (refl, refl, refl, refl)
 
--- ── A side taken out, lent, and put in again: what comes back is the book's own answer ──
+-- ── A side taken out, lent, and put in again: what is left is the book's own answer ──
 
 module _ (buys : Bool) (book : value.Book) (line out : List ℕ) where
   abbrev own : Returned
   own = step (record_in book) line out
 
   -- the side's count is not that of its leading records
-  pub lending_uncounted : is_counted (side_of buys (record_in book)) ≡ false → (reply : Reply) → reply ≡ refused book (length out)
-      → (reply ≡ reply_of own) × (out ≡ own.out)
-  lending_uncounted uncounted reply reply_is =
+  pub lending_uncounted : is_counted (side_of buys (record_in book)) ≡ false → Answered book (refusal_of (length out)) out own
+  lending_uncounted uncounted =
       let side = side_of buys (record_in book) in
-      let told = uncounted_refused buys (record_in book) line out (eqb-false side.used (first_where is_unused side.places) uncounted) in
-      rw (told, reply_is) (refl, refl)
+      rw (uncounted_refused buys (record_in book) line out (eqb-false side.used (first_where is_unused side.places) uncounted)) (refl, refl, refl)
 
   -- it is: what came of the lent side is put together again
   pub lending_counted : is_counted (side_of buys (record_in book)) ≡ true → length (side_of buys (record_in book)).places ≡ places_a_side
-      → (table' : List Resting) (reply : Reply) (out' : List ℕ)
-      → Answered buys (with_places buys no_places (record_in book)) (side_of buys (record_in book)).places line out reply table' out'
-      → (with_side_of buys (places_lent table') reply ≡ reply_of own) × (out' ≡ own.out)
-  lending_counted is_true all table' reply out' answered =
+      → (rest' : value.Book) (answer : Result ℕ Refusal) (table' : List Resting) (out' : List ℕ)
+      → LeftOf (lent_step buys (with_places buys no_places (record_in book)) (side_of buys (record_in book)).places line out) rest' answer table' out'
+      → Answered (book_with (with_places buys (places_lent table') (record_in rest'))) answer out' own
+  lending_counted is_true all rest' answer table' out' left =
       let r = record_in book in
       let side = side_of buys r in
       let counted = eqb-true side.used (first_where is_unused side.places) is_true in
-      let same = lent_is_answer buys r line out counted all in
-      let told = rw same at answered in
-      (rw (told.0, told.1) (ap with_book (together_is buys r line out counted)), told.2)
-    where
-      with_book : BookRecord → Reply
-      with_book r = record { answer = or_refused own.length own.refusal; book = book_with r }
+      let told = rw (lent_is_answer buys r line out counted all) at left in
+      (told.0, rw (told.1, told.2) (ap book_with (together_is buys r line out counted)), told.3)

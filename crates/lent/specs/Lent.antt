@@ -1,13 +1,15 @@
 -- One side as a lent table of resting-order records (01, The book): "The table (64 records, else refusal 2) stands for that side and is
 -- left as the core would leave it; a refusal leaves it untouched. The book lent with it has all places of that side zero, else
 -- refusal 2, and comes back so." With W5 it has 256 records.
-use Rattle.std.specs.Prelude.{ℕ, Bool, false, ◌&&◌, List, ◌≡◌, eqb, length, replicate, if◌then◌else◌}
+use Rattle.std.specs.Prelude.{Result, ℕ, Bool, false, ◌&&◌, List, ◌≡◌, eqb, length, replicate, if◌then◌else◌}
 use Rattle.basics.specs.Lists.{every, first_where}
+use Rattle.rules.specs.declared.Refusal.{Refusal}
 use Rattle.rules.specs.declared.Resting.{Resting}
 use Rattle.rules.specs.Book.{Places, BookRecord, places_a_side, unused, is_unused}
 use Rattle.rules.specs.Refusals.{first_of, fit_refusals}
 use Rattle.rules.specs.Refusing.{or_refused}
 use Rattle.rules.specs.Step.{Returned, step}
+use Rattle.book.specs.declared.Book.{Book}
 use Rattle.book.specs.declared.Reply.{Reply}
 use Rattle.book.specs.Record.{book_with}
 
@@ -76,6 +78,10 @@ lent_step buys r table line out =
 -- the same as the code hands it back
 abbrev pub reply_lent : Lent → Reply
 reply_lent l = record { answer = or_refused l.length l.refusal; book = book_with l.book }
+
+-- the same as it is left in place: the book, the result, the table and the output
+abbrev pub LeftOf : Lent → Book → Result ℕ Refusal → List Resting → List ℕ → Type 0
+LeftOf l book answer table out = (answer ≡ or_refused l.length l.refusal) × (book ≡ book_with l.book) × (table ≡ l.table) × (out ≡ l.out)
 
 -- the contract of the entry: the reply, the table and the output that a call leaves
 abbrev pub Answered : Bool → BookRecord → List Resting → List ℕ → List ℕ → Reply → List Resting → List ℕ → Type 0
