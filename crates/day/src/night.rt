@@ -57,7 +57,8 @@ pub fn finish(part: &[u8], out: &mut [u8]) -> usize
     ensures fits { result ≤ length out.new }
     ensures out_after { out.new ≡ onto (printed_at_end part.now) out.old }
 {
-    if part.len() == 0 {
+    let none_waits = part.len() == 0;
+    if none_waits {
         return 0;
     }
     writer::write_refusal(out, u8::from(Refusal::NoCommand))

@@ -105,7 +105,8 @@ fn run_day(to: &mut impl io::Write, day: &[u8], out: &mut [u8]) -> Result<bool>
     Ok(false)
 }
 
-// The days, each under the line that names it.
+// The days, each under the line that names it. They are passed by their places: a day is a run of lines, and whatever goes over lines
+// would still have to count their bytes.
 fn run_days(to: &mut impl io::Write, days: &[u8], out: &mut [u8]) -> Result<()>
     requires { least_room ≤ length out.old }
 {

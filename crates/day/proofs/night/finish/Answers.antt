@@ -20,16 +20,16 @@ unfolding printed_at_end
 some_part [] n = absurd (n refl)
 some_part (b ∷ part) n = refl
 
-pub returns-then-part-eq0 : goal.returns-then-part-eq0
-returns-then-part-eq0 c =
+pub returns-then-none_waits : goal.returns-then-none_waits
+returns-then-none_waits c =
     let a = c.args in
-    rw (no_part a.part.now c.if-part-eq0.true) (record { value = refl; fits = omega arith; out_after = onto_none a.out.now })
+    rw (no_part a.part.now c.if-none_waits.true) (record { value = refl; fits = omega arith; out_after = onto_none a.out.now })
 
 pub returns : goal.returns
 returns c =
     let a = c.args in
     let w = c.write_refusal in
-    rw (some_part a.part.now c.if-part-eq0.false) (record {
+    rw (some_part a.part.now c.if-none_waits.false) (record {
       value = w.ensures.value ∙ sym (refusal_length 3);
       fits = omega (arith, w.ensures.value, w.auto.out, c.requires);
       out_after = rw c.from.ensures at w.ensures.out_after;
