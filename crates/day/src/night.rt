@@ -14,7 +14,7 @@ use rules::Refusal;
 use side::tables::SoundBook;
 
 // What a turn leaves: how many bytes wait at the front of the input, how many bytes of the output are to be written, and whether more is to
-// be read before the next turn.
+// be read before the next turn: three things that a turn leaves, of which none is the value of another.
 #[derive(Clone, Copy)]
 pub struct Turn {
     pub have: usize,

@@ -64,7 +64,8 @@ fn print_line(
 
 // ── A piece of input ──
 
-// Works the whole lines of an input, until none is left or the output has no room for another.
+// Works the whole lines of an input, until none is left or the output has no room for another. The loop keeps its place, since how far it
+// came is a part of the answer.
 pub fn feed(book: &mut SoundBook, input: &[u8], took: &mut Takings, out: &mut [u8]) -> Fed
     ensures { Feeds book.old input.now out.old result book.new out.new }
 {

@@ -62,7 +62,7 @@ pub fn write_rested(out: &mut [u8], number: Number, price: HalfCents, shares: Sh
     write_at_price(out, Kind::Rested, number, price, shares)
 }
 
-// Line 13: shares of an order are cancelled.
+// Line 13: shares of an order are cancelled. The reason is the byte of the line, as any event's is that was read.
 pub fn write_cancelled(out: &mut [u8], number: Number, shares: Shares, reason: u8) -> usize
     requires { 21 ≤ length out.old }
     ensures value { result ≡ 21 }
@@ -85,7 +85,7 @@ pub fn write_moved(out: &mut [u8], number: Number, price: HalfCents, shares: Sha
     write_at_price(out, Kind::Moved, number, price, shares)
 }
 
-// The line that the program prints of a refusal.
+// The line that the program prints of a refusal, of any number of one byte: an enum here would ask more of callers.
 pub fn write_refusal(out: &mut [u8], refusal: u8) -> usize
     requires { 5 ≤ length out.old }
     ensures value { result ≡ 5 }

@@ -31,6 +31,7 @@ fn day_after(days: &[u8], from: usize) -> usize
     requires { from ≤ length days.now }
     ensures { (from ≤ result) × (result ≤ length days.now) }
 {
+    // A place that moves by whole lines: no step of a `for`.
     let mut i = from;
     while i < days.len() && days[i] != b'#' {
         i = line_after(days, i);
@@ -67,7 +68,8 @@ fn copy_on(day: &[u8], at: usize, input: &mut [u8], have: usize, reads: bool) ->
     n
 }
 
-// Writes what a turn handed over. This and `end_day` are those of `program`: a crate for the two would be no plainer.
+// Writes what a turn handed over. This and `end_day` are those of `program`: no clause can say what a stream takes, and no public function of
+// this repository has none.
 fn hand_over(to: &mut impl io::Write, bytes: &[u8]) -> Result<()> {
     to.write_all(bytes)
         .context("yarvotem: writing standard output")
@@ -135,7 +137,8 @@ fn input_room() -> [u8; 2097152]
     [0; 2097152]
 }
 
-// Reads until the room is full or the input ends; how many bytes stand in it.
+// Reads until the room is full or the input ends; how many bytes stand in it. A place moves by what a read gave, so this is a `while`; and
+// `side_by_side` has the same, since no public function of this repository promises bounds alone.
 fn read_full(from: &mut impl io::Read, input: &mut [u8]) -> Result<usize>
     ensures { IfOk result (λ end. end ≤ length input.new) }
 {

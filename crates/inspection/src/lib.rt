@@ -38,8 +38,7 @@ fn floor_in_range(o: Resting) -> bool
 {
     let floor = o.floor;
     let none = floor.0 == 0;
-    (none & (o.reserve.0 == 0))
-        | (!none & (o.displayed & (o.shares.0 <= floor.0) & floor.in_range()))
+    (none & (o.reserve.0 == 0)) | (!none & (o.displayed & (o.shares <= floor) & floor.in_range()))
 }
 
 // No minimum; or no more than what is left of an order that is not displayed (02, W7).
@@ -55,9 +54,9 @@ fn in_range(last: Number, o: Resting) -> bool
 {
     let stamp = o.stamp;
     (1 <= o.number.0)
-        & (o.number.0 <= last.0)
+        & (o.number <= last)
         & o.price.in_range()
-        & ((o.number.0 <= stamp.command.0) & (stamp.command.0 <= last.0))
+        & ((o.number <= stamp.command) & (stamp.command <= last))
         & (1 <= o.shares.0)
         & left_in_range(o)
         & floor_in_range(o)
@@ -130,9 +129,9 @@ fn are_apart(buys: &[Resting], sells: &[Resting]) -> bool
         return true;
     };
     if buy.displayed & sell.displayed {
-        return buy.price.0 < sell.price.0;
+        return buy.price < sell.price;
     }
-    buy.price.0 <= sell.price.0
+    buy.price <= sell.price
 }
 
 // What sound says of a book besides its orders, of which there are so many.

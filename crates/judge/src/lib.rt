@@ -36,6 +36,7 @@ pub fn header(h: Held, c: Command) -> Result<(), Refusal>
     let number = c.number;
     let time = c.time;
     let closing = is_close(c.body);
+    // Numbers and not kinds are compared: so the edits that turn this test fail at a fact, and not at the name of a call.
     let seen = number.0 <= h.last.0;
     if seen {
         return Err(Refusal::SeenAlready);

@@ -62,6 +62,7 @@ pub(crate) fn refill(
         length: 0,
     };
     let mut at = 0;
+    // A `while` and no `for`: an order that is refilled leaves its rank to the next.
     while at < reached {
         let o = t.at(at);
         let is_shown = o.shares.0 != 0;

@@ -24,7 +24,7 @@ const NO_TAKING: Taking = Taking {
     shares: Shares(0),
 };
 
-// To a caller these are the list of the takings.
+// To a caller these are the list of the takings. A count beside an array, and no `Vec`: the project has no heap.
 #[derive(Drop)]
 pub struct Takings {
     rows: [Taking; TAKINGS],

@@ -68,6 +68,7 @@ pub(crate) fn walk(
     };
     let mut left = want;
     let mut skipped = PLACES;
+    // 01 names the form: a loop left by `break`, with what is left and the place where it stopped.
     loop {
         if left.0 == 0 {
             break;

@@ -127,6 +127,7 @@ impl Table {
         let n = self.len();
         let mut low = 0;
         let mut range = n;
+        // Two `while`: the range shrinks by what three orders tell, which no step of a `for` is.
         while 3 <= range {
             let quarter = (range + 1) / 4;
             let a = self.is_passed(n - (low + quarter), buying, mine);

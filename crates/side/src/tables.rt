@@ -11,7 +11,8 @@ use crate::table::Table;
 use rules::{Held, Resting};
 use std::marker::Model;
 
-// A side by value: its places, of which the first `used` hold resting orders in rank order; the others are zero.
+// A side by value: its places, of which the first `used` hold resting orders in rank order; the others are zero: 01's record, in fixed
+// memory.
 #[derive(Clone, Copy, PartialEq, Eq)]
 pub struct Side {
     pub used: usize,

@@ -23,7 +23,8 @@ fn agree(a: &Reply, b: &Reply, out: &[u8], other: &[u8]) -> bool {
 
 // ── A line ──
 
-// Writes what a turn of the day hands over.
+// Writes what a turn of the day hands over, as `program` and `examples` do: no clause can say what a stream takes, and no public function here
+// has none.
 fn hand_over(to: &mut impl io::Write, bytes: &[u8]) -> anyhow::Result<()> {
     to.write_all(bytes)
         .context("yarvotem: writing standard output")
@@ -98,7 +99,7 @@ fn input_room() -> [u8; 65536]
     [0; 65536]
 }
 
-// Reads until the room is full or the input ends; how many bytes stand in it.
+// Reads until the room is full or the input ends; how many bytes stand in it: `read_full` of `examples`, which says why it is written twice.
 fn read_full(from: &mut impl io::Read, input: &mut [u8]) -> anyhow::Result<usize>
     ensures { IfOk result (λ end. end ≤ length input.new) }
 {
