@@ -51,6 +51,3 @@ close_up-requires c =
       within = omega (arith, ap length off, length_lessened 0 a.took.now a.t.now);
       others = rw off (keep_behind 0 a.at a.took.now p.remain (all_alike (λ k l. omega (arith, l)) p.below) p.keep);
     }
-
-pub returns : goal.returns
-returns c = c.close_up.ensures ∙ ap keepers (all_off (goal.at.returns c).After-loop-taking)

@@ -46,9 +46,3 @@ loop-taking-preserved c =
       lines_turn (execution_of a.number here s) 35 (λ k. executed_length a.number (get_or s k.place unused).number (here k.price) k.shares)
           no_taking a.took.now l.taking-index (omega (arith, ap length items)) l.len l.out a.out.now w.new.out l.invariant.0 l.invariant.2 p,
     )
-
-pub returns : goal.returns
-returns c =
-    let l = c.loop-taking in
-    let long = ap length c.as_slice-taking-items.ensures in
-    record { value = omega (arith, long); out_after = rw (take_all l.taking-index c.args.took.now (omega (arith, long))) at l.invariant.2 }

@@ -35,8 +35,3 @@ loop-rank-preserved c =
       lines_turn (cancelled_for a.reason) 21 (λ h. cancelled_length h.number (shares (shares_left h)) (number_of_reason a.reason))
           unused a.t.now l.rank (omega arith) l.len l.out a.out.now w.new.out l.invariant.0 l.invariant.2 p,
     )
-
-pub returns : goal.returns
-returns c =
-    let l = c.loop-rank in
-    record { value = omega arith; out_after = rw (take_all l.rank c.args.t.now (omega arith)) at l.invariant.2 }
