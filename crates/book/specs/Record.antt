@@ -26,5 +26,5 @@ abbrev pub reply_of : Returned → Reply
 reply_of r = record { answer = or_refused r.length r.refusal; book = book_with r.book }
 
 -- what a step returns, as it is left in place: the book, the result and the output
-abbrev pub Answered : Book → Result ℕ Refusal → List ℕ → Returned → Type 0
-Answered book answer out r = (answer ≡ or_refused r.length r.refusal) × (book ≡ book_with r.book) × (out ≡ r.out)
+abbrev pub Leaves : Book → Result ℕ Refusal → List ℕ → Returned → Type 0
+Leaves book answer out r = (answer ≡ or_refused r.length r.refusal) × (book ≡ book_with r.book) × (out ≡ r.out)

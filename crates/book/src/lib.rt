@@ -8,7 +8,7 @@ ghost use Rattle.rules.specs.Book.{fresh, record_of, record_sound};
 ghost use Rattle.rules.specs.Refusals.{least_room};
 ghost use Rattle.rules.specs.Step.{step, step_on};
 ghost use Rattle.rules.specs.declared.Body.TheVariants as body;
-ghost use Rattle.book.specs.Record.{record_in, book_with, reply_of, Answered};
+ghost use Rattle.book.specs.Record.{record_in, book_with, reply_of, Leaves};
 
 use command_lines::reader;
 use kinds::{Cents, Number};
@@ -99,7 +99,7 @@ impl Book {
     fn work(&mut self, c: Command, out: &mut [u8]) -> Result<usize, Refusal>
         requires is_sound { record_sound (record_in self.old) ≡ true }
         requires room { least_room ≤ length out.old }
-        ensures { Answered self.new result out.new (step_on (record_in self.old) (Some c) out.old) }
+        ensures { Leaves self.new result out.new (step_on (record_in self.old) (Some c) out.old) }
     {
         let mut book = SoundBook {
             held: self.held,
@@ -117,7 +117,7 @@ impl Book {
     // What was read of a line, whatever the book and the output: the refusals in 01's order, and then the command.
     #[tactic(auto, using(crate::proofs::LawsStep::step_no_command))]
     fn respond(&mut self, reading: Option<Command>, out: &mut [u8]) -> Result<usize, Refusal>
-        ensures { Answered self.new result out.new (step_on (record_in self.old) reading out.old) }
+        ensures { Leaves self.new result out.new (step_on (record_in self.old) reading out.old) }
     {
         let short = out.len() < rules::LEAST_ROOM;
         if short {

@@ -19,7 +19,7 @@ use Rattle.rules.specs.Refusing.{or_refused}
 use Rattle.rules.specs.Step.{Returned, step}
 use Rattle.book.specs.declared.Book as value
 use Rattle.book.specs.declared.Reply.{Reply}
-use Rattle.book.specs.Record.{record_in, book_with, reply_of, Answered}
+use Rattle.book.specs.Record.{record_in, book_with, reply_of, Leaves}
 use Rattle.lent.specs.Lent.{Lent, LeftOf, places_lent, no_places, is_empty, is_counted, side_of, with_places, fits, lent_step}
 use Rattle.lent.proofs.LawsSame.{lent_is_answer, uncounted_refused, without_side, apart_is_lem, together_is}
 
@@ -78,7 +78,7 @@ module _ (buys : Bool) (book : value.Book) (line out : List ℕ) where
   own = step (record_in book) line out
 
   -- the side's count is not that of its leading records
-  pub lending_uncounted : is_counted (side_of buys (record_in book)) ≡ false → Answered book (refusal_of (length out)) out own
+  pub lending_uncounted : is_counted (side_of buys (record_in book)) ≡ false → Leaves book (refusal_of (length out)) out own
   lending_uncounted uncounted =
       let side = side_of buys (record_in book) in
       rw (uncounted_refused buys (record_in book) line out (eqb-false side.used (first_where is_unused side.places) uncounted)) (refl, refl, refl)
@@ -87,7 +87,7 @@ module _ (buys : Bool) (book : value.Book) (line out : List ℕ) where
   pub lending_counted : is_counted (side_of buys (record_in book)) ≡ true → length (side_of buys (record_in book)).places ≡ places_a_side
       → (rest' : value.Book) (answer : Result ℕ Refusal) (table' : List Resting) (out' : List ℕ)
       → LeftOf (lent_step buys (with_places buys no_places (record_in book)) (side_of buys (record_in book)).places line out) rest' answer table' out'
-      → Answered (book_with (with_places buys (places_lent table') (record_in rest'))) answer out' own
+      → Leaves (book_with (with_places buys (places_lent table') (record_in rest'))) answer out' own
   lending_counted is_true all rest' answer table' out' left =
       let r = record_in book in
       let side = side_of buys r in

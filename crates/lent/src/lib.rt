@@ -5,7 +5,7 @@
 
 ghost use Rattle.std.specs.Prelude.{false, ◌≡◌, length};
 ghost use Rattle.basics.specs.Lists.{first_where};
-ghost use Rattle.book.specs.Record.{record_in, book_with, reply_of, Answered as LeavesBook};
+ghost use Rattle.book.specs.Record.{record_in, book_with, reply_of, Leaves};
 ghost use Rattle.rules.specs.Book.{is_unused};
 ghost use Rattle.rules.specs.Refusals.{first_of, fit_refusals};
 ghost use Rattle.rules.specs.Refusing.{or_refused};
@@ -118,7 +118,7 @@ fn work(
 
 // A line to a book of which one side is taken out and lent, and put in again.
 fn lend(book: &mut Book, buys: bool, line: &[u8], out: &mut [u8]) -> Result<usize, Refusal>
-    ensures { LeavesBook book.new result out.new (step (record_in book.old) line.now out.old) }
+    ensures { Leaves book.new result out.new (step (record_in book.old) line.now out.old) }
 {
     let counted = is_counted(side_of(book, buys));
     if !counted {
