@@ -21,6 +21,8 @@ pub struct Fed {
 }
 
 // A fresh book. `book::Book::fresh` has the same header, by value: one for both would be a constant of its own, and no plainer.
+// Not put into its callers: what it puts together, a side at a time, would stay on their stack.
+#[inline(never)]
 pub fn begin() -> SoundBook
     ensures { result ≡ fresh }
 {

@@ -13,6 +13,7 @@ use anyhow::{Context, Result};
 use command_lines::lines;
 use day::{night, replay};
 use orders::takings::Takings;
+use side::tables::SoundBook;
 use std::io;
 
 // The input is read in pieces of at most so many bytes.
@@ -57,27 +58,27 @@ fn end_day(to: &mut impl io::Write, part: &[u8], out: &mut [u8]) -> Result<()>
     hand_over(to, &out[..length])
 }
 
-// A day, from a fresh book to the end of the input. A proved loop has to end, and nothing says that an input does: so the turns
-// are counted, up to a number that no day uses up.
+// A day on a book in place, to the end of the input. A proved loop has to end, and nothing says that an input does: so the turns are
+// counted, up to a number that no day uses up. Not put into `main`: the two buffers are there only once the book is made, and the stack holds
+// what it takes to make it, or these, and not both.
+#[inline(never)]
 fn run(
     from: &mut impl io::Read,
     to: &mut impl io::Write,
-    input: &mut [u8],
-    out: &mut [u8],
-) -> Result<()>
-    requires { (part_kept < length input.old) × (least_room ≤ length out.old) }
-{
-    let mut book = replay::begin();
-    let mut took = Takings::new();
+    book: &mut SoundBook,
+    took: &mut Takings,
+) -> Result<()> {
+    let mut input = [0u8; PIECE];
+    let mut out = [0u8; OUTPUT];
     let mut have = 0;
     for _ in 0..u64::MAX {
-        let turn = night::take_turn(&mut book, input, have, &mut took, out);
+        let turn = night::take_turn(book, &mut input, have, took, &mut out);
         hand_over(to, &out[..turn.length])?;
         have = turn.have;
-        let read = read_on(from, input, have, turn.reads)?;
+        let read = read_on(from, &mut input, have, turn.reads)?;
         match read {
             lines::Read::Failed => unreachable!(),
-            lines::Read::Ended => return end_day(to, &input[..have], out),
+            lines::Read::Ended => return end_day(to, &input[..have], &mut out),
             lines::Read::Upto(end) => have = end,
         }
     }
@@ -85,9 +86,7 @@ fn run(
 }
 
 fn main(rt: HostRuntime) -> Result<()> {
-    let mut from = rt.stdin();
-    let mut to = rt.stdout();
-    let mut input = [0u8; PIECE];
-    let mut out = [0u8; OUTPUT];
-    run(&mut from, &mut to, &mut input, &mut out)
+    let mut book = replay::begin();
+    let mut took = Takings::new();
+    run(&mut rt.stdin(), &mut rt.stdout(), &mut book, &mut took)
 }
