@@ -8,6 +8,7 @@ use Rattle.orders.specs.Reports.{cancelled_for}
 use Rattle.rules.specs.declared.Body.TheVariants as body
 use Rattle.rules.specs.declared.Event.{Event}
 use Rattle.rules.specs.declared.Reason.TheVariants.{AtClose}
+use Rattle.rules.specs.Reasons.{number_of_reason}
 use Rattle.rules.specs.declared.Resting.{Resting}
 use Rattle.rules.specs.Book.{Book}
 use Rattle.rules.specs.Commands.{with_accepted, shut, close_fate}
@@ -18,16 +19,16 @@ use Rattle.side.specs.Answers.{body_answer}
 use Rattle.side.proofs.tables.LawsAnswers.{body_done, done_with}
 
 -- every order is told of
-told_all : (s : List Resting) → told close_fate s ≡ map (cancelled_for AtClose) s
+told_all : (s : List Resting) → told close_fate s ≡ map (cancelled_for (number_of_reason AtClose)) s
 unfolding told gathered
 told_all [] = refl
-told_all (h ∷ s) = ap (λ (es : List Event). cancelled_for AtClose h ∷ es) (told_all s)
+told_all (h ∷ s) = ap (λ (es : List Event). cancelled_for (number_of_reason AtClose) h ∷ es) (told_all s)
 
 -- what is done: both sides are empty
 abbrev pub closed_all : Number → ℕ → Book → Done
 closed_all n time b = record {
   book = record { held = shut (with_accepted n time b.held); buys = []; sells = [] };
-  events = map (cancelled_for AtClose) b.buys ++ map (cancelled_for AtClose) b.sells;
+  events = map (cancelled_for (number_of_reason AtClose)) b.buys ++ map (cancelled_for (number_of_reason AtClose)) b.sells;
   moves = 0;
 }
 

@@ -29,8 +29,8 @@ fn close(buys: &mut Table, sells: &mut Table, out: &mut [u8]) -> usize
     requires room { least_room ≤ length out.old }
     ensures { Closes buys.old sells.old out.old result buys.new sells.new out.new }
 {
-    let length = reports::report_cancelled(buys, Reason::AtClose, out);
-    let more = reports::report_cancelled(sells, Reason::AtClose, &mut out[length..]);
+    let length = reports::report_cancelled(buys, Reason::AtClose as u8, out);
+    let more = reports::report_cancelled(sells, Reason::AtClose as u8, &mut out[length..]);
     buys.clear();
     sells.clear();
     length + more

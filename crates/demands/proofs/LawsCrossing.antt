@@ -17,6 +17,7 @@ use Rattle.rules.specs.declared.Resting.{Resting}
 use Rattle.rules.specs.Commands.{would_now_cross, quote_fate}
 use Rattle.rules.specs.declared.Fate.{Fate}
 use Rattle.rules.specs.declared.Fate.TheVariants.{Stays, IsCancelled, IsSet}
+use Rattle.rules.specs.Reasons.{number_of_reason}
 use Rattle.rules.specs.Settling.{set_at}
 use Rattle.rules.specs.Working.{beyond, locking_price, absent}
 use Rattle.rules.proofs.LawsCommands.{quote_fate_lem, crosses_present, crosses_beyond}
@@ -90,7 +91,7 @@ module _ {away : Away} {h : Resting} {buy : Bool} (crosses : Crosses away h buy)
   pub set_anew_lem : h.back ≡ false → quote_fate away buy h ≡ IsSet (set_at (locking_price buy away) h)
   set_anew_lem b = rw (crosses_would crosses, b) refl
 
-  pub gone_back : h.back ≡ true → quote_fate away buy h ≡ IsCancelled CancelledBack
+  pub gone_back : h.back ≡ true → quote_fate away buy h ≡ IsCancelled (number_of_reason CancelledBack)
   gone_back b = rw (crosses_would crosses, b) refl
 
 -- ── The places of those that are set anew ──

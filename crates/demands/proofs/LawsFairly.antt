@@ -69,7 +69,7 @@ every_told {P = P} gone moved c b = all_both (of_side (fate_by c true) b.buys) (
   where
     by_fate : (f : Fate) (h : Resting) → All P (told_by f h)
     by_fate Stays h = none
-    by_fate (IsCancelled reason) h = also (gone h.number (shares (shares_left h)) (number_of_reason reason)) none
+    by_fate (IsCancelled reason) h = also (gone h.number (shares (shares_left h)) reason) none
     by_fate (IsSet new) h = also (moved new.number new.price new.shares) none
 
     of_side : (fate : Resting → Fate) (s : List Resting) → All P (told fate s)

@@ -44,7 +44,7 @@ use Rattle.rules.specs.Step.{done_by, answer, answer_to}
 use Rattle.rules.specs.Holdings.{Holding, size, executions, after}
 use Rattle.rules.specs.Working.{Met, buying, met_by, limit_of, locking_price, is_locked, execution_price, takings, remainder, ending_with, ending, last_line, refill_fate}
 use Rattle.rules.specs.Reasons.{number_of_reason}
-use Rattle.rules.proofs.LawsCommands.{fate_by, IfSet, if_set, order_does, does_tells}
+use Rattle.rules.proofs.LawsCommands.{fate_by, cancel_fate_lem, quote_fate_lem, order_does, does_tells}
 use Rattle.rules.proofs.LawsFloors.{shown_at_most}
 use Rattle.rules.proofs.LawsLines.{command_in_is}
 use Rattle.rules.proofs.LawsTakings.{takings_within}
@@ -118,14 +118,19 @@ reason_small AtClose = omega arith
 reason_small WouldStillMeet = omega arith
 
 -- and so do the fields of whoever is set anew in four
-told_fits : (fate : Resting → Fate) → ((h : Resting) → Small h → IfSet Small (fate h)) → {s : List Resting} → All Small s → All FitsEvent (told fate s)
+abbrev SmallFate : Fate → Type 0
+SmallFate Stays = Unit {0}
+SmallFate (IsCancelled reason) = reason < 2 ^ 8
+SmallFate (IsSet new) = Small new
+
+told_fits : (fate : Resting → Fate) → ((h : Resting) → Small h → SmallFate (fate h)) → {s : List Resting} → All Small s → All FitsEvent (told fate s)
 unfolding told
 told_fits fate small a = gathered_all (λ (h : Resting). told_by (fate h) h) (all_alike (λ h r. by_fate (fate h) h r (small h r)) a)
   where
-    by_fate : (f : Fate) (h : Resting) → Small h → IfSet Small f → All FitsEvent (told_by f h)
+    by_fate : (f : Fate) (h : Resting) → Small h → SmallFate f → All FitsEvent (told_by f h)
     by_fate Stays h r i = none
     by_fate (IsCancelled reason) h r i =
-        also (fits 1 cancelled_kind (omega arith) (fits 4 h.number.0 r.number (fits 4 (shares_left h) r.left (fits 1 (number_of_reason reason) (reason_small reason) empty)))) none
+        also (fits 1 cancelled_kind (omega arith) (fits 4 h.number.0 r.number (fits 4 (shares_left h) r.left (fits 1 reason i empty)))) none
     by_fate (IsSet new) h r i =
         let fields = fits 4 new.number.0 i.number (fits 4 new.price.0 (omega (arith, i.price))
         (fits 4 new.shares.0 (omega (arith, i.left)) empty)) in
@@ -144,15 +149,18 @@ locking_small buy away a = away_small (if buy then away.offer else away.bid) (lo
         (holds_or_not (eqb p.0 0))
 
 -- so are the fates that an accepted command gives
-fates_small : (b : Book) (c : Body) → first_of (body_refusals b c) ≡ 0 → (buy : Bool) (h : Resting) → Small h → IfSet Small (fate_by c buy h)
-fates_small b c accepted buy h r =
-    if_set Small c buy h
-    (λ away is t. record { number = r.number; price = locking_small buy away (accepted_quote b away (rw is at accepted)); left = r.left })
+fates_small : (b : Book) (c : Body) → first_of (body_refusals b c) ≡ 0 → (buy : Bool) (h : Resting) → Small h → SmallFate (fate_by c buy h)
+fates_small b (body.Order o) accepted buy h r = tt
+fates_small b (body.Cancel of) accepted buy h r = cancel_fate_lem SmallFate of h (reason_small ByCommand) (λ t. tt)
+fates_small b (body.Quote away) accepted buy h r =
+    quote_fate_lem SmallFate away buy h (λ t. tt) (λ t back. reason_small CancelledBack)
+    (λ t back. record { number = r.number; price = locking_small buy away (accepted_quote b away accepted); left = r.left })
+fates_small b body.Close accepted buy h r = reason_small AtClose
 
 -- and so is that of a refill
-refill_small : (h : Resting) → Small h → IfSet Small (refill_fate h)
+refill_small : (h : Resting) → Small h → SmallFate (refill_fate h)
 refill_small h r =
-    by_choice (IfSet Small) (eqb h.shares.0 0)
+    by_choice (SmallFate) (eqb h.shares.0 0)
     (λ t. record { number = r.number; price = r.price; left = omega (arith, r.left, shown_at_most h.floor.0 (shares_left h)) }) (λ t. tt)
 
 -- ── The ending of an order ──

@@ -8,4 +8,4 @@ use Rattle.orders.proofs.enter.Reads as enter
 
 pub enter_determined : (κs : _) (a : _) (r r' : Result ℕ Refusal) (s s' : _) → enter.Post κs a r s → enter.Post κs a r' s'
     → (r ≡ r') × (s.1.1.1.0.now ≡ s'.1.1.1.0.now) × (s.1.1.1.1.0.now ≡ s'.1.1.1.1.0.now) × (s.1.1.1.1.1.1.0.now ≡ s'.1.1.1.1.1.1.0.now)
-enter_determined κs a r r' s s' p q = (p.0 ∙ sym q.0, p.1 ∙ sym q.1, p.2 ∙ sym q.2, p.3 ∙ sym q.3)
+enter_determined κs a r r' s s' p q = ((p 0).0 ∙ sym (q 0).0, (p 0).1 ∙ sym (q 0).1, (p 0).2 ∙ sym (q 0).2, (p 0).3 ∙ sym (q 0).3)

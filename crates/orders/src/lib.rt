@@ -13,7 +13,7 @@ pub mod takings;
 pub mod walk;
 mod work;
 
-ghost use Rattle.std.specs.Prelude.{true, ◌≡◌, ◌≤◌, ◌<◌, length};
+ghost use Rattle.std.specs.Prelude.{ℕ, true, ◌≡◌, ◌≤◌, ◌<◌, length};
 ghost use Rattle.rules.specs.Book.{sound};
 ghost use Rattle.rules.specs.Refusals.{least_room};
 ghost use Rattle.rules.specs.declared.Body.TheVariants as body;
@@ -37,8 +37,8 @@ pub fn enter(
     requires is_sound { sound (record { held = held.now; buys = buys.old; sells = sells.old }) ≡ true }
     requires room { least_room ≤ length out.old }
     requires next { held.now.last.0 < number.0 }
-    ensures { Left result buys.new sells.new out.new out.old
-        (body_answer number held.now.time (body.Order o) (record { held = held.now; buys = buys.old; sells = sells.old })) }
+    ensures { (time : ℕ) → Left result buys.new sells.new out.new out.old
+        (body_answer number time (body.Order o) (record { held = held.now; buys = buys.old; sells = sells.old })) }
 {
     if !judge::order_lawful(o) {
         return Err(Refusal::UnlawfulWord);

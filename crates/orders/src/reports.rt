@@ -13,7 +13,6 @@ use crate::pricing;
 use crate::takings::Takings;
 use event_lines::writer;
 use kinds::{HalfCents, Number};
-use rules::Reason;
 use side::rows;
 use side::table::Table;
 
@@ -49,7 +48,7 @@ pub(crate) fn report(
 }
 
 // Line 13 for each order of the side, in rank order; the length of the lines.
-pub fn report_cancelled(t: &Table, reason: Reason, out: &mut [u8]) -> usize
+pub fn report_cancelled(t: &Table, reason: u8, out: &mut [u8]) -> usize
     requires room { 21 * length t.now ≤ length out.old }
     requires countable { All Countable t.now }
     ensures value { result ≡ 21 * length t.now }
@@ -59,7 +58,7 @@ pub fn report_cancelled(t: &Table, reason: Reason, out: &mut [u8]) -> usize
     for rank in 0..t.len() {
         let o = t.at(rank);
         let left = rows::shares_left(o);
-        len += writer::write_cancelled(&mut out[len..], o.number, left, u8::from(reason));
+        len += writer::write_cancelled(&mut out[len..], o.number, left, reason);
     }
     len
 }

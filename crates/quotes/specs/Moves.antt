@@ -6,6 +6,7 @@ use Rattle.rules.specs.declared.Fate.TheVariants.{IsCancelled, IsSet}
 use Rattle.rules.specs.declared.Reason.TheVariants.{CancelledBack}
 use Rattle.rules.specs.declared.Resting.{Resting}
 use Rattle.rules.specs.Book.{unused}
+use Rattle.rules.specs.Reasons.{number_of_reason}
 use Rattle.rules.specs.Settling.{set_at}
 use Rattle.rules.specs.Working.{beyond, absent}
 
@@ -15,4 +16,4 @@ goes_on buy locking at s = ltb at (length s) && not (absent locking) && beyond b
 
 -- what becomes of an order that would now cross
 abbrev pub fate_at : HalfCents → Resting → Fate
-fate_at locking h = if h.back then IsCancelled CancelledBack else IsSet (set_at locking h)
+fate_at locking h = if h.back then IsCancelled (number_of_reason CancelledBack) else IsSet (set_at locking h)

@@ -38,7 +38,7 @@ fn fate_beyond(o: Resting, locking: HalfCents) -> Fate
     ensures { result ≡ fate_at locking o }
 {
     if o.back {
-        return Fate::IsCancelled(Reason::CancelledBack);
+        return Fate::IsCancelled(Reason::CancelledBack as u8);
     }
     Fate::IsSet(Resting {
         price: locking,

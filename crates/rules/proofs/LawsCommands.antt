@@ -26,6 +26,7 @@ use Rattle.rules.specs.Book.{Book, shares_left}
 use Rattle.rules.specs.Commands.{with_accepted, with_away, shut, is_number, cancel_fate, cancel, would_now_cross, quote_fate, quote, close_fate, close, carried_out, does}
 use Rattle.rules.specs.declared.Fate.{Fate}
 use Rattle.rules.specs.declared.Fate.TheVariants.{Stays, IsCancelled, IsSet}
+use Rattle.rules.specs.Reasons.{number_of_reason}
 use Rattle.rules.specs.Settling.{set_at, stamped_as, insert_all, set_by, staying, set_anew, told, stamped_from, settled_side, first_move, own_side, with_side, settled, both_settled}
 use Rattle.rules.specs.Holdings.{holdings, executions, after}
 use Rattle.rules.specs.Working.{buying, takings, remainder, ending, last_line, with_remainder, worked, refill_fate, locking_price, absent, beyond, accept, met_by, execution_price}
@@ -40,12 +41,12 @@ fate_by (body.Quote away) buy h = quote_fate away buy h
 fate_by body.Close buy h = close_fate h
 
 -- case by case
-pub cancel_fate_lem : (P : Fate → Type 0) (of : Number) (h : Resting) → P (IsCancelled ByCommand) → (is_number of h ≡ false → P Stays)
+pub cancel_fate_lem : (P : Fate → Type 0) (of : Number) (h : Resting) → P (IsCancelled (number_of_reason ByCommand)) → (is_number of h ≡ false → P Stays)
     → P (cancel_fate of h)
 cancel_fate_lem P of h gone left = by_choice P (is_number of h) (λ t. gone) left
 
 pub quote_fate_lem : (P : Fate → Type 0) (away : Away) (buy : Bool) (h : Resting) → (would_now_cross buy away h ≡ false → P Stays)
-    → (would_now_cross buy away h ≡ true → h.back ≡ true → P (IsCancelled CancelledBack))
+    → (would_now_cross buy away h ≡ true → h.back ≡ true → P (IsCancelled (number_of_reason CancelledBack)))
     → (would_now_cross buy away h ≡ true → h.back ≡ false → P (IsSet (set_at (locking_price buy away) h))) → P (quote_fate away buy h)
 quote_fate_lem P away buy h left gone moved =
     let crosses = would_now_cross buy away h in

@@ -10,6 +10,7 @@ use Rattle.rules.specs.declared.Resting.{Resting}
 use Rattle.rules.specs.Book.{Book}
 use Rattle.rules.specs.declared.Fate.{Fate}
 use Rattle.rules.specs.declared.Fate.TheVariants.{Stays, IsCancelled, IsSet}
+use Rattle.rules.specs.Reasons.{number_of_reason}
 use Rattle.rules.specs.Settling.{set_at, Done, on_held, both_settled}
 use Rattle.rules.specs.Working.{locking_price, absent, beyond, accept}
 
@@ -33,7 +34,7 @@ is_number n h = eqb h.number.0 n.0
 
 -- a cancel takes the order of that number off the book, reason 1
 abbrev pub cancel_fate : Number → Resting → Fate
-cancel_fate of h = if is_number of h then IsCancelled ByCommand else Stays
+cancel_fate of h = if is_number of h then IsCancelled (number_of_reason ByCommand) else Stays
 
 unfoldable pub cancel : Number → Done → Done
 cancel of d = both_settled (λ (buy : Bool). cancel_fate of) d
@@ -50,7 +51,7 @@ would_now_cross buy away h =
 abbrev pub quote_fate : Away → Bool → Resting → Fate
 quote_fate away buy h =
     if not (would_now_cross buy away h) then Stays
-    else if h.back then IsCancelled CancelledBack
+    else if h.back then IsCancelled (number_of_reason CancelledBack)
     else IsSet (set_at (locking_price buy away) h)
 
 unfoldable pub quote : Away → Done → Done
@@ -58,7 +59,7 @@ quote away d = both_settled (quote_fate away) (on_held (with_away away) d)
 
 -- "Close cancels all buys in rank order, then all sells, and closes."
 abbrev pub close_fate : Resting → Fate
-close_fate h = IsCancelled AtClose
+close_fate h = IsCancelled (number_of_reason AtClose)
 
 unfoldable pub close : Done → Done
 close d = both_settled (λ (buy : Bool). close_fate) (on_held shut d)

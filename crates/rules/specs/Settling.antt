@@ -14,7 +14,6 @@ use Rattle.rules.specs.declared.Held.{Held}
 use Rattle.rules.specs.declared.Resting.{Resting}
 use Rattle.rules.specs.declared.Stamp.{Stamp}
 use Rattle.rules.specs.Book.{Book, stamp, ranks_before, shares_left}
-use Rattle.rules.specs.Reasons.{number_of_reason}
 
 -- ── A resting order ──
 
@@ -75,7 +74,7 @@ set_by (IsSet new) = new ∷ []
 -- "`14` (number, price, shares) or `13`" (02, W2); "`12` and `13` count both parts, `14` the shown one" (02, W4)
 abbrev pub told_by : Fate → Resting → List Event
 told_by Stays h = []
-told_by (IsCancelled reason) h = Cancelled h.number (shares (shares_left h)) (number_of_reason reason) ∷ []
+told_by (IsCancelled reason) h = Cancelled h.number (shares (shares_left h)) reason ∷ []
 told_by (IsSet new) h = Moved new.number new.price new.shares ∷ []
 
 -- ── Of a side ──

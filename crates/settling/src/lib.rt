@@ -72,7 +72,7 @@ impl Settling {
                     &mut out[self.length..],
                     o.number,
                     left,
-                    u8::from(reason),
+                    reason
                 );
                 Settling {
                     length: self.length + more,

@@ -24,10 +24,10 @@ use Rattle.commands.proofs.close.Goals.{Start}
 
 -- the lines of a side
 abbrev events : List Resting → List Event
-events s = map (cancelled_for AtClose) s
+events s = map (cancelled_for (number_of_reason AtClose)) s
 
 events_length : (s : List Resting) → length (event_lines (events s)) ≡ 21 * length s
-events_length s = lines_length (cancelled_for AtClose) 21 (λ h. cancelled_length h.number (shares (shares_left h)) (number_of_reason AtClose)) s
+events_length s = lines_length (cancelled_for (number_of_reason AtClose)) 21 (λ h. cancelled_length h.number (shares (shares_left h)) (number_of_reason AtClose)) s
 
 -- both sides have room for their lines
 fits : (c : Start) → (length c.args.buys.now ≤ places_a_side) × (length c.args.sells.now ≤ places_a_side)

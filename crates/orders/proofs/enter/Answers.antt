@@ -31,18 +31,18 @@ in_range : (c : Else-not-order_in_range) → order_in_range c.args.o ≡ true
 in_range c = sym c.order_in_range.ensures ∙ c.if-not-order_in_range.false
 
 pub returns-then-not-order_lawful : goal.returns-then-not-order_lawful
-returns-then-not-order_lawful c =
+returns-then-not-order_lawful c time =
     let a = c.args in
     let b = book (goal.at.returns-then-not-order_lawful c).Start in
-    left_refused UnlawfulWord b a.out.now _ (unlawful a.number a.held.now.time a.o b (sym c.order_lawful.ensures ∙ c.if-not-order_lawful.true))
+    left_refused UnlawfulWord b a.out.now _ (unlawful a.number time a.o b (sym c.order_lawful.ensures ∙ c.if-not-order_lawful.true))
 
 pub returns-then-not-order_in_range : goal.returns-then-not-order_in_range
-returns-then-not-order_in_range c =
+returns-then-not-order_in_range c time =
     let a = c.args in
     let b = book (goal.at.returns-then-not-order_in_range c).Start in
     let lawful_too = is_lawful (goal.at.returns-then-not-order_in_range c).Else-not-order_lawful in
     left_refused OutOfRange b a.out.now _
-    (out_of_range a.number a.held.now.time a.o b lawful_too (sym c.order_in_range.ensures ∙ c.if-not-order_in_range.true))
+    (out_of_range a.number time a.o b lawful_too (sym c.order_in_range.ensures ∙ c.if-not-order_in_range.true))
 
 -- a buy
 
@@ -54,9 +54,9 @@ match_order-requires-clause-ready c =
     (in_range (goal.at.match_order-requires-clause-ready c).Else-not-order_in_range) (sym c.is_buy.ensures ∙ c.if-is_buy.true)
 
 pub returns-then-is_buy : goal.returns-then-is_buy
-returns-then-is_buy c =
+returns-then-is_buy c time =
     let a = c.args in
-    left_entered a.number a.held.now.time a.o (book (goal.at.returns-then-is_buy c).Start)
+    left_entered a.number time a.o (book (goal.at.returns-then-is_buy c).Start)
     (is_lawful (goal.at.returns-then-is_buy c).Else-not-order_lawful) (in_range (goal.at.returns-then-is_buy c).Else-not-order_in_range)
     true (sym c.is_buy.ensures ∙ c.if-is_buy.true) _ _ _ _ _ c.match_order.ensures
 
@@ -70,8 +70,8 @@ match_order-requires-else-is_buy-clause-ready c =
     (in_range (goal.at.match_order-requires-else-is_buy-clause-ready c).Else-not-order_in_range) (sym c.is_buy.ensures ∙ c.if-is_buy.false)
 
 pub returns-else-is_buy : goal.returns-else-is_buy
-returns-else-is_buy c =
+returns-else-is_buy c time =
     let a = c.args in
-    left_entered a.number a.held.now.time a.o (book (goal.at.returns-else-is_buy c).Start)
+    left_entered a.number time a.o (book (goal.at.returns-else-is_buy c).Start)
     (is_lawful (goal.at.returns-else-is_buy c).Else-not-order_lawful) (in_range (goal.at.returns-else-is_buy c).Else-not-order_in_range)
     false (sym c.is_buy.ensures ∙ c.if-is_buy.false) _ _ _ _ _ c.match_order-else-is_buy.ensures

@@ -19,6 +19,7 @@ use Rattle.rules.specs.declared.Reason.TheVariants.{CancelledBack}
 use Rattle.rules.specs.declared.Resting.{Resting}
 use Rattle.rules.specs.declared.Stamp.{Stamp}
 use Rattle.rules.specs.Book.{better, unused, in_rank_order}
+use Rattle.rules.specs.Reasons.{number_of_reason}
 use Rattle.rules.specs.Settling.{set_at, stamped_as, told_by}
 use Rattle.rules.specs.Working.{absent, beyond}
 use Rattle.rules.proofs.LawsCommands.{IfSet, not_beyond_itself}
@@ -47,7 +48,7 @@ module _ (buy : Bool) (locking : HalfCents) where
   absent_stays : absent locking ≡ true → (h : Resting) → quoted buy locking h ≡ Stays
   absent_stays a h = rw (a, and_none (not h.displayed))
 
-  by_fate : (P : Fate → Type 0) (h : Resting) → P Stays → P (IsCancelled CancelledBack) → P (IsSet (set_at locking h)) → P (quoted buy locking h)
+  by_fate : (P : Fate → Type 0) (h : Resting) → P Stays → P (IsCancelled (number_of_reason CancelledBack)) → P (IsSet (set_at locking h)) → P (quoted buy locking h)
   by_fate P h left gone set =
       by_choice P (not (not h.displayed && not (absent locking) && beyond buy locking h.price)) (λ t. left) (λ t. by_choice P h.back (λ b. gone) (λ b. set))
 

@@ -10,7 +10,6 @@ use Rattle.basics.proofs.LawsLists.{all_at}
 use Rattle.kinds.specs.Kinds.{shares}
 use Rattle.rules.specs.Book.{unused, shares_left}
 use Rattle.rules.specs.EventLines.{event_line, event_lines}
-use Rattle.rules.specs.Reasons.{number_of_reason}
 use Rattle.rules.proofs.LawsEvents.{cancelled_length}
 use Rattle.orders.specs.Reports.{cancelled_for}
 use Rattle.orders.proofs.reports.LawsReports.{lines_turn}
@@ -29,9 +28,9 @@ loop-rank-preserved c =
     let l = c.loop-rank in
     let w = c.write_cancelled-len in
     let p : w.new.out ≡ onto (event_line (cancelled_for a.reason (get_or a.t.now l.rank unused))) (take (length l.out - l.len) (drop l.len l.out)) =
-    w.ensures.out_after ∙ rw (c.shares_left-left.ensures, c.at-o.ensures, c.from.ensures) in (
+    w.ensures.out_after ∙ rw (c.shares_left-left.ensures, c.at-o.ensures) in (
       omega (arith, w.ensures.value),
       search rules,
-      lines_turn (cancelled_for a.reason) 21 (λ h. cancelled_length h.number (shares (shares_left h)) (number_of_reason a.reason))
+      lines_turn (cancelled_for a.reason) 21 (λ h. cancelled_length h.number (shares (shares_left h)) a.reason)
           unused a.t.now l.rank (omega arith) l.len l.out a.out.now w.new.out l.invariant.0 l.invariant.2 p,
     )

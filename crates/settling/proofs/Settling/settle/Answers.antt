@@ -12,7 +12,6 @@ use Rattle.rules.specs.declared.Event.TheVariants.{Cancelled, Moved}
 use Rattle.kinds.specs.Kinds.{shares}
 use Rattle.rules.specs.Book.{shares_left}
 use Rattle.rules.specs.EventLines.{event_line, event_lines}
-use Rattle.rules.specs.Reasons.{number_of_reason}
 use Rattle.rules.proofs.LawsEvents.{event_lines_one, cancelled_length, moved_length}
 use Rattle.settling.proofs.Settling.settle.Goals as goal
 use Rattle.settling.proofs.Settling.settle.Goals.{In-IsCancelled, In-IsSet}
@@ -23,12 +22,12 @@ behind len size out room = simp (length-take, length-drop) (omega arith)
 
 -- the line of an order that is cancelled, and the room for it
 abbrev gone : In-IsCancelled → Event
-gone c = Cancelled c.args.o.number (shares (shares_left c.args.o)) (number_of_reason c.in-IsCancelled.reason)
+gone c = Cancelled c.args.o.number (shares (shares_left c.args.o)) c.in-IsCancelled.reason
 
 gone_fits : (c : In-IsCancelled) → c.args.self.length + 21 ≤ length c.args.out.now
 gone_fits c =
     let room = rw (c.in-IsCancelled.is, event_lines_one (gone c)) at c.requires.room in
-    omega (arith, room, cancelled_length c.args.o.number (shares (shares_left c.args.o)) (number_of_reason c.in-IsCancelled.reason))
+    omega (arith, room, cancelled_length c.args.o.number (shares (shares_left c.args.o)) c.in-IsCancelled.reason)
 
 -- the same of one that is set anew
 abbrev set : In-IsSet → Event
@@ -53,13 +52,13 @@ write_cancelled-more-requires c =
 pub returns-in-IsCancelled-clause-value : goal.returns-in-IsCancelled-clause-value
 returns-in-IsCancelled-clause-value c =
     let e = gone (goal.at.returns-in-IsCancelled-clause-value c).In-IsCancelled in
-    rw (c.in-IsCancelled.is, event_lines_one e, cancelled_length c.args.o.number (shares (shares_left c.args.o)) (number_of_reason c.in-IsCancelled.reason), c.write_cancelled-more.ensures.value)
+    rw (c.in-IsCancelled.is, event_lines_one e, cancelled_length c.args.o.number (shares (shares_left c.args.o)) c.in-IsCancelled.reason, c.write_cancelled-more.ensures.value)
 
 pub returns-in-IsCancelled-clause-out_after : goal.returns-in-IsCancelled-clause-out_after
 returns-in-IsCancelled-clause-out_after c =
     let e = gone (goal.at.returns-in-IsCancelled-clause-out_after c).In-IsCancelled in
     let w = c.write_cancelled-more in
-    rw (c.in-IsCancelled.is, event_lines_one e) (onto_part c.args.self.length (event_line e) c.args.out.now w.new.out (w.ensures.out_after ∙ rw (c.shares_left-left.ensures, c.from.ensures)))
+    rw (c.in-IsCancelled.is, event_lines_one e) (onto_part c.args.self.length (event_line e) c.args.out.now w.new.out (w.ensures.out_after ∙ rw c.shares_left-left.ensures))
 
 -- ── It is set anew ──
 
