@@ -18,7 +18,8 @@ pub enum Kind {
 }
 
 impl Kind {
-    // The kind of a number, or that there is none.
+    // The kind of a number, or that there is none. An `Option` and no `TryFrom`, and a method for the way back: readers go on by `?`, and the
+    // three stand beside one another.
     pub fn numbered(n: u32) -> Option<Kind>
         ensures { result ≡ kind_numbered n }
     {

@@ -28,7 +28,7 @@ fn read_last(s: &[u8]) -> Option<Shares>
     Some(Shares(digits::field_at(s, 22, 4)?))
 }
 
-// What an order of a kind carries behind the fields that every order has. Bad where the line does not end there, and for a kind of no order.
+// What an order of a kind carries behind the fields that every order has. None where the line does not end there, and for a kind of no order.
 fn read_carried(kind: Kind, s: &[u8]) -> Option<Carried>
     ensures { result ≡ carried_in kind s.now }
 {

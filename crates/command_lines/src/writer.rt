@@ -5,17 +5,18 @@ ghost use Rattle.basics.specs.Bytes.{onto};
 ghost use Rattle.rules.specs.CommandLines.{header_form, quote_form, cancel_form, order_form_of, form_of, numbers_of};
 ghost use Rattle.rules.specs.CommandLines.{digits_in, written, line, command_in, line_of};
 ghost use Rattle.rules.specs.declared.Body.TheVariants as body;
+ghost use Rattle.command_lines.specs.Forms.{code_of};
 ghost use Rattle.command_lines.specs.Writing.{written_for, buffer_of};
 
 use crate::forms::Kind;
 use kinds::Number;
 use rules::{Away, Body, Carried, Command, Order, Refusal};
 
-fn write_header(out: &mut [u8], kind: u8, number: Number, time: u32)
+fn write_header(out: &mut [u8], kind: Kind, number: Number, time: u32)
     requires { digits_in header_form ≤ length out.old }
-    ensures { out.new ≡ onto (written header_form (kind ∷ number.0 ∷ time ∷ [])) out.old }
+    ensures { out.new ≡ onto (written header_form (code_of kind ∷ number.0 ∷ time ∷ [])) out.old }
 {
-    digits::write(out, 0, kind);
+    digits::write(out, 0, kind.number());
     digits::write(out, 2, number.0);
     digits::write(out, 10, time);
 }
@@ -89,7 +90,7 @@ pub fn write_command(c: Command, out: &mut [u8]) -> Result<usize, Refusal>
     if out.len() < length {
         return Err(Refusal::NoRoom);
     }
-    write_header(out, kind.number(), c.number, c.time);
+    write_header(out, kind, c.number, c.time);
     write_body(&mut out[rules::HEADER..], body);
     Ok(length)
 }

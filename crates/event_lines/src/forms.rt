@@ -14,7 +14,7 @@ pub enum Kind {
 }
 
 impl Kind {
-    // The kind of a number, or that there is none.
+    // The kind of a number, or that there is none; by methods, as `command_lines::forms` says.
     pub fn numbered(n: u32) -> Option<Kind>
         ensures { result ≡ kind_numbered n }
     {

@@ -14,7 +14,7 @@ use side::rows::PLACES;
 use side::table::Table;
 
 // How a walk ended: `left` shares are still wanted, and no order from `at` on was reached. `skipped` is the first order that was skipped
-// (02, W7), or past all places; of an order that takes nothing both are 0.
+// (02, W7), or past all places, as one comparison of both wants it; of an order that takes nothing both are 0.
 #[derive(Clone, Copy)]
 pub struct Walked {
     pub left: Shares,
@@ -87,8 +87,8 @@ pub(crate) fn walk(
         c = next;
     }
     Walked {
-        left: left,
+        left,
         at: c.at,
-        skipped: skipped,
+        skipped,
     }
 }

@@ -44,7 +44,7 @@ fn read_on(
     Ok(lines::after_read(got as isize, have, input.len()))
 }
 
-// Writes what a turn handed over.
+// Writes what a turn handed over. `examples` has this and `end_day` too, and says why.
 fn hand_over(to: &mut impl io::Write, bytes: &[u8]) -> Result<()> {
     to.write_all(bytes)
         .context("yarvotem: writing standard output")

@@ -32,7 +32,7 @@ fn here(b: u8, slot: u8, j: u8) -> u8
 }
 
 // A place before `n` of an index whose byte names a row. It looks for it part by part, with no branch on a single byte and one on what a part
-// gave; that it finds the place, if there is one, is not promised.
+// gave (the compiler makes vectors of a part; a search that leaves at the first has a branch for each byte); that it finds the place, if there is one, is not promised.
 fn place_of(x: &Index, n: usize, slot: u8) -> Option<usize>
     requires { n ≤ places_a_side }
     ensures { Named slot n x.now result }

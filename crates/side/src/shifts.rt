@@ -75,7 +75,8 @@ impl Table {
     }
 
     // Of the first `reached` orders those leave that have nothing left. From the worst of them to the best, each changes places with the
-    // first that leaves, so that whoever leaves comes to stand behind; whether one counts is no branch.
+    // first that leaves, so that whoever leaves comes to stand behind; whether one counts is no branch. By hand: the library's
+    // `swap` asks which place is the lower.
     #[tactic(auto, using(crate::proofs::rows::LawsShown::length_is))]
     pub fn close_up(&mut self, reached: usize)
         requires within { reached ≤ length self.old }

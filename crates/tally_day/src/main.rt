@@ -31,7 +31,7 @@ fn decimal_in(s: &[u8]) -> Option<u32>
         if !c.is_ascii_digit() {
             return None;
         }
-        value = value.checked_mul(10)?.checked_add((c - b'0') as u32)?;
+        value = value.checked_mul(10)?.checked_add(u32::from(c - b'0'))?;
     }
     Some(value)
 }

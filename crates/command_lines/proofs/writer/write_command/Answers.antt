@@ -13,6 +13,7 @@ use Rattle.rules.specs.CommandLines.{command_in, digits_in, form_of, written, li
 use Rattle.rules.proofs.LawsLines.{command_in_line_of, header_fits}
 use Rattle.rules.proofs.LawsWriting.{length_line_of, length_written, header_paired}
 use Rattle.command_lines.specs.Writing.{written_for, buffer_of}
+use Rattle.command_lines.specs.Forms.{code_of}
 use Rattle.command_lines.proofs.writer.write_command.Goals as goal
 use Rattle.command_lines.proofs.writer.write_command.Goals.{After-digits}
 
@@ -48,7 +49,7 @@ returns c =
     let body = line (form_of b) (numbers_of b) in
     let whole : length (line_of a.c) ≡ 18 + c.digits.result + 1 = long here in
     let room : length (line_of a.c) ≤ length out = omega (arith, c.if-out-length.false) in
-    let kind : c.number.result ≡ kind_of b = c.number.ensures ∙ c.of-kind.ensures.code in
+    let kind : code_of c.of-kind.result ≡ kind_of b = c.of-kind.ensures.code in
     let x : c.write_header.new.out ≡ onto header out = rw kind at c.write_header.ensures in
     let joined : onto_from 18 body (onto header out) ≡ onto (header ++ body) out =
     onto_next header body out 18 (length_written (header_paired (kind_of b) a.c.number.0 a.c.time)) in
