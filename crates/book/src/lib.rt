@@ -133,6 +133,7 @@ impl Book {
         self.work(c, out)
     }
 
+    // 01 names the form: four methods, each of its own fields.
     pub fn accept(mut self, number: Number, time: u32, order: Order, out: &mut [u8]) -> Reply
         ensures value { result ≡ reply_of (step_on (record_in self)
             (Some (record { number = number; time = time; body = body.Order order })) out.old) }

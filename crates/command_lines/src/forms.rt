@@ -62,7 +62,7 @@ impl Kind {
         }
     }
 
-    // Its number in the header.
+    // Its number in the header; the cast is how an enum tells its number.
     pub fn number(self) -> u8
         ensures { result ≡ code_of self }
     {

@@ -17,7 +17,7 @@ pub struct Line {
     pub reading: Option<Command>,
 }
 
-// How many digits a command has whose second digit is `c`.
+// How many digits a command has whose second digit is `c`; 0 where there is none, as what is read then, one byte, is no command.
 #[tactic(auto, unfolding(crate::specs::Lines::digits_after, crate::specs::Lines::digits_from, rules::specs::CommandLines::kinds))]
 fn digits_after(c: u8) -> usize
     ensures { result ≡ digits_after c }
@@ -95,7 +95,7 @@ pub enum Read {
 }
 
 // What `read` answered, where `have` bytes stood in a buffer of so much room. It gives no more than the room behind them, and more is not
-// believed.
+// believed. The cast is of a number above 0.
 pub fn after_read(got: isize, have: usize, room: usize) -> Read
     requires { have ≤ room }
     ensures { result ≡ read_behind got have room }

@@ -40,7 +40,8 @@ fn read_carried(kind: Kind, s: &[u8]) -> Option<Carried>
     }
 }
 
-// An order, of whichever kind: one function for all, so that it is compiled where it is called.
+// An order, of whichever kind: one function for all, so that it is compiled where it is called. The casts lose nothing of what was read,
+// two and four digits; `try_from` would bring a refusal that cannot come.
 #[tactic(auto, unfolding(crate::specs::Reading::order_carrying, rules::specs::CommandLines::numbers_from))]
 fn read_order(carried: Carried, s: &[u8]) -> Option<Body>
     ensures { result ≡ order_carrying carried s.now }
@@ -90,7 +91,7 @@ fn read_close(s: &[u8]) -> Option<Body>
     is_ended(s, rules::CLOSE_BODY).then_some(Body::Close)
 }
 
-// The digits after the header, by kind.
+// The digits after the header, by kind: each has fields of its own.
 fn read_body(kind: Kind, s: &[u8]) -> Option<Body>
     ensures { result ≡ body_of_kind kind s.now }
 {

@@ -29,8 +29,9 @@ fn close(buys: &mut Table, sells: &mut Table, out: &mut [u8]) -> usize
     requires room { least_room ≤ length out.old }
     ensures { Closes buys.old sells.old out.old result buys.new sells.new out.new }
 {
-    let length = reports::report_cancelled(buys, Reason::AtClose as u8, out);
-    let more = reports::report_cancelled(sells, Reason::AtClose as u8, &mut out[length..]);
+    let reason = u8::from(Reason::AtClose);
+    let length = reports::report_cancelled(buys, reason, out);
+    let more = reports::report_cancelled(sells, reason, &mut out[length..]);
     buys.clear();
     sells.clear();
     length + more
@@ -38,7 +39,8 @@ fn close(buys: &mut Table, sells: &mut Table, out: &mut [u8]) -> usize
 
 // ── A command ──
 
-// What the body of a command leaves of the two sides, and the length of its lines.
+// What the body of a command leaves of the two sides, and the length of its lines. These and the header are lent apart: between them a book
+// is not sound.
 fn carry_out(
     held: &Held,
     c: Command,

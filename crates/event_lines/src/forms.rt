@@ -27,7 +27,7 @@ impl Kind {
         }
     }
 
-    // Its number at the front of the line.
+    // Its number at the front of the line; the cast is how an enum tells its number.
     pub fn number(self) -> u8
         ensures { result ≡ code_of self }
     {

@@ -69,6 +69,7 @@ fn read_moved(s: &[u8]) -> Result<Event, NoEvent>
     })
 }
 
+// The cast loses nothing of two digits.
 #[tactic(auto, unfolding(rules::specs::CommandLines::numbers_from))]
 fn read_cancelled(s: &[u8]) -> Result<Event, NoEvent>
     ensures { result ≡ event_of cancelled_fields cancelled_of s.now }
@@ -83,6 +84,7 @@ fn read_cancelled(s: &[u8]) -> Result<Event, NoEvent>
     })
 }
 
+// The fields behind a kind: each has its own.
 fn read_fields(kind: Kind, s: &[u8]) -> Result<Event, NoEvent>
     ensures { result ≡ event_of_kind kind s.now }
 {

@@ -129,8 +129,8 @@ fn run_days(to: &mut impl io::Write, days: &[u8], out: &mut [u8]) -> Result<()>
 // Room for the lines of one command and for a few bytes more, so that turns end within a piece too.
 const OUTPUT: usize = rules::LEAST_ROOM + 104;
 
-// The room of the input, of this program's own size. It is made apart from `main`: a proof that sees so many zeros counts them one by one, and its checker runs
-// out of stack.
+// The room of the input, of this program's own size. It is made apart from `main`: a proof that sees so many zeros counts them one by one,
+// and its checker runs out of stack.
 fn input_room() -> [u8; 2097152]
     ensures { 2097152 ≡ length result }
 {

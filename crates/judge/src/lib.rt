@@ -22,6 +22,7 @@ pub const CLOSING: u32 = 57600000;
 
 // ── The header ──
 
+// A name for one test, since 01's definitions have it; so are those of what an order carries.
 fn is_close(body: Body) -> bool
     ensures { result ≡ is_close body }
 {

@@ -27,7 +27,7 @@ fn is_rest(end: Ending) -> bool
     matches!(end, Ending::Rests(_))
 }
 
-// The Max Floor of an order, 0 for none (02, W4).
+// The Max Floor of an order, 0 for none (02, W4); `work::minimum_of` is its like, as no parameter names a case.
 fn floor_of(carried: Carried) -> Shares
     ensures { result ≡ shares (floor_of carried) }
 {
@@ -43,7 +43,7 @@ fn remainder_of(number: Number, o: Order, left: Shares, price: HalfCents) -> Res
 {
     let floor = floor_of(o.carried);
     let shown = refills::shown_of(floor, left);
-    let least = work::minimum_of(o.carried).smaller(left);
+    let least = work::minimum_of(o.carried).min(left);
     Resting {
         number,
         price,

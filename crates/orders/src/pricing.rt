@@ -15,7 +15,8 @@ use side::table::Table;
 // ── Step 1: how far the walk goes, and at which price ──
 
 // The price at which hidden orders of the opposite side are locked, if any rest there: since nothing crosses, it can only be the best price
-// of the order's own side, and its best order is displayed if any at that price is. 0 where none is displayed there.
+// of the order's own side, and its best order is displayed if any at that price is. 0 where none is displayed there, as an
+// away price is 0 for none.
 pub(crate) fn locked_price(t: &Table) -> HalfCents
     ensures { result ≡ locked_price t.now }
 {

@@ -22,7 +22,7 @@ pub(crate) fn shown_of(floor: Shares, left: Shares) -> Shares
     if floor.0 == 0 {
         return left;
     }
-    floor.smaller(left)
+    floor.min(left)
 }
 
 // An order whose shown part is refilled from its reserve.
@@ -62,7 +62,8 @@ pub(crate) fn refill(
         length: 0,
     };
     let mut at = 0;
-    // A `while` and no `for`: an order that is refilled leaves its rank to the next.
+    // A `while` and no `for`: an order that is refilled leaves its rank to the next. `quotes::moves` has another loop, for other orders and as
+    // far as another test says: what both share is `settle`.
     while at < reached {
         let o = t.at(at);
         let is_shown = o.shares.0 != 0;

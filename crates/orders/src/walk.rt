@@ -26,8 +26,16 @@ pub struct Walked {
 fn is_skipped(left: Shares, p: Part) -> bool
     ensures { result ≡ part_is_skipped left.0 p }
 {
-    let least = p.minimum.smaller(p.shares);
+    let least = p.minimum.min(p.shares);
     left < least
+}
+
+// What a part that is not skipped gives.
+fn given_by(p: Part, left: Shares) -> Shares
+    requires takes { part_is_skipped left.0 p ≡ false }
+    ensures { result ≡ shares (part_gives left.0 p) }
+{
+    left.min(p.shares)
 }
 
 // Takes from a part that is not skipped what it gives, as the next taking; the shares that are left. One that gives nothing is no taking.
@@ -37,7 +45,7 @@ fn take_from(took: &mut Takings, left: Shares, p: Part) -> Shares
     ensures value { result ≡ shares (left.0 - part_gives left.0 p) }
     ensures took_after { took.new ≡ took.old ++ taking p (part_gives left.0 p) }
 {
-    let gives = left.smaller(p.shares);
+    let gives = given_by(p, left);
     if gives.0 != 0 {
         took.push(Taking {
             place: p.place,

@@ -60,7 +60,7 @@ fn end_day(to: &mut impl io::Write, part: &[u8], out: &mut [u8]) -> Result<()>
 
 // A day on a book in place, to the end of the input. A proved loop has to end, and nothing says that an input does: so the turns are
 // counted, up to a number that no day uses up. Not put into `main`: the two buffers are there only once the book is made, and the stack holds
-// what it takes to make it, or these, and not both.
+// what it takes to make it, or these, and not both. How many bytes wait stands beside the input: the project has no heap.
 #[inline(never)]
 fn run(
     from: &mut impl io::Read,

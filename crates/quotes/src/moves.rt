@@ -38,7 +38,7 @@ fn fate_beyond(o: Resting, locking: HalfCents) -> Fate
     ensures { result ≡ fate_at locking o }
 {
     if o.back {
-        return Fate::IsCancelled(Reason::CancelledBack as u8);
+        return Fate::IsCancelled(u8::from(Reason::CancelledBack));
     }
     Fate::IsSet(Resting {
         price: locking,

@@ -31,8 +31,9 @@ fn here(b: u8, slot: u8, j: u8) -> u8
     if b == slot { j } else { 0 }
 }
 
-// A place before `n` of an index whose byte names a row. It looks for it part by part, with no branch on a single byte and one on what a part
-// gave (the compiler makes vectors of a part; a search that leaves at the first has a branch for each byte); that it finds the place, if there is one, is not promised.
+// A place before `n` of an index whose byte names a row. It looks for it part by part, with no branch on a single byte and one on what a
+// part gave (the compiler makes vectors of a part; a search that leaves at the first has a branch for each byte); that it finds the place,
+// if there is one, is not promised. Of an index: what it promises is of its bytes, which no clause on a `Table` sees.
 fn place_of(x: &Index, n: usize, slot: u8) -> Option<usize>
     requires { n ≤ places_a_side }
     ensures { Named slot n x.now result }
@@ -54,7 +55,7 @@ fn place_of(x: &Index, n: usize, slot: u8) -> Option<usize>
 }
 
 impl Table {
-    // The rank of the order of a number.
+    // The rank of the order of a number, wherever it rests; `follow_hint` is faster, and may find nothing.
     pub fn find(&self, number: Number) -> Option<usize>
         ensures { result ≡ rank_of number self.now }
     {

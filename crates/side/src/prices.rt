@@ -13,6 +13,7 @@ pub fn within(buying: bool, bound: HalfCents, price: HalfCents) -> bool
     !((buying & (bound < price)) | (!buying & (price < bound)))
 }
 
+// The Locking Price, 0 for none as the away price is that it comes from.
 pub fn locking_price(buy: bool, away: Away) -> HalfCents
     requires { (locking_price buy away).0 ≤ largest }
     ensures { result ≡ locking_price buy away }

@@ -69,7 +69,8 @@ pub fn is_unused(o: Resting) -> bool
     o == UNUSED
 }
 
-// The shares of an order, shown and in reserve (02, W4).
+// The shares of an order, shown and in reserve (02, W4). That a word holds the sum is a clause and in no type: a record that is lent may hold
+// any two numbers.
 pub fn shares_left(o: Resting) -> Shares
     requires { Countable o }
     ensures { result ≡ shares (shares_left o) }
@@ -102,14 +103,14 @@ pub(crate) fn row_of(o: Resting) -> Row
 
 // ── An index ──
 
-// Where the hint of an order's number stands in an index.
+// Where the hint of an order's number stands in an index. A cast: there is no `From` of four bytes for a place.
 pub(crate) fn hint_of(number: Number) -> usize
     ensures { result ≡ hint_of number.0 }
 {
     PLACES + (number.0 as usize) % HINTS
 }
 
-// The row of the order at a rank.
+// The row of the order at a rank. Of an index, as what it promises is of its bytes, which no clause on a `Table` sees.
 pub(crate) fn slot_at(x: &Index, n: usize, i: usize) -> usize
     requires { Names x.now × (i < n) × (n ≤ places_a_side) }
     ensures { (result ≡ get_or (ranked n x.now) i 0) × (result < places_a_side) }

@@ -62,7 +62,8 @@ fn numbered(n: usize, i: usize) -> usize
     if i < n { n - 1 - i } else { i }
 }
 
-// An index of a side whose orders stand in the first `n` rows, in rank order.
+// An index of a side whose orders stand in the first `n` rows, in rank order. Of an index, as what it promises is of its bytes, which no
+// clause on a `Table` sees. The cast loses nothing of a row, of which there are 256.
 fn number(x: &mut Index, n: usize)
     requires { n ≤ places_a_side }
     ensures { Numbered n x.new }

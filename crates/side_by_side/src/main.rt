@@ -91,8 +91,8 @@ fn run_day(
     Ok(())
 }
 
-// The room of the input, of this program's own size. It is made apart from `main`: a proof that sees so many zeros counts them one by one, and its checker runs
-// out of stack.
+// The room of the input, of this program's own size. It is made apart from `main`: a proof that sees so many zeros counts them one by one,
+// and its checker runs out of stack.
 fn input_room() -> [u8; 65536]
     ensures { 65536 ≡ length result }
 {

@@ -107,6 +107,7 @@ fn executed_shares(number: Number, e: Event) -> u32
     }
 }
 
+// The like of a cancel: another case, and one role.
 fn cancelled_shares(number: Number, e: Event) -> u32
     ensures { result ≡ cancelled_by number e }
 {

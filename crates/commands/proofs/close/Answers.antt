@@ -78,4 +78,5 @@ returns c n time held =
     rw (event_lines_append bought sold) (omega (arith, length-append (event_lines bought) (event_lines sold), len, more)) in
     let b : Book = record { held = held; buys = a.buys.now; sells = a.sells.now } in
     left_done (closed_all n time b) (r.result + q.result) _ _ _ a.out.now _ (closed_is n time b) all c.clear.ensures c.clear-2.ensures
-    (lines_behind bought sold r.result r.new.out a.out.now q.new.out len r.ensures.out_after q.ensures.out_after)
+    (lines_behind bought sold r.result r.new.out a.out.now q.new.out len (rw (← c.from-reason.ensures) r.ensures.out_after)
+    (rw (← c.from-reason.ensures) q.ensures.out_after))
