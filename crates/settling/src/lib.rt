@@ -68,12 +68,7 @@ impl Settling {
             Fate::IsCancelled(reason) => {
                 t.remove(at);
                 let left = rows::shares_left(o);
-                let more = writer::write_cancelled(
-                    &mut out[self.length..],
-                    o.number,
-                    left,
-                    reason
-                );
+                let more = writer::write_cancelled(&mut out[self.length..], o.number, left, reason);
                 Settling {
                     length: self.length + more,
                     ..self
