@@ -1,20 +1,21 @@
-// A quote on the two sides of a sound book: the orders that would now cross the away prices are moved or cancelled (02, W2), buys first.
-// The header, where the away prices are kept, is the caller's to write.
+// A quote on a sound book in place: the orders that would now cross the away prices are moved or cancelled (02, W2), buys first, and the
+// away prices are kept in the header.
 
 #![tactic(auto)]
 
 mod moves;
 
-ghost use Rattle.std.specs.Prelude.{◌≤◌, length};
+ghost use Rattle.std.specs.Prelude.{◌≡◌, ◌≤◌, length};
 ghost use Rattle.rules.specs.Refusals.{least_room};
 ghost use Rattle.rules.specs.declared.Body.TheVariants as body;
-ghost use Rattle.side.specs.Answers.{AreSoundBelow, LeftBy};
+ghost use Rattle.side.specs.Answers.{body_answer, AreSoundBelow, LeftBy};
 
 use kinds::Number;
-use rules::{Away, Refusal};
+use rules::{Away, Held, Refusal};
 use side::table::Table;
 
-pub fn quote(
+// The moves of both sides, whatever the header is.
+fn move_both(
     number: Number,
     away: Away,
     buys: &mut Table,
@@ -32,4 +33,28 @@ pub fn quote(
     let len = bought.length;
     let sold = moves::move_side(sells, false, away, number, bought.next, &mut out[len..]);
     Ok(len + sold.length)
+}
+
+// The header is written last, once nothing is refused any more.
+pub fn quote(
+    held: &mut Held,
+    number: Number,
+    time: u32,
+    away: Away,
+    buys: &mut Table,
+    sells: &mut Table,
+    out: &mut [u8],
+) -> Result<usize, Refusal>
+    requires sides { AreSoundBelow number buys.old sells.old }
+    requires room { least_room ≤ length out.old }
+    ensures sides_after { LeftBy number (body.Quote away) buys.old sells.old out.old result buys.new sells.new out.new }
+    ensures header { held.new ≡
+        (body_answer number time (body.Quote away) (record { held = held.old; buys = buys.old; sells = sells.old })).book.held }
+{
+    let length = move_both(number, away, buys, sells, out)?;
+    *held = Held {
+        away,
+        ..held.accepted(number, time)
+    };
+    Ok(length)
 }
