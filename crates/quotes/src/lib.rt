@@ -14,28 +14,6 @@ use kinds::Number;
 use rules::{Away, Held, Refusal};
 use side::table::Table;
 
-// The moves of both sides, whatever the header is.
-fn move_both(
-    number: Number,
-    away: Away,
-    buys: &mut Table,
-    sells: &mut Table,
-    out: &mut [u8],
-) -> Result<usize, Refusal>
-    requires sides { AreSoundBelow number buys.old sells.old }
-    requires room { least_room ≤ length out.old }
-    ensures { LeftBy number (body.Quote away) buys.old sells.old out.old result buys.new sells.new out.new }
-{
-    if !(judge::away_in_range(away.bid) & judge::away_in_range(away.offer)) {
-        return Err(Refusal::OutOfRange);
-    }
-    let bought = moves::move_side(buys, true, away, number, settling::FIRST_MOVE, out);
-    let len = bought.length;
-    let sold = moves::move_side(sells, false, away, number, bought.next, &mut out[len..]);
-    Ok(len + sold.length)
-}
-
-// The header is written last, once nothing is refused any more.
 pub fn quote(
     held: &mut Held,
     number: Number,
@@ -51,10 +29,15 @@ pub fn quote(
     ensures header { held.new ≡
         (body_answer number time (body.Quote away) (record { held = held.old; buys = buys.old; sells = sells.old })).book.held }
 {
-    let length = move_both(number, away, buys, sells, out)?;
+    if !(judge::away_in_range(away.bid) & judge::away_in_range(away.offer)) {
+        return Err(Refusal::OutOfRange);
+    }
+    let bought = moves::move_side(buys, true, away, number, settling::FIRST_MOVE, out);
+    let len = bought.length;
+    let sold = moves::move_side(sells, false, away, number, bought.next, &mut out[len..]);
     *held = Held {
         away,
         ..held.accepted(number, time)
     };
-    Ok(length)
+    Ok(len + sold.length)
 }
