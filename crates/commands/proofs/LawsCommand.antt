@@ -12,7 +12,6 @@ use Rattle.std.specs.Prelude.{Result, Ok, Err, Some}
 use Rattle.basics.specs.Bytes.{onto}
 use Rattle.basics.proofs.LawsBytes.{onto_none}
 use Rattle.judge.specs.Judge.{book_holding}
-use Rattle.kinds.specs.declared.Number.{Number}
 use Rattle.rules.specs.declared.Command.{Command}
 use Rattle.rules.specs.declared.Held.{Held}
 use Rattle.rules.specs.declared.Refusal.{Refusal}

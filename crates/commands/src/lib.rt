@@ -87,5 +87,12 @@ pub fn apply(
     ensures out_after { out.new ≡ onto (event_lines (answer_of c book.old).events) out.old }
 {
     judge::header(book.held, c)?;
-    carry_out(&mut book.held, c, &mut book.buys, &mut book.sells, took, out)
+    carry_out(
+        &mut book.held,
+        c,
+        &mut book.buys,
+        &mut book.sells,
+        took,
+        out,
+    )
 }

@@ -1,6 +1,6 @@
 -- `commands::carry_out` meets its contract: a cancel that is not refused leaves its number and its time in the header, and a close these with
 -- a closed book. Assumes nothing.
-use mathlib.Core.Path.{◌≡◌, refl, sym, ◌∙◌}
+use mathlib.Core.Path.{refl, sym, ◌∙◌}
 use Rattle.rules.specs.declared.Body.TheVariants as body
 use Rattle.rules.specs.Book.{Book}
 use Rattle.rules.proofs.LawsCommands.{cancel_does, close_does}

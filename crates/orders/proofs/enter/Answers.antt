@@ -1,5 +1,5 @@
 -- `orders::enter` meets its contract: the header gets its number and its time where the order is accepted, and else it stays. Assumes nothing.
-use mathlib.Core.Path.{◌≡◌, refl, sym, ◌∙◌}
+use mathlib.Core.Path.{refl, sym, ◌∙◌}
 use Rattle.rules.specs.declared.Body.TheVariants as body
 use Rattle.rules.specs.Book.{Book}
 use Rattle.rules.proofs.LawsCommands.{order_does}
