@@ -56,19 +56,20 @@ fn carry_out(
     ensures header { held.new ≡
         (body_answer c.number c.time c.body (record { held = held.old; buys = buys.old; sells = sells.old })).book.held }
 {
-    match c.body {
-        Body::Order(o) => orders::enter(held, c.number, c.time, o, buys, sells, took, out),
+    let Command { number, time, body } = c;
+    match body {
+        Body::Order(o) => orders::enter(held, number, time, o, buys, sells, took, out),
         Body::Cancel(of) => {
             let length = cancels::cancel(buys, sells, of, out)?;
-            *held = held.accepted(c.number, c.time);
+            *held = held.accepted(number, time);
             Ok(length)
         }
-        Body::Quote(away) => quotes::quote(held, c.number, c.time, away, buys, sells, out),
+        Body::Quote(away) => quotes::quote(held, number, time, away, buys, sells, out),
         Body::Close => {
             let length = close(buys, sells, out);
             *held = Held {
                 closed: true,
-                ..held.accepted(c.number, c.time)
+                ..held.accepted(number, time)
             };
             Ok(length)
         }
