@@ -25,7 +25,7 @@ use rules::{Held, Order, Refusal};
 use side::table::Table;
 
 // What an order does to the two sides, whatever the time is: the header, of which it reads the away prices, is not written here.
-fn place(
+fn judge_and_match(
     held: &Held,
     number: Number,
     o: Order,
@@ -72,7 +72,7 @@ pub fn enter(
     ensures header { held.new ≡
         (body_answer number time (body.Order o) (record { held = held.old; buys = buys.old; sells = sells.old })).book.held }
 {
-    let length = place(held, number, o, buys, sells, took, out)?;
+    let length = judge_and_match(held, number, o, buys, sells, took, out)?;
     *held = held.accepted(number, time);
     Ok(length)
 }

@@ -14,11 +14,11 @@ pub returns-in_err-length-clause-header : goal.returns-in_err-length-clause-head
 returns-in_err-length-clause-header c =
     let a = c.args in
     let b = book (goal.at.returns-in_err-length-clause-header c).Start in
-    sym (header_kept a.number a.time (body.Order a.o) b _ c.in_err-length.field-0.0 (sym c.in_err-length.was ∙ (c.place.ensures a.time).0))
+    sym (header_kept a.number a.time (body.Order a.o) b _ c.in_err-length.field-0.0 (sym c.in_err-length.was ∙ (c.judge_and_match.ensures a.time).0))
 
 pub returns-clause-header : goal.returns-clause-header
 returns-clause-header c =
     let a = c.args in
     let b = book (goal.at.returns-clause-header c).Start in
-    let done = header_done a.number a.time (body.Order a.o) b _ c.in_ok-length.length (sym c.in_ok-length.was ∙ (c.place.ensures a.time).0) in
+    let done = header_done a.number a.time (body.Order a.o) b _ c.in_ok-length.length (sym c.in_ok-length.was ∙ (c.judge_and_match.ensures a.time).0) in
     c.accepted.ensures ∙ sym (done ∙ rw (order_does a.number a.time b a.o).0 refl)

@@ -1,4 +1,4 @@
--- `orders::place` meets its contract: the match of an order, on whichever side of the market, is what 01 does. Assumes nothing.
+-- `orders::judge_and_match` meets its contract: the match of an order, on whichever side of the market, is what 01 does. Assumes nothing.
 use mathlib.Core.Bool.{true, false, not, ◌&&◌, beq}
 use mathlib.Core.Path.{◌≡◌, sym, ◌∙◌}
 use Rattle.basics.proofs.LawsChoice.{and_left}
@@ -9,8 +9,8 @@ use Rattle.rules.specs.Refusals.{carries_floor, carries_minimum, order_lawful, o
 use Rattle.side.proofs.tables.LawsAnswers.{left_refused}
 use Rattle.orders.proofs.LawsEntered.{unlawful, out_of_range, left_entered}
 use Rattle.orders.proofs.LawsReady.{ready}
-use Rattle.orders.proofs.place.Goals as goal
-use Rattle.orders.proofs.place.Goals.{Else-not-order_in_range, Else-not-order_lawful, Start}
+use Rattle.orders.proofs.judge_and_match.Goals as goal
+use Rattle.orders.proofs.judge_and_match.Goals.{Else-not-order_in_range, Else-not-order_lawful, Start}
 
 abbrev book : Start → Book
 book s = record { held = s.args.held.now; buys = s.args.buys.now; sells = s.args.sells.now }
