@@ -38,8 +38,8 @@ fn close(buys: &mut Table, sells: &mut Table, out: &mut [u8]) -> usize
 
 // ── A command ──
 
-// What the body of a command leaves of the two sides and of the header, and the length of its lines. These are lent apart: between them a
-// book is not sound.
+// What the body of a command leaves of the header and the two sides, and the length of its lines. They are lent apart: while it works they
+// are no sound book together.
 fn carry_out(
     held: &mut Held,
     c: Command,

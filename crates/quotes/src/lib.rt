@@ -25,7 +25,7 @@ pub fn quote(
 ) -> Result<usize, Refusal>
     requires sides { AreSoundBelow number buys.old sells.old }
     requires room { least_room ≤ length out.old }
-    ensures sides_after { LeftBy number (body.Quote away) buys.old sells.old out.old result buys.new sells.new out.new }
+    ensures sides { LeftBy number (body.Quote away) buys.old sells.old out.old result buys.new sells.new out.new }
     ensures header { held.new ≡
         (body_answer number time (body.Quote away) (record { held = held.old; buys = buys.old; sells = sells.old })).book.held }
 {

@@ -65,12 +65,12 @@ module _ (c : Then-not-away_in_range) where
       let a = c.args in
       quote_refused a.number time a.away b (tested a.away false c.away_in_range.ensures c.away_in_range-2.ensures c.if-not-away_in_range.true)
 
-pub returns-then-not-away_in_range-clause-sides_after : goal.returns-then-not-away_in_range-clause-sides_after
-returns-then-not-away_in_range-clause-sides_after c time held =
+pub returns-then-not-away_in_range-clause-sides : goal.returns-then-not-away_in_range-clause-sides
+returns-then-not-away_in_range-clause-sides c time held =
     let a = c.args in
     let b : Book = record { held = held; buys = a.buys.now; sells = a.sells.now } in
     left_refused OutOfRange b a.out.now (body_answer a.number time (body.Quote a.away) b)
-    (refused (goal.at.returns-then-not-away_in_range-clause-sides_after c).Then-not-away_in_range time b)
+    (refused (goal.at.returns-then-not-away_in_range-clause-sides c).Then-not-away_in_range time b)
 
 pub returns-then-not-away_in_range-clause-header : goal.returns-then-not-away_in_range-clause-header
 returns-then-not-away_in_range-clause-header c =
@@ -129,9 +129,9 @@ overflow_add-result c =
     let long = ap (λ (m : Settling). m.length) c.move_side-sold.ensures.value in
     record { fits = omega (arith, bought_long at.After-move_side-bought, long, bought, sold) }
 
-pub returns-clause-sides_after : goal.returns-clause-sides_after
-returns-clause-sides_after c time held =
-    let at = goal.at.returns-clause-sides_after c in
+pub returns-clause-sides : goal.returns-clause-sides
+returns-clause-sides c time held =
+    let at = goal.at.returns-clause-sides c in
     let here = at.After-move_side-bought in
     let a = c.args in
     let b : Book = record { held = held; buys = a.buys.now; sells = a.sells.now } in
