@@ -22,7 +22,8 @@ const PIECE: usize = 65536;
 // Room for as many bytes of event lines, and for those of one command more.
 const OUTPUT: usize = PIECE + rules::LEAST_ROOM;
 
-// Reads behind the bytes that wait, if a turn asks for it (`reads`): what it answers else is a part of its promise.
+// Reads behind the bytes that wait, if a turn asks for it (`reads`): what it answers else is a part of its promise. The cast
+// loses nothing of how many bytes were read.
 fn read_on(
     from: &mut impl io::Read,
     input: &mut [u8],

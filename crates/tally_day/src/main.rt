@@ -92,7 +92,7 @@ fn say(rt: &(impl Print + Eprint), t: Tally) -> Result<()> {
 // ── A day ──
 
 // From the first piece to the end of the input. A proved loop has to end, and nothing says that an input does: so the turns are
-// counted up to a number that no day comes to.
+// counted up to a number that no day comes to. The cast loses nothing of how many bytes were read.
 fn run(
     rt: &(impl Print + Eprint),
     from: &mut impl io::Read,
