@@ -8,12 +8,11 @@ mod cancels;
 ghost use Rattle.std.specs.Prelude.{true, ◌≡◌, ◌≤◌, ◌<◌, length};
 ghost use Rattle.basics.specs.Bytes.{onto};
 ghost use Rattle.rules.specs.Book.{sound};
-ghost use Rattle.rules.specs.Commands.{with_accepted};
 ghost use Rattle.rules.specs.EventLines.{event_lines};
 ghost use Rattle.rules.specs.Refusals.{least_room};
 ghost use Rattle.rules.specs.Refusing.{or_refused};
 ghost use Rattle.side.specs.Answers.{answer_of, body_answer, Left};
-ghost use Rattle.commands.specs.Sides.{AreSound, Closes, held_after};
+ghost use Rattle.commands.specs.Sides.{AreSound, Closes};
 
 use orders::reports;
 use orders::takings::Takings;
@@ -39,47 +38,41 @@ fn close(buys: &mut Table, sells: &mut Table, out: &mut [u8]) -> usize
 
 // ── A command ──
 
-// What the body of a command leaves of the two sides, and the length of its lines. These and the header are lent apart: between them a book
-// is not sound.
+// What the body of a command leaves of the header and the two sides, and the length of its lines. They are lent apart: while it works they
+// are no sound book together.
 fn carry_out(
-    held: &Held,
+    held: &mut Held,
     c: Command,
     buys: &mut Table,
     sells: &mut Table,
     took: &mut Takings,
     out: &mut [u8],
 ) -> Result<usize, Refusal>
-    requires is_sound { sound (record { held = held.now; buys = buys.old; sells = sells.old }) ≡ true }
+    requires is_sound { sound (record { held = held.old; buys = buys.old; sells = sells.old }) ≡ true }
     requires room { least_room ≤ length out.old }
-    requires next { held.now.last.0 < c.number.0 }
-    ensures { Left result buys.new sells.new out.new out.old
-        (body_answer c.number held.now.time c.body (record { held = held.now; buys = buys.old; sells = sells.old })) }
+    requires next { held.old.last.0 < c.number.0 }
+    ensures sides { Left result buys.new sells.new out.new out.old
+        (body_answer c.number c.time c.body (record { held = held.old; buys = buys.old; sells = sells.old })) }
+    ensures header { held.new ≡
+        (body_answer c.number c.time c.body (record { held = held.old; buys = buys.old; sells = sells.old })).book.held }
 {
-    match c.body {
-        Body::Order(o) => orders::enter(held, c.number, o, buys, sells, took, out),
-        Body::Cancel(of) => cancels::cancel(buys, sells, of, out),
-        Body::Quote(away) => quotes::quote(c.number, away, buys, sells, out),
-        Body::Close => Ok(close(buys, sells, out)),
-    }
-}
-
-// What an accepted command leaves of the header: its number and its time, and what its body changes.
-fn held_after(held: Held, c: Command) -> Held
-    ensures { result ≡ held_after c.body (with_accepted c.number c.time held) }
-{
-    let accepted = Held {
-        last: c.number,
-        time: c.time,
-        ..held
-    };
-    match c.body {
-        Body::Order(_) => accepted,
-        Body::Cancel(_) => accepted,
-        Body::Quote(away) => Held { away, ..accepted },
-        Body::Close => Held {
-            closed: true,
-            ..accepted
-        },
+    let Command { number, time, body } = c;
+    match body {
+        Body::Order(o) => orders::enter(held, number, time, o, buys, sells, took, out),
+        Body::Cancel(of) => {
+            let length = cancels::cancel(buys, sells, of, out)?;
+            *held = held.accepted(number, time);
+            Ok(length)
+        }
+        Body::Quote(away) => quotes::quote(held, number, time, away, buys, sells, out),
+        Body::Close => {
+            let length = close(buys, sells, out);
+            *held = Held {
+                closed: true,
+                ..held.accepted(number, time)
+            };
+            Ok(length)
+        }
     }
 }
 
@@ -94,9 +87,13 @@ pub fn apply(
     ensures book_after { book.new ≡ (answer_of c book.old).book }
     ensures out_after { out.new ≡ onto (event_lines (answer_of c book.old).events) out.old }
 {
-    let held = book.held;
-    judge::header(held, c)?;
-    let length = carry_out(&held, c, &mut book.buys, &mut book.sells, took, out)?;
-    book.held = held_after(held, c);
-    Ok(length)
+    judge::header(book.held, c)?;
+    carry_out(
+        &mut book.held,
+        c,
+        &mut book.buys,
+        &mut book.sells,
+        took,
+        out,
+    )
 }

@@ -20,27 +20,43 @@ pub struct Fed {
     pub length: usize,
 }
 
-// A fresh book. `book::Book::fresh` has the same header, by value: one for both would be a constant of its own, and no plainer.
-// Not put into its callers: what it puts together, a side at a time, would stay on their stack.
-#[inline(never)]
-pub fn begin() -> SoundBook
-    ensures { result ≡ fresh }
+// The header of a fresh book. `book::Book::fresh` has the same, by value: one for both would be a constant of its own, and no plainer.
+fn fresh_held() -> Held
+    ensures { result ≡ fresh.held }
 {
     let away = Away {
         bid: Cents(0),
         offer: Cents(0),
     };
-    let held = Held {
+    Held {
         last: Number(0),
         time: judge::OPENING,
         away,
         closed: false,
-    };
+    }
+}
+
+// A fresh book. Not put into its callers: what it puts together, a side at a time, would stay on their stack.
+#[inline(never)]
+pub fn begin() -> SoundBook
+    ensures { result ≡ fresh }
+{
     SoundBook {
-        held,
+        held: fresh_held(),
         buys: Table::empty(),
         sells: Table::empty(),
     }
+}
+
+// The same of a book that is there, whatever it holds: for whoever works one day after another. No row of a side is written, and nothing of
+// the book is moved, while `begin` writes all of a book and hands it over by value.
+pub fn begin_again(book: &mut SoundBook)
+    ensures { book.new ≡ fresh }
+{
+    let held = fresh_held();
+    book.held = held;
+    book.buys.clear();
+    book.sells.clear();
 }
 
 // ── A line ──

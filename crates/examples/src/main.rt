@@ -11,6 +11,7 @@ ghost use Rattle.rules.specs.Refusals.{least_room};
 use anyhow::{Context, Result};
 use day::{night, replay};
 use orders::takings::Takings;
+use side::tables::SoundBook;
 use std::io;
 
 // ── The days ──
@@ -83,17 +84,23 @@ fn end_day(to: &mut impl io::Write, part: &[u8], out: &mut [u8]) -> Result<()>
     hand_over(to, &out[..length])
 }
 
-// A day, from a fresh book to its end, turn by turn; whether it came there.
-fn run_day(to: &mut impl io::Write, day: &[u8], out: &mut [u8]) -> Result<bool>
+// A day, from a fresh book to its end, turn by turn; whether it came there. The book and the room for takings are lent, whatever a day before
+// left in them: a new book for each day would be more work than a short day is.
+fn run_day(
+    to: &mut impl io::Write,
+    day: &[u8],
+    book: &mut SoundBook,
+    took: &mut Takings,
+    out: &mut [u8],
+) -> Result<bool>
     requires { least_room ≤ length out.old }
 {
     let mut input = [0u8; 147];
-    let mut book = replay::begin();
-    let mut took = Takings::new();
+    replay::begin_again(book);
     let mut at = 0;
     let mut have = 0;
     for _ in 0..u64::MAX {
-        let turn = night::take_turn(&mut book, &mut input, have, &mut took, out);
+        let turn = night::take_turn(book, &mut input, have, took, out);
         hand_over(to, &out[..turn.length])?;
         have = turn.have;
         if turn.reads && at == day.len() {
@@ -112,13 +119,15 @@ fn run_day(to: &mut impl io::Write, day: &[u8], out: &mut [u8]) -> Result<bool>
 fn run_days(to: &mut impl io::Write, days: &[u8], out: &mut [u8]) -> Result<()>
     requires { least_room ≤ length out.old }
 {
+    let mut book = replay::begin();
+    let mut took = Takings::new();
     let mut at = 0;
     while at < days.len() {
         let start = line_after(days, at);
         let end = day_after(days, start);
         hand_over(to, &days[at..start])?;
         let last = day_end(days, at, start, end);
-        if !run_day(to, &days[start..last], out)? {
+        if !run_day(to, &days[start..last], &mut book, &mut took, out)? {
             return Ok(());
         }
         at = end;

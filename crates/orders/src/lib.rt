@@ -24,8 +24,8 @@ use kinds::Number;
 use rules::{Held, Order, Refusal};
 use side::table::Table;
 
-// The header is read alone: whoever carries the command out writes it.
-pub fn enter(
+// What an order does to the two sides, whatever the time is: the header, of which it reads the away prices, is not written here.
+fn judge_and_match(
     held: &Held,
     number: Number,
     o: Order,
@@ -51,4 +51,28 @@ pub fn enter(
     } else {
         matching::match_order(o, number, held.away, sells, buys, took, out)
     }
+}
+
+// The header is written last, once nothing is refused any more.
+pub fn enter(
+    held: &mut Held,
+    number: Number,
+    time: u32,
+    o: Order,
+    buys: &mut Table,
+    sells: &mut Table,
+    took: &mut Takings,
+    out: &mut [u8],
+) -> Result<usize, Refusal>
+    requires is_sound { sound (record { held = held.old; buys = buys.old; sells = sells.old }) ≡ true }
+    requires room { least_room ≤ length out.old }
+    requires next { held.old.last.0 < number.0 }
+    ensures sides { (any_time : ℕ) → Left result buys.new sells.new out.new out.old
+        (body_answer number any_time (body.Order o) (record { held = held.old; buys = buys.old; sells = sells.old })) }
+    ensures header { held.new ≡
+        (body_answer number time (body.Order o) (record { held = held.old; buys = buys.old; sells = sells.old })).book.held }
+{
+    let length = judge_and_match(held, number, o, buys, sells, took, out)?;
+    *held = held.accepted(number, time);
+    Ok(length)
 }

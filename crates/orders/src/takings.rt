@@ -25,7 +25,7 @@ const NO_TAKING: Taking = Taking {
 };
 
 // To a caller these are the list of the takings. A count beside an array, and no `Vec`: the project has no heap.
-#[derive(Drop)]
+#[derive(Clone, Drop)]
 pub struct Takings {
     rows: [Taking; TAKINGS],
     count: usize,

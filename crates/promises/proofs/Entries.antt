@@ -26,7 +26,8 @@ use Rattle.rules.specs.Book as book
 use Rattle.rules.specs.CommandLines.{line_of, command_in}
 use Rattle.rules.specs.EventReading.{event_in}
 use Rattle.rules.specs.Refusals.{least_room}
-use Rattle.rules.specs.Step.{step, step_on}
+use Rattle.rules.specs.Refusing.{number_of}
+use Rattle.rules.specs.Step.{Returned, step, step_on}
 use Rattle.book.specs.declared.Book.{Book}
 use Rattle.book.specs.declared.Reply.{Reply}
 use Rattle.book.specs.Record.{record_in, book_with, reply_of}
@@ -75,6 +76,9 @@ use Rattle.event_lines.proofs.reader.read_event.Statement as read-event-statemen
 use Rattle.day.proofs.replay.begin.Met as begin-met
 use Rattle.day.proofs.replay.begin.Reads as begin
 use Rattle.day.proofs.replay.begin.Statement as begin-statement
+use Rattle.day.proofs.replay.begin_again.Met as begin-again-met
+use Rattle.day.proofs.replay.begin_again.Reads as begin-again
+use Rattle.day.proofs.replay.begin_again.Statement as begin-again-statement
 use Rattle.day.proofs.replay.feed.Met as feed-met
 use Rattle.day.proofs.replay.feed.Reads as feed
 use Rattle.day.proofs.replay.feed.Statement as feed-statement
@@ -90,9 +94,14 @@ use Rattle.day.proofs.night.take_turn.Statement as turn-statement
 use Rattle.day.proofs.night.finish.Met as finish-met
 use Rattle.day.proofs.night.finish.Reads as finish
 use Rattle.day.proofs.night.finish.Statement as finish-statement
-use Rattle.std.specs.Prelude.{Some, Result}
+use Rattle.rules.proofs.LawsRefusing.{returned_number}
+use Rattle.std.specs.Prelude.{Some, Result, Err}
 
 -- ── The book by value ──
+
+-- The refusal of a reply has 01's number: `reply_of` finds it by its place in 01's table, and its number is `number_of`.
+pub a_refusal_has_its_number : (r : Returned) (refusal : Refusal) → (reply_of r).answer ≡ Err refusal → number_of refusal ≡ r.refusal
+a_refusal_has_its_number r refusal = returned_number r.length r.refusal refusal
 
 -- `Book::fresh()`
 pub fresh_is_proved : {M : Type 1} → fresh-statement.statement M
@@ -247,6 +256,17 @@ begin_asks κs a = refl
 pub begin_says : (κs : _) (a : _) (r : book.Book) (s : _) → begin.Post κs a r s
     ≡ (r ≡ book.fresh)
 begin_says κs a r s = refl
+
+-- `day::replay::begin_again(book)`: a fresh book, in the place of whatever book is lent
+pub begin_again_is_proved : {M : Type 1} → begin-again-statement.statement M
+begin_again_is_proved = begin-again-met.met
+
+pub begin_again_asks : (κs : _) (a : _) → begin-again.Pre κs a ≡ Unit {0}
+begin_again_asks κs a = refl
+
+pub begin_again_says : (κs : _) (a : _) (r : _) (s : _) → begin-again.Post κs a r s
+    ≡ (s.0.now ≡ book.fresh)
+begin_again_says κs a r s = refl
 
 -- `day::replay::feed(book, input, took, out)`: on any sound book, whatever the input and the output
 pub feed_is_proved : {M : Type 1} → feed-statement.statement M

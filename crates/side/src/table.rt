@@ -9,7 +9,7 @@ use rules::Resting;
 use std::marker::Model;
 
 // The rows, the index that ranks those in use, and how many orders they hold.
-#[derive(Drop)]
+#[derive(Clone, Drop)]
 pub struct Table {
     pub(crate) index: Index,
     pub(crate) rows: Rows,

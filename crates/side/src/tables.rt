@@ -36,7 +36,7 @@ impl Side {
 }
 
 // A sound book in place.
-#[derive(Drop)]
+#[derive(Clone, Drop)]
 pub struct SoundBook {
     pub held: Held,
     pub buys: Table,

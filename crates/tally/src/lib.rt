@@ -35,23 +35,21 @@ impl From<NoEvent> for Stop {
     }
 }
 
+// In the words that the clerk is told.
 impl fmt::Display for Stop {
+    ghost use Rattle.std.specs.Prelude.{Some};
+    ghost use Rattle.tally.specs.Words.{words_of};
+
+    ghost output = { λ stop. Some (words_of stop) };
+
     fn fmt<W: fmt::Write>(&self, f: &mut fmt::Formatter<W>) -> fmt::Result {
         match self {
-            Stop::BadLine(NoEvent::UnknownKind) => write!(f, "unknown kind"),
-            Stop::BadLine(NoEvent::Short) => write!(f, "short"),
-            Stop::BadLine(NoEvent::TrailingBytes) => write!(f, "trailing bytes"),
-            Stop::BadLine(NoEvent::BadDigitOrEnding) => write!(f, "bad digit or ending"),
-            Stop::ExecutedPasses => write!(
-                f,
-                "the sum of executed shares passes {}",
-                kinds::LARGEST
-            ),
-            Stop::CancelledPasses => write!(
-                f,
-                "the sum of cancelled shares passes {}",
-                kinds::LARGEST
-            ),
+            Stop::BadLine(NoEvent::UnknownKind) => f.write_str("unknown kind"),
+            Stop::BadLine(NoEvent::Short) => f.write_str("short"),
+            Stop::BadLine(NoEvent::TrailingBytes) => f.write_str("trailing bytes"),
+            Stop::BadLine(NoEvent::BadDigitOrEnding) => f.write_str("bad digit or ending"),
+            Stop::ExecutedPasses => f.write_str("the sum of executed shares passes 4294967295"),
+            Stop::CancelledPasses => f.write_str("the sum of cancelled shares passes 4294967295"),
         }
     }
 }

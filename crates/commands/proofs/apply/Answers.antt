@@ -1,16 +1,16 @@
--- `commands::apply` meets its contract: the header is judged first, then the body does its work on the two sides, and then the header is
--- written. Assumes nothing.
+-- `commands::apply` meets its contract: the header is judged first, and then the body does its work on the header and the two sides. Assumes
+-- nothing.
 use mathlib.Core.Bool.{true}
 use mathlib.Core.Path.{◌≡◌, sym, ap, subst, ◌∙◌}
 use Rattle.std.proofs.lemmas.Result.{err_from_is_err_and}
-use Rattle.std.specs.Prelude.{Result, Ok, Err}
+use Rattle.std.specs.Prelude.{Result, Err}
 use Rattle.rules.specs.declared.Command.{Command}
 use Rattle.rules.specs.declared.Refusal.{Refusal}
 use Rattle.rules.specs.Book.{Book, sound}
 use Rattle.side.specs.Answers.{answer_of}
-use Rattle.commands.proofs.LawsCommand.{Leaves, command_sound, header_refused, header_next, left_accepted, left_refused_by_body}
+use Rattle.commands.proofs.LawsCommand.{Leaves, command_sound, header_refused, header_next, left_by_body}
 use Rattle.commands.proofs.apply.Goals as goal
-use Rattle.commands.proofs.apply.Goals.{After-from_residual, After-from_residual-in_err-length, After-held_after-book-inside}
+use Rattle.commands.proofs.apply.Goals.{After-from_residual, After-carry_out}
 
 -- the sound book that a command finds, and what it leaves of it, said of any book equal to it
 module _ (c : Command) {b b' : Book} (is : b ≡ b') where
@@ -43,73 +43,31 @@ returns-in_err-header-clause-book_after c = (by_header c).book_after
 pub returns-in_err-header-clause-out_after : goal.returns-in_err-header-clause-out_after
 returns-in_err-header-clause-out_after c = (by_header c).out_after
 
--- ── Refused by its body ──
+-- ── By its body ──
 
 pub carry_out-requires-clause-next : goal.carry_out-requires-clause-next
 carry_out-requires-clause-next c =
     header_next c.args.c (record { held = c.book.inside.held; buys = c.book.inside.buys; sells = c.book.inside.sells }) c.in_ok-header.ensures
 
-module _ (c : After-from_residual-in_err-length) where
-  abbrev kept : Book
-  kept = record { held = c.book.inside.held; buys = c.carry_out.new.buys; sells = c.carry_out.new.sells }
+module _ (c : After-carry_out) where
+  abbrev after : Book
+  after = record { held = c.carry_out.new.held; buys = c.carry_out.new.buys; sells = c.carry_out.new.sells }
 
-  by_body : Leaves c.from_residual-in_err-length.result kept c.carry_out.new.out c.args.out.now (answer_of c.args.c c.args.book.now)
+  by_body : Leaves c.carry_out.result after c.carry_out.new.out c.args.out.now (answer_of c.args.c c.args.book.now)
   by_body =
-      let a = c.args in
       let b : Book = record { held = c.book.inside.held; buys = c.book.inside.buys; sells = c.book.inside.sells } in
-      let p = err_from_is_err_and c.from_residual-in_err-length.result c.from_residual-in_err-length.ensures.1 in
-      let by_sides = rw c.in_err-length.was at c.carry_out.ensures in
-      let left = left_of a.c c.book.view_is (left_refused_by_body a.c b c.in_ok-header.ensures b.held.time c.in_err-length.field-0.0 _ _ _ _ by_sides) in
-      record {
-        value = p.1 ∙ ap (λ (e : Refusal). Err e) p.2 ∙ left.value;
-        book_after = left.book_after;
-        out_after = left.out_after;
-      }
-
-  kept_sound : sound kept ≡ true
-  kept_sound = sound_after c.args.c c.book.view_is c.book.invariant by_body.book_after
+      left_of c.args.c c.book.view_is
+      (left_by_body c.args.c b c.in_ok-header.ensures _ _ _ _ _ _ c.carry_out.ensures.sides c.carry_out.ensures.header)
 
 pub invariant_of-book : goal.invariant_of-book
-invariant_of-book c = kept_sound c
-
-pub returns-in_err-length-clause-value : goal.returns-in_err-length-clause-value
-returns-in_err-length-clause-value c = (by_body c).value
-
-pub returns-in_err-length-clause-book_after : goal.returns-in_err-length-clause-book_after
-returns-in_err-length-clause-book_after c = (by_body c).book_after
-
-pub returns-in_err-length-clause-out_after : goal.returns-in_err-length-clause-out_after
-returns-in_err-length-clause-out_after c = (by_body c).out_after
-
--- ── Accepted ──
-
-module _ (c : After-held_after-book-inside) where
-  abbrev written : Book
-  written = record { held = c.held_after-book-inside.result; buys = c.carry_out.new.buys; sells = c.carry_out.new.sells }
-
-  accepted : Leaves (Ok c.in_ok-length.length) written c.carry_out.new.out c.args.out.now (answer_of c.args.c c.args.book.now)
-  accepted =
-      let a = c.args in
-      let b : Book = record { held = c.book.inside.held; buys = c.book.inside.buys; sells = c.book.inside.sells } in
-      let by_sides = rw c.in_ok-length.was at c.carry_out.ensures in
-      let left = left_of a.c c.book.view_is (left_accepted a.c b c.in_ok-header.ensures b.held.time c.in_ok-length.length _ _ _ _ by_sides) in
-      record {
-        value = left.value;
-        book_after = rw c.held_after-book-inside.ensures left.book_after;
-        out_after = left.out_after;
-      }
-
-  written_sound : sound written ≡ true
-  written_sound = sound_after c.args.c c.book.view_is c.book.invariant accepted.book_after
-
-pub invariant_of-book-2 : goal.invariant_of-book-2
-invariant_of-book-2 c = written_sound (goal.at.invariant_of-book-2 c).After-held_after-book-inside
+invariant_of-book c =
+    sound_after c.args.c c.book.view_is c.book.invariant (by_body (goal.at.invariant_of-book c).After-carry_out).book_after
 
 pub returns-clause-value : goal.returns-clause-value
-returns-clause-value c = (accepted (goal.at.returns-clause-value c).After-held_after-book-inside).value
+returns-clause-value c = (by_body (goal.at.returns-clause-value c).After-carry_out).value
 
 pub returns-clause-book_after : goal.returns-clause-book_after
-returns-clause-book_after c = (accepted (goal.at.returns-clause-book_after c).After-held_after-book-inside).book_after
+returns-clause-book_after c = (by_body (goal.at.returns-clause-book_after c).After-carry_out).book_after
 
 pub returns-clause-out_after : goal.returns-clause-out_after
-returns-clause-out_after c = (accepted (goal.at.returns-clause-out_after c).After-held_after-book-inside).out_after
+returns-clause-out_after c = (by_body (goal.at.returns-clause-out_after c).After-carry_out).out_after

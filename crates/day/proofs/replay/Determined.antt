@@ -4,10 +4,14 @@ use mathlib.Core.Path.{◌≡◌, sym, ◌∙◌}
 use Rattle.rules.specs.Book.{Book}
 use Rattle.day.specs.declared.replay.Fed.{Fed}
 use Rattle.day.proofs.replay.begin.Reads as begin
+use Rattle.day.proofs.replay.begin_again.Reads as begin-again
 use Rattle.day.proofs.replay.feed.Reads as feed
 
 pub begin_determined : (κs : _) (a : _) (r r' : Book) (s s' : _) → begin.Post κs a r s → begin.Post κs a r' s' → r ≡ r'
 begin_determined κs a r r' s s' p q = p ∙ sym q
+
+pub begin_again_determined : (κs : _) (a : _) (r r' : _) (s s' : _) → begin-again.Post κs a r s → begin-again.Post κs a r' s' → s.0.now ≡ s'.0.now
+begin_again_determined κs a r r' s s' p q = p ∙ sym q
 
 pub feed_determined : (κs : _) (a : _) (r r' : Fed) (s s' : _) → feed.Post κs a r s → feed.Post κs a r' s'
     → (r ≡ r') × (s.0.now ≡ s'.0.now) × (s.1.1.1.0.now ≡ s'.1.1.1.0.now)

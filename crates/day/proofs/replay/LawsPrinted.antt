@@ -1,18 +1,16 @@
 -- What is printed of one line, by its reading and its answer: a refusal's line with the book as it was, or the lines of the events.
 -- Assumes nothing.
-use Prim.Native.Nat.{ℕ, zero, suc, ◌+◌, ◌≤◌}
-use mathlib.Core.Bool.{Bool, true, ◌&&◌}
-use mathlib.Core.List.{List, [], ◌∷◌}
+use Prim.Native.Nat.{ℕ, ◌≤◌}
+use mathlib.Core.Bool.{true}
+use mathlib.Core.List.{List}
 use mathlib.Core.Logic.{◌≢◌}
 use mathlib.Core.Path.{◌≡◌, refl, sym, ap, ◌∙◌}
-use lib.Dec.{eqb}
 use lib.ListN.{length}
 use native.Mathlib.Omega.{arith}
-use borrow.Author.Tests.{eqb-true, ne_eqb}
-use Rattle.std.specs.Prelude.{Option, Some, None, Result, Ok, Err, slice_get}
+use borrow.Author.Tests.{ne_eqb}
+use Rattle.std.specs.Prelude.{Some, None, Result, Ok, Err}
 use Rattle.basics.specs.Bytes.{onto}
 use Rattle.basics.proofs.LawsBytes.{onto_none}
-use Rattle.basics.proofs.LawsChoice.{and_left, and_right}
 use Rattle.rules.specs.declared.Command.{Command}
 use Rattle.rules.specs.declared.Refusal.{Refusal}
 use Rattle.rules.specs.declared.Refusal.TheVariants.{NoCommand}
@@ -21,39 +19,14 @@ use Rattle.rules.specs.Book.{Book}
 use Rattle.rules.specs.Day.{printed}
 use Rattle.rules.specs.EventLines.{event_lines, refusal_line}
 use Rattle.rules.specs.Refusals.{least_room, first_of, line_refusals, refusals, last_refusal}
-use Rattle.rules.specs.Refusing.{number_of, in_order, refusal_numbered, unless_refused, or_refused}
+use Rattle.rules.specs.Refusing.{number_of, or_refused}
 use Rattle.rules.specs.Step.{Answer, answer}
 use Rattle.rules.proofs.LawsEvents.{refusal_length}
 use Rattle.rules.proofs.LawsRefusals.{first_numbered, table_numbered}
-use Rattle.rules.proofs.LawsRefusing.{passed_zero, refused_above}
+use Rattle.rules.proofs.LawsRefusing.{passed_zero, refused_above, returned_number}
 use Rattle.side.specs.Answers.{answer_of}
 use Rattle.side.proofs.tables.LawsAnswers.{refused_with}
 use Rattle.day.specs.Feed.{answer_for}
-
--- ── The number of a refusal ──
-
--- refusals whose numbers follow one another, from one on
-abbrev follow : ℕ → List Refusal → Bool
-follow k [] = true
-follow k (r ∷ rs) = eqb (number_of r) k && follow (suc k) rs
-
-number_at : (k n : ℕ) (rs : List Refusal) (refusal : Refusal) → follow k rs ≡ true → slice_get rs n ≡ Some refusal → number_of refusal ≡ k + n
-number_at k n [] refusal f e = let z : ⊥ = cc in absurd z
-number_at k zero (r ∷ rs) refusal f e =
-    let same : r ≡ refusal = cc in
-    let own : number_of r ≡ k = eqb-true (number_of r) k (and_left (eqb (number_of r) k) (follow (suc k) rs) f) in
-    omega (arith, own, ap number_of same)
-number_at k (suc n) (r ∷ rs) refusal f e =
-    omega (arith, number_at (suc k) n rs refusal (and_right (eqb (number_of r) k) (follow (suc k) rs) f) e)
-
--- a number that gives a refusal is the refusal's own
-own_number : (n : ℕ) (refusal : Refusal) → refusal_numbered n ≡ Some refusal → number_of refusal ≡ n
-own_number zero refusal e = let z : ⊥ = cc in absurd z
-own_number (suc n) refusal e = omega (arith, number_at 1 n in_order refusal refl e)
-
-err_is : (given : Option Refusal) (a : ℕ) (refusal : Refusal) → unless_refused given a ≡ Err refusal → given ≡ Some refusal
-err_is None a refusal e = let z : ⊥ = cc in absurd z
-err_is (Some given) a refusal e = cc
 
 -- ── The answer to a reading ──
 
@@ -115,8 +88,7 @@ module _ (b : Book) (r : Reading) (out : List ℕ) where
     unfolding it event_lines
     shown_refusal refusal refused k n out'' number five wrote =
         let answered = sym value ∙ refused in
-        let given = err_is (refusal_numbered it.refusal) (length (event_lines it.events)) refusal answered in
-        let k_is : k ≡ it.refusal = number ∙ own_number it.refusal refusal given in
+        let k_is : k ≡ it.refusal = number ∙ returned_number (length (event_lines it.events)) it.refusal refusal answered in
         let above = refused_above (length (event_lines it.events)) it.refusal refusal answered in
         let some : k ≢ 0 = λ z. omega (arith, k_is, above, z) in
         let e : it ≡ refused_with k b = rw k_is (refused_as c b (λ z. some (k_is ∙ z))) in

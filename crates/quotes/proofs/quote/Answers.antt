@@ -3,7 +3,7 @@
 use Prim.Native.Nat.{ℕ, ◌+◌, ◌-◌, ◌*◌, ◌≤◌}
 use mathlib.Core.Bool.{Bool, true, false, not, ◌&&◌}
 use mathlib.Core.List.{◌++◌}
-use mathlib.Core.Path.{◌≡◌, ap, ◌∙◌}
+use mathlib.Core.Path.{◌≡◌, sym, ap, ◌∙◌}
 use lib.ListN.{length, take, drop, length-append, length-take, length-drop}
 use native.Mathlib.Omega.{arith}
 use Rattle.rules.specs.declared.Away.{Away}
@@ -14,15 +14,16 @@ use Rattle.rules.specs.declared.Resting.{Resting}
 use Rattle.rules.specs.Book.{Book, away_in_range, places_a_side}
 use Rattle.rules.specs.Commands.{quote_fate}
 use Rattle.rules.specs.EventLines.{event_lines}
+use Rattle.rules.specs.Step.{Answer}
 use Rattle.rules.specs.Settling.{first_move, set_anew, told, settled_side}
 use Rattle.rules.proofs.LawsEvents.{event_lines_append, lines_behind}
 use Rattle.settling.specs.declared.Settling.{Settling}
 use Rattle.settling.proofs.LawsSettling.{anew_fit}
 use Rattle.side.specs.Answers.{body_answer}
-use Rattle.side.proofs.tables.LawsAnswers.{left_refused, left_done}
+use Rattle.side.proofs.tables.LawsAnswers.{refused_with, left_refused, left_done}
 use Rattle.quotes.proofs.LawsQuoteLeaves.{quote_refused, next_move, quoted, quote_done, Ready, ready}
 use Rattle.quotes.proofs.quote.Goals as goal
-use Rattle.quotes.proofs.quote.Goals.{After-move_side-bought, After-move_side-sold, Else-not-away_in_range}
+use Rattle.quotes.proofs.quote.Goals.{After-move_side-bought, Then-not-away_in_range, Else-not-away_in_range}
 
 -- the test of both away prices
 tested : {bid offer : Bool} (away : Away) (v : Bool) → bid ≡ away_in_range away.bid → offer ≡ away_in_range away.offer → (bid && offer) ≡ v
@@ -30,13 +31,15 @@ tested : {bid offer : Bool} (away : Away) (v : Bool) → bid ≡ away_in_range a
 tested away v bid offer is = ap not (rw (bid, offer) at is)
 
 -- where both are in range, both sides are ready for their moves
+accepted : (c : Else-not-away_in_range) → not (away_in_range c.args.away.bid && away_in_range c.args.away.offer) ≡ false
+accepted c = tested c.args.away true c.away_in_range.ensures c.away_in_range-2.ensures c.if-not-away_in_range.false
+
 sides_ready : (c : Else-not-away_in_range) (buy : Bool) (k : ℕ) → let a = c.args in
     Ready buy (record { held = c.requires.sides.held; buys = a.buys.now; sells = a.sells.now }) a.number k a.away
 sides_ready c buy k =
     let a = c.args in
     let b : Book = record { held = c.requires.sides.held; buys = a.buys.now; sells = a.sells.now } in
-    let accepted = tested a.away true c.away_in_range.ensures c.away_in_range-2.ensures c.if-not-away_in_range.false in
-    ready buy b c.requires.sides.is_sound a.number k c.requires.sides.next a.away accepted
+    ready buy b c.requires.sides.is_sound a.number k c.requires.sides.next a.away (accepted c)
 
 -- what the moves of the buys leave
 module _ (c : After-move_side-bought) where
@@ -56,12 +59,24 @@ module _ (c : After-move_side-bought) where
 
 -- ── A refusal ──
 
-pub returns-then-not-away_in_range : goal.returns-then-not-away_in_range
-returns-then-not-away_in_range c time held =
+module _ (c : Then-not-away_in_range) where
+  refused : (time : ℕ) (b : Book) → body_answer c.args.number time (body.Quote c.args.away) b ≡ refused_with 9 b
+  refused time b =
+      let a = c.args in
+      quote_refused a.number time a.away b (tested a.away false c.away_in_range.ensures c.away_in_range-2.ensures c.if-not-away_in_range.true)
+
+pub returns-then-not-away_in_range-clause-sides : goal.returns-then-not-away_in_range-clause-sides
+returns-then-not-away_in_range-clause-sides c time held =
     let a = c.args in
     let b : Book = record { held = held; buys = a.buys.now; sells = a.sells.now } in
-    let out_of_range = tested a.away false c.away_in_range.ensures c.away_in_range-2.ensures c.if-not-away_in_range.true in
-    left_refused OutOfRange b a.out.now (body_answer a.number time (body.Quote a.away) b) (quote_refused a.number time a.away b out_of_range)
+    left_refused OutOfRange b a.out.now (body_answer a.number time (body.Quote a.away) b)
+    (refused (goal.at.returns-then-not-away_in_range-clause-sides c).Then-not-away_in_range time b)
+
+pub returns-then-not-away_in_range-clause-header : goal.returns-then-not-away_in_range-clause-header
+returns-then-not-away_in_range-clause-header c =
+    let a = c.args in
+    let b : Book = record { held = a.held.now; buys = a.buys.now; sells = a.sells.now } in
+    sym (ap (λ (x : Answer). x.book.held) (refused (goal.at.returns-then-not-away_in_range-clause-header c).Then-not-away_in_range a.time b))
 
 -- ── The buys ──
 
@@ -114,13 +129,12 @@ overflow_add-result c =
     let long = ap (λ (m : Settling). m.length) c.move_side-sold.ensures.value in
     record { fits = omega (arith, bought_long at.After-move_side-bought, long, bought, sold) }
 
-pub returns : goal.returns
-returns c time held =
-    let at = goal.at.returns c in
+pub returns-clause-sides : goal.returns-clause-sides
+returns-clause-sides c time held =
+    let at = goal.at.returns-clause-sides c in
     let here = at.After-move_side-bought in
     let a = c.args in
     let b : Book = record { held = held; buys = a.buys.now; sells = a.sells.now } in
-    let accepted = tested a.away true c.away_in_range.ensures c.away_in_range-2.ensures c.if-not-away_in_range.false in
     let bought = c.move_side-bought in
     let sold = c.move_side-sold in
     let len = bought.result.length + sold.result.length in
@@ -134,5 +148,12 @@ returns c time held =
     let written =
     lines_behind lines more bought.result.length bought.new.out a.out.now sold.new.out (bought_long here) bought.ensures.out_after sold.ensures.out_after in
     left_done (quoted a.number time a.away b) len bought.new.t sold.new.t _ a.out.now
-    (body_answer a.number time (body.Quote a.away) b) (quote_done a.number time a.away b accepted) long
+    (body_answer a.number time (body.Quote a.away) b) (quote_done a.number time a.away b (accepted at.Else-not-away_in_range)) long
     bought.ensures.side_after sells written
+
+pub returns-clause-header : goal.returns-clause-header
+returns-clause-header c =
+    let a = c.args in
+    let b : Book = record { held = a.held.now; buys = a.buys.now; sells = a.sells.now } in
+    let done = quote_done a.number a.time a.away b (accepted (goal.at.returns-clause-header c).Else-not-away_in_range) in
+    rw c.accepted.ensures (sym (ap (λ (x : Answer). x.book.held) done))

@@ -1,7 +1,7 @@
 -- The two kinds of answer: a refusal leaves all as it was, and an accepted command does what 01 says. Assumes nothing.
 use Prim.Native.Nat.{ℕ, ◌<◌}
 use mathlib.Core.List.{List, []}
-use mathlib.Core.Path.{◌≡◌, refl, sym, ◌∙◌}
+use mathlib.Core.Path.{◌≡◌, refl, sym, ap, ◌∙◌}
 use lib.ListN.{length}
 use native.Mathlib.Omega.{arith}
 use borrow.Author.Tests.{ne_eqb}
@@ -15,11 +15,13 @@ use Rattle.rules.specs.declared.Refusal.TheVariants.{NoRoom, UnsoundBook, NoComm
 use Rattle.rules.specs.declared.Resting.{Resting}
 use Rattle.rules.specs.Book.{Book}
 use Rattle.rules.specs.EventLines.{event_lines}
-use Rattle.rules.specs.Refusals.{first_of, body_refusals}
-use Rattle.rules.specs.Refusing.{number_of, refusal_numbered}
+use Rattle.rules.specs.Refusals.{first_of, last_refusal, body_refusals}
+use Rattle.rules.specs.Refusing.{number_of, refusal_numbered, or_refused}
 use Rattle.rules.specs.Step.{Answer, answer, done_by}
 use Rattle.rules.specs.Commands.{does}
 use Rattle.rules.specs.Settling.{Done}
+use Rattle.rules.proofs.LawsRefusals.{first_numbered, body_numbered}
+use Rattle.rules.proofs.LawsRefusing.{passed_zero, refused_above}
 use Rattle.side.specs.Answers.{body_answer, Left}
 
 abbrev pub refused_with : ℕ → Book → Answer
@@ -38,6 +40,24 @@ module _ (n : Number) (time : ℕ) (body : Body) (b : Book) where
   pub body_done : first_of (body_refusals b body) ≡ 0 → body_answer n time body b ≡ done_with (does n time body b)
   unfolding body_answer answer done_by
   body_done e = rw e
+
+  -- what the answer leaves of the header, by what is returned: an accepted command what it does to it, a refused one all
+  refusal_is : (body_answer n time body b).refusal ≡ first_of (body_refusals b body)
+  unfolding body_answer answer
+  refusal_is = refl
+
+  pub header_done : {A : Type 0} (a len : A) → Ok len ≡ or_refused a (body_answer n time body b).refusal
+      → (body_answer n time body b).book.held ≡ (does n time body b).book.held
+  header_done a len e =
+      let most = first_numbered last_refusal (body_refusals b body) (body_numbered b body) in
+      let zero = passed_zero a len (first_of (body_refusals b body)) most (sym (rw refusal_is at e)) in
+      ap (λ (x : Answer). x.book.held) (body_done zero)
+
+  pub header_kept : {A : Type 0} (a : A) (e : Refusal) → Err e ≡ or_refused a (body_answer n time body b).refusal
+      → (body_answer n time body b).book.held ≡ b.held
+  header_kept a e is =
+      let above = refused_above a (first_of (body_refusals b body)) e (sym (rw refusal_is at is)) in
+      ap (λ (x : Answer). x.book.held) (body_refused (first_of (body_refusals b body)) above refl)
 
 -- ── What a command leaves ──
 

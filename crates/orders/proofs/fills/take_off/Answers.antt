@@ -5,7 +5,6 @@ use lib.ListN.{length, get_or, take}
 use lib.Seq.{take_all}
 use native.Mathlib.Omega.{arith}
 use Rattle.basics.proofs.LawsLists.{all_alike, all_at}
-use Rattle.side.specs.Shifts.{keepers}
 use Rattle.orders.specs.declared.takings.Taking.{Taking}
 use Rattle.orders.specs.Fills.{lessened}
 use Rattle.orders.proofs.fills.LawsTakenOff.{length_lessened, lessened_none, lessened_next, keep_behind}

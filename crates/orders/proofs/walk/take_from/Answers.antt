@@ -1,6 +1,6 @@
 -- `orders::walk::take_from` meets its contract. Assumes nothing.
 use mathlib.Core.List.{append-nil}
-use mathlib.Core.Path.{◌≡◌, sym, ap, ◌∙◌}
+use mathlib.Core.Path.{◌≡◌, ap}
 use Rattle.kinds.specs.declared.Shares.{Shares}
 use Rattle.orders.specs.Walk.{part_gives}
 use Rattle.orders.proofs.walk.LawsTaken.{taking_none, taking_one}
