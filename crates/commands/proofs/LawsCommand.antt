@@ -1,5 +1,6 @@
--- A command is judged by its header, and then by its body alone; and what its body leaves of the two sides is what the command leaves of the
--- book, with its number and its time in the header, or with what its body leaves of the header too. Assumes nothing.
+-- A command is judged by its header, and then by its body alone; and what its body leaves of the header and the two sides is what the command
+-- leaves of the book. So is what it leaves of the sides at any time, with the header that an accepted command leaves or, where the body is
+-- refused, as it was. Assumes nothing.
 use Prim.Native.Nat.{ℕ, ◌≤◌, ◌<◌}
 use mathlib.Core.Bool.{true}
 use mathlib.Core.List.{List, [], ◌++◌}
@@ -26,10 +27,10 @@ use Rattle.rules.specs.Refusals.{first_of, last_refusal, header_refusals, body_r
 use Rattle.rules.specs.Refusing.{or_refused}
 use Rattle.rules.specs.Step.{Answer, answer}
 use Rattle.rules.proofs.LawsCommands.{order_does, cancel_does, quote_does, close_does}
-use Rattle.rules.proofs.LawsRefusals.{none_given, first_given, first_passed, first_numbered, header_numbered, body_numbered}
+use Rattle.rules.proofs.LawsRefusals.{none_given, first_given, first_passed, first_numbered, header_numbered}
 use Rattle.rules.proofs.LawsRefusing.{refused_alike, passed_zero, refused_above}
 use Rattle.side.specs.Answers.{Left, answer_of, body_answer}
-use Rattle.side.proofs.tables.LawsAnswers.{refused_with, body_refused, body_done}
+use Rattle.side.proofs.tables.LawsAnswers.{refused_with, body_refused, body_done, not_refused, is_refused}
 use Rattle.soundness.proofs.LawsKept.{answer_kept}
 use Rattle.commands.specs.Sides.{held_after}
 
@@ -95,78 +96,6 @@ module _ (c : Command) (b : Book) where
 
 -- ── The body ──
 
-module _ (n : Number) (time time' : ℕ) (b : Book) where
-  -- neither the sides nor the events depend on the time
-  does_alike : (by : Body)
-      → let d = does n time by b in
-      let d' = does n time' by b in
-      (d.book.buys ≡ d'.book.buys) × (d.book.sells ≡ d'.book.sells) × (d.events ≡ d'.events)
-  does_alike (body.Order o) =
-      let p = order_does n time b o in
-      let q = order_does n time' b o in
-      (rw (p.0, q.0) refl, rw (p.0, q.0) refl, rw (p.1, q.1) refl)
-  does_alike (body.Cancel of) =
-      let p = cancel_does n time b of in
-      let q = cancel_does n time' b of in
-      (rw (p.0, q.0) refl, rw (p.0, q.0) refl, rw (p.1, q.1) refl)
-  does_alike (body.Quote away) =
-      let p = quote_does n time b away in
-      let q = quote_does n time' b away in
-      (rw (p.0, q.0) refl, rw (p.0, q.0) refl, rw (p.1, q.1) refl)
-  does_alike body.Close =
-      let p = close_does n time b in
-      let q = close_does n time' b in
-      (rw (p.0, q.0) refl, rw (p.0, q.0) refl, rw (p.1, q.1) refl)
-
-  does_held : (by : Body) → (does n time by b).book.held ≡ held_after by (with_accepted n time b.held)
-  does_held (body.Order o) = rw (order_does n time b o).0 refl
-  does_held (body.Cancel of) = rw (cancel_does n time b of).0 refl
-  does_held (body.Quote away) = rw (quote_does n time b away).0 refl
-  does_held body.Close = rw (close_does n time b).0 refl
-
-module _ (c : Command) (b : Book) (passes : IsJudged c b (Ok (tt {0}))) (time : ℕ) where
-  abbrev judged : ℕ
-  judged = first_of (body_refusals b c.body)
-
-  judged_is : (body_answer c.number time c.body b).refusal ≡ judged
-  unfolding body_answer answer
-  judged_is = refl
-
-  -- an accepted command
-  pub left_accepted : (len : ℕ) (buys sells : List Resting) (out' out : List ℕ) → Left (Ok len) buys sells out' out (body_answer c.number time c.body b)
-      → Leaves (Ok len) (record { held = held_after c.body (with_accepted c.number c.time b.held); buys = buys; sells = sells }) out' out (answer_of c b)
-  left_accepted len buys sells out' out left =
-      let zero : judged ≡ 0 = passed_zero _ len judged (first_numbered last_refusal (body_refusals b c.body) (body_numbered b c.body)) (sym (left.0 ∙ ap (or_refused _) judged_is)) in
-      let was = body_done c.number time c.body b zero in
-      let is = by_body c b passes ∙ body_done c.number c.time c.body b zero in
-      let alike = does_alike c.number time c.time b c.body in
-      let held = does_held c.number c.time c.time b c.body in
-      let told : (body_answer c.number time c.body b).events ≡ (answer_of c b).events =
-      ap (λ (a : Answer). a.events) was ∙ alike.2 ∙ sym (ap (λ (a : Answer). a.events) is) in
-      record {
-        value = left.0 ∙ rw (told, ap (λ (a : Answer). a.refusal) was, ap (λ (a : Answer). a.refusal) is) refl;
-        book_after =
-            rw (left.1, left.2, ap (λ (a : Answer). a.book) was, alike.0, alike.1, sym held)
-            (sym (ap (λ (a : Answer). a.book) is));
-        out_after = left.3 ∙ ap (λ (es : _). onto (event_lines es) out) told;
-      }
-
-  -- a refused one
-  pub left_refused_by_body : (e : Refusal) (buys sells : List Resting) (out' out : List ℕ) → Left (Err e) buys sells out' out (body_answer c.number time c.body b)
-      → Leaves (Err e) (record { held = b.held; buys = buys; sells = sells }) out' out (answer_of c b)
-  left_refused_by_body e buys sells out' out left =
-      let above : 0 < judged = refused_above _ judged e (sym (left.0 ∙ ap (or_refused _) judged_is)) in
-      let was = body_refused c.number time c.body b judged above refl in
-      let is = by_body c b passes ∙ body_refused c.number c.time c.body b judged above refl in
-      let same : body_answer c.number time c.body b ≡ answer_of c b = was ∙ sym is in
-      record {
-        value = left.0 ∙ ap (λ (a : Answer). or_refused (length (event_lines a.events)) a.refusal) same;
-        book_after = rw (left.1, left.2, ap (λ (a : Answer). a.book) was) (sym (ap (λ (a : Answer). a.book) is));
-        out_after = left.3 ∙ ap (λ (a : Answer). onto (event_lines a.events) out) same;
-      }
-
--- ── The header too ──
-
 module _ (c : Command) (b : Book) (passes : IsJudged c b (Ok (tt {0}))) where
   -- what the body leaves of the header, both sides and the output is what the command does
   pub left_by_body : (r : Result ℕ Refusal) (held : Held) (buys sells : List Resting) (out' out : List ℕ)
@@ -174,3 +103,58 @@ module _ (c : Command) (b : Book) (passes : IsJudged c b (Ok (tt {0}))) where
       → Leaves r (record { held = held; buys = buys; sells = sells }) out' out (answer_of c b)
   left_by_body r held buys sells out' out left header =
       rw (by_body c b passes) (record { value = left.0; book_after = rw (header, left.1, left.2) refl; out_after = left.3 })
+
+-- ── The body, at any time ──
+
+module _ (n : Number) (time : ℕ) (b : Book) where
+  -- neither the sides nor the events depend on the time
+  does_alike : (time' : ℕ) (by : Body)
+      → let d = does n time by b in
+      let d' = does n time' by b in
+      (d.book.buys ≡ d'.book.buys) × (d.book.sells ≡ d'.book.sells) × (d.events ≡ d'.events)
+  does_alike time' (body.Order o) =
+      let p = order_does n time b o in
+      let q = order_does n time' b o in
+      (rw (p.0, q.0) refl, rw (p.0, q.0) refl, rw (p.1, q.1) refl)
+  does_alike time' (body.Cancel of) =
+      let p = cancel_does n time b of in
+      let q = cancel_does n time' b of in
+      (rw (p.0, q.0) refl, rw (p.0, q.0) refl, rw (p.1, q.1) refl)
+  does_alike time' (body.Quote away) =
+      let p = quote_does n time b away in
+      let q = quote_does n time' b away in
+      (rw (p.0, q.0) refl, rw (p.0, q.0) refl, rw (p.1, q.1) refl)
+  does_alike time' body.Close =
+      let p = close_does n time b in
+      let q = close_does n time' b in
+      (rw (p.0, q.0) refl, rw (p.0, q.0) refl, rw (p.1, q.1) refl)
+
+  -- in the header an accepted command leaves its number, its time and what its body changes
+  pub does_held : (by : Body) → (does n time by b).book.held ≡ held_after by (with_accepted n time b.held)
+  does_held (body.Order o) = rw (order_does n time b o).0 refl
+  does_held (body.Cancel of) = rw (cancel_does n time b of).0 refl
+  does_held (body.Quote away) = rw (quote_does n time b away).0 refl
+  does_held body.Close = rw (close_does n time b).0 refl
+
+module _ (c : Command) (b : Book) (passes : IsJudged c b (Ok (tt {0}))) (time : ℕ) where
+  -- an accepted command
+  pub left_accepted : (len : ℕ) (buys sells : List Resting) (out' out : List ℕ) → Left (Ok len) buys sells out' out (body_answer c.number time c.body b)
+      → Leaves (Ok len) (record { held = held_after c.body (with_accepted c.number c.time b.held); buys = buys; sells = sells }) out' out (answer_of c b)
+  left_accepted len buys sells out' out left =
+      let zero = not_refused c.number time c.body b _ len left.0 in
+      let was = body_done c.number time c.body b zero in
+      let is = body_done c.number c.time c.body b zero in
+      let alike = does_alike c.number time b c.time c.body in
+      let there = rw was at left in
+      left_by_body c b passes (Ok len) _ buys sells out' out
+      (rw is (there.0 ∙ rw alike.2 refl, there.1 ∙ alike.0, there.2 ∙ alike.1, there.3 ∙ rw alike.2 refl))
+      (rw is (sym (does_held c.number c.time b c.body)))
+
+  -- a refused one
+  pub left_refused_by_body : (e : Refusal) (buys sells : List Resting) (out' out : List ℕ) → Left (Err e) buys sells out' out (body_answer c.number time c.body b)
+      → Leaves (Err e) (record { held = b.held; buys = buys; sells = sells }) out' out (answer_of c b)
+  left_refused_by_body e buys sells out' out left =
+      let above = is_refused c.number time c.body b _ e left.0 in
+      let was = body_refused c.number time c.body b _ above refl in
+      let is = body_refused c.number c.time c.body b _ above refl in
+      left_by_body c b passes (Err e) b.held buys sells out' out (rw is (rw was at left)) (sym (ap (λ (a : Answer). a.book.held) is))

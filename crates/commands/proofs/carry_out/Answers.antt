@@ -1,10 +1,10 @@
 -- `commands::carry_out` meets its contract: a cancel that is not refused leaves its number and its time in the header, and a close these with
 -- a closed book. Assumes nothing.
-use mathlib.Core.Path.{refl, sym, ◌∙◌}
+use mathlib.Core.Path.{sym, ◌∙◌}
 use Rattle.rules.specs.declared.Body.TheVariants as body
 use Rattle.rules.specs.Book.{Book}
-use Rattle.rules.proofs.LawsCommands.{cancel_does, close_does}
 use Rattle.side.proofs.tables.LawsAnswers.{header_done, header_kept}
+use Rattle.commands.proofs.LawsCommand.{does_held}
 use Rattle.commands.proofs.carry_out.Goals as goal
 use Rattle.commands.proofs.carry_out.Goals.{Start}
 
@@ -30,7 +30,7 @@ returns-in_ok-length-in-Cancel-clause-header c =
     let b = book (goal.at.returns-in_ok-length-in-Cancel-clause-header c).Start in
     let told = sym c.in_ok-length-in-Cancel.was ∙ (c.cancel.ensures n time b.held).0 in
     let done = header_done n time (body.Cancel of) b _ c.in_ok-length-in-Cancel.length told in
-    rw c.in-Cancel.is (c.accepted.ensures ∙ sym (done ∙ rw (cancel_does n time b of).0 refl))
+    rw c.in-Cancel.is (c.accepted.ensures ∙ sym (done ∙ does_held n time b (body.Cancel of)))
 
 -- ── A close ──
 
@@ -40,4 +40,4 @@ returns-in-Close-clause-header c =
     let time = c.args.c.time in
     let b = book (goal.at.returns-in-Close-clause-header c).Start in
     let done = header_done n time body.Close b _ c.close-length.result (c.close-length.ensures n time b.held).0 in
-    rw (c.in-Close.is, c.accepted-in-Close.ensures) (sym (done ∙ rw (close_does n time b).0 refl))
+    rw (c.in-Close.is, c.accepted-in-Close.ensures) (sym (done ∙ does_held n time b body.Close))

@@ -41,23 +41,28 @@ module _ (n : Number) (time : ℕ) (body : Body) (b : Book) where
   unfolding body_answer answer done_by
   body_done e = rw e
 
-  -- what the answer leaves of the header, by what is returned: an accepted command what it does to it, a refused one all
+  -- the refusal of an answer is the first of its body's, whatever the time is
   refusal_is : (body_answer n time body b).refusal ≡ first_of (body_refusals b body)
   unfolding body_answer answer
   refusal_is = refl
 
+  -- so what is returned tells whether the body is refused
+  pub not_refused : {A : Type 0} (a len : A) → Ok len ≡ or_refused a (body_answer n time body b).refusal → first_of (body_refusals b body) ≡ 0
+  not_refused a len e =
+      let most = first_numbered last_refusal (body_refusals b body) (body_numbered b body) in
+      passed_zero a len (first_of (body_refusals b body)) most (sym (rw refusal_is at e))
+
+  pub is_refused : {A : Type 0} (a : A) (e : Refusal) → Err e ≡ or_refused a (body_answer n time body b).refusal → 0 < first_of (body_refusals b body)
+  is_refused a e is = refused_above a (first_of (body_refusals b body)) e (sym (rw refusal_is at is))
+
+  -- what the answer leaves of the header: an accepted command what it does to it, a refused one all
   pub header_done : {A : Type 0} (a len : A) → Ok len ≡ or_refused a (body_answer n time body b).refusal
       → (body_answer n time body b).book.held ≡ (does n time body b).book.held
-  header_done a len e =
-      let most = first_numbered last_refusal (body_refusals b body) (body_numbered b body) in
-      let zero = passed_zero a len (first_of (body_refusals b body)) most (sym (rw refusal_is at e)) in
-      ap (λ (x : Answer). x.book.held) (body_done zero)
+  header_done a len e = ap (λ (x : Answer). x.book.held) (body_done (not_refused a len e))
 
   pub header_kept : {A : Type 0} (a : A) (e : Refusal) → Err e ≡ or_refused a (body_answer n time body b).refusal
       → (body_answer n time body b).book.held ≡ b.held
-  header_kept a e is =
-      let above = refused_above a (first_of (body_refusals b body)) e (sym (rw refusal_is at is)) in
-      ap (λ (x : Answer). x.book.held) (body_refused (first_of (body_refusals b body)) above refl)
+  header_kept a e is = ap (λ (x : Answer). x.book.held) (body_refused (first_of (body_refusals b body)) (is_refused a e is) refl)
 
 -- ── What a command leaves ──
 
